@@ -1,0 +1,4 @@
+pub mod Device
+pub mod Fuse
+pub mod Image
+pub mod Sizes

@@ -1,0 +1,11 @@
+-- Which sizes a volume may have.
+use Rattle.std.specs.Prelude.{ℕ, Bool, ◌&&◌, nat_le, ◌==◌, [], ◌∷◌}
+use Rattle.std.specs.List.{list_any}
+
+-- a sector is so many bytes long
+abbrev pub is_sector_size : ℕ → Bool
+is_sector_size z = list_any (λ y. y == z) (1024 ∷ 2048 ∷ 4096 ∷ 8192 ∷ 16384 ∷ [])
+
+-- a volume has so many sectors, each so long
+abbrev pub is_geometry : ℕ → ℕ → Bool
+is_geometry sectors sector_size = nat_le 6 sectors && nat_le sectors 64 && is_sector_size sector_size

@@ -1,0 +1,248 @@
+//! Flash that fails from a chosen call on.
+
+ghost use Rattle.std.specs.Prelude.{◌≡◌, ◌+◌, ◌*◌, ◌<◌, ◌≤◌, ◌↔◌, ◌&&◌, length, MatchResult, OnOk, OnErr, IfErr, IsErr, IsTrue};
+ghost use Rattle.jffs_flash.specs.Image.{window, programmed, IsHalfProgrammed, erased, IsHalfErased};
+ghost use Rattle.jffs_flash.specs.Fuse.{is_blown, fuses_reads, after_pass, after_read, after_fault, program_left, erase_left, read_left, fuse_of};
+
+use crate::flash::{Flash, FlashFault};
+use crate::memory::MemoryFlash;
+use std::marker::Model;
+
+/// Which calls are counted, and fail once none is left.
+#[derive(Clone, Copy, Debug, PartialEq, Eq)]
+pub enum Fused {
+    /// `program` and `erase`.
+    Writes,
+
+    /// `program`, `erase` and `read`.
+    All,
+}
+
+/// What a call does that fails.
+#[derive(Clone, Copy, Debug, PartialEq, Eq)]
+pub enum Fail {
+    /// It changes nothing.
+    Nothing,
+
+    /// It does the first half of its range, rounded down.
+    Half,
+}
+
+/// Flash in memory that passes so many fused calls and then fails each.
+#[derive(Drop)]
+pub struct FuseFlash {
+    inner: MemoryFlash,
+    calls_left: u64,
+    fused: Fused,
+    fail: Fail,
+    faults: u64,
+}
+
+impl Model for FuseFlash {
+    ghost use Rattle.jffs_flash.specs.Fuse.{Fuse};
+
+    ghost Value = { Fuse };
+
+    ghost view = { λ f. record { device = f.inner; calls_left = f.calls_left; fused = f.fused; fail = f.fail; faults = f.faults } };
+}
+
+impl FuseFlash {
+    /// A fuse over `inner` that passes `calls` fused calls and then fails each.
+    ///
+    /// None fails any more once [`faults`](Flash::faults) has its last value.
+    pub fn new(inner: MemoryFlash, calls: u64, fused: Fused, fail: Fail) -> FuseFlash
+        ensures { result ≡ fuse_of inner calls fused fail }
+    {
+        FuseFlash {
+            inner,
+            calls_left: calls,
+            fused,
+            fail,
+            faults: 0,
+        }
+    }
+
+    /// The flash inside, with the bytes that the calls left.
+    pub fn into_inner(self) -> MemoryFlash
+        ensures { result ≡ self.device }
+    {
+        self.inner
+    }
+
+    /// Whether a fused call fails now.
+    fn is_blown(&self) -> bool
+        ensures { IsTrue result ↔ IsTrue (is_blown self.now) }
+    {
+        self.calls_left == 0 && self.faults < u64::MAX
+    }
+
+    /// Counts a fused call that passed.
+    fn count_pass(&mut self)
+        ensures { self.new ≡ after_pass self.old self.old.device.image }
+    {
+        self.calls_left = self.calls_left.saturating_sub(1);
+    }
+
+    /// Counts a fused call that failed.
+    fn count_fault(&mut self)
+        requires { IsTrue (is_blown self.old) }
+        ensures { self.new ≡ after_fault self.old self.old.device.image }
+    {
+        self.faults += 1;
+    }
+
+    /// A read that fails.
+    fn fail_read(&mut self, at: u32, buffer: &mut [u8])
+        requires inside { at + length buffer.old ≤ length self.old.device.image }
+        requires blown { IsTrue (is_blown self.old) }
+        ensures fuse { self.new ≡ after_fault self.old self.old.device.image }
+        ensures left { buffer.new ≡ read_left self.old.fail at buffer.old self.old.device.image }
+    {
+        match self.fail {
+            Fail::Nothing => {}
+            Fail::Half => {
+                let half = buffer.len() / 2;
+                self.inner.copy_out(at, &mut buffer[..half]);
+            }
+        }
+        self.count_fault();
+    }
+
+    /// A program that fails.
+    fn fail_program(&mut self, at: u32, bytes: &[u8])
+        requires inside { at + length bytes.now ≤ length self.old.device.image }
+        requires blown { IsTrue (is_blown self.old) }
+        ensures { self.new ≡ after_fault self.old (program_left self.old.fail at bytes.now self.old.device.image) }
+    {
+        match self.fail {
+            Fail::Nothing => {}
+            Fail::Half => self.inner.clear_bits(at, &bytes[..bytes.len() / 2]),
+        }
+        self.count_fault();
+    }
+
+    /// An erase that fails.
+    fn fail_erase(&mut self, sector: u32)
+        requires inside { sector < self.old.device.sectors }
+        requires blown { IsTrue (is_blown self.old) }
+        ensures { self.new ≡ after_fault self.old
+            (erase_left self.old.fail self.old.device.sector_size sector self.old.device.image) }
+    {
+        match self.fail {
+            Fail::Nothing => {}
+            Fail::Half => {
+                let half = self.inner.sector_size() / 2;
+                self.inner.set_bits(sector, half);
+            }
+        }
+        self.count_fault();
+    }
+}
+
+impl Flash for FuseFlash {
+    ghost image = { λ f. f.device.image };
+
+    ghost sector_count = { λ f. f.device.sectors };
+
+    ghost sector_len = { λ f. f.device.sector_size };
+
+    ghost fault_count = { λ f. f.faults };
+
+    fn sectors(&self) -> u32 {
+        self.inner.sectors()
+    }
+
+    fn sector_size(&self) -> u32 {
+        self.inner.sector_size()
+    }
+
+    fn faults(&self) -> u64 {
+        self.faults
+    }
+
+    /// Fails exactly where reads are fused and the fuse is blown. The buffer then holds what the fuse's failure left.
+    fn read(&mut self, at: u32, buffer: &mut [u8]) -> Result<(), FlashFault>
+        requires { at + length buffer.old ≤ length self.old.device.image }
+        ensures fails { IsErr result ↔ IsTrue (fuses_reads self.old.fused && is_blown self.old) }
+        ensures passed { OnOk result (self.new ≡ after_read self.old.fused self.old) }
+        ensures failed { OnErr result (self.new ≡ after_fault self.old self.old.device.image) }
+        ensures left { OnErr result (buffer.new ≡ read_left self.old.fail at buffer.old self.old.device.image) }
+
+        // What each device promises.
+        ensures kept { self.new.device.image ≡ self.old.device.image }
+        ensures filled { OnOk result (buffer.new ≡ window at (length buffer.old) self.old.device.image) }
+        ensures sectors { self.new.device.sectors ≡ self.old.device.sectors }
+        ensures size { self.new.device.sector_size ≡ self.old.device.sector_size }
+        ensures faults { MatchResult result
+            (λ _. self.new.faults ≡ self.old.faults)
+            (λ _. self.old.faults < self.new.faults) }
+    {
+        if self.fused == Fused::Writes {
+            self.inner.copy_out(at, buffer);
+            return Ok(());
+        }
+        if self.is_blown() {
+            self.fail_read(at, buffer);
+            return Err(FlashFault);
+        }
+        self.inner.copy_out(at, buffer);
+        self.count_pass();
+        Ok(())
+    }
+
+    /// Fails exactly where the fuse is blown, and then leaves what the fuse's failure says.
+    fn program(&mut self, at: u32, bytes: &[u8]) -> Result<(), FlashFault>
+        requires { at + length bytes.now ≤ length self.old.device.image }
+        ensures fails { IsErr result ↔ IsTrue (is_blown self.old) }
+        ensures passed { OnOk result (self.new ≡ after_pass self.old (programmed at bytes.now self.old.device.image)) }
+        ensures failed { OnErr result
+            (self.new ≡ after_fault self.old (program_left self.old.fail at bytes.now self.old.device.image)) }
+
+        // What each device promises.
+        ensures done { OnOk result (self.new.device.image ≡ programmed at bytes.now self.old.device.image) }
+        ensures half { IfErr result (λ _. IsHalfProgrammed at bytes.now self.old.device.image self.new.device.image) }
+        ensures sectors { self.new.device.sectors ≡ self.old.device.sectors }
+        ensures size { self.new.device.sector_size ≡ self.old.device.sector_size }
+        ensures faults { MatchResult result
+            (λ _. self.new.faults ≡ self.old.faults)
+            (λ _. self.old.faults < self.new.faults) }
+    {
+        if self.is_blown() {
+            self.fail_program(at, bytes);
+            return Err(FlashFault);
+        }
+        self.inner.clear_bits(at, bytes);
+        self.count_pass();
+        Ok(())
+    }
+
+    /// Fails exactly where the fuse is blown, and then leaves what the fuse's failure says.
+    fn erase(&mut self, sector: u32) -> Result<(), FlashFault>
+        requires { sector < self.old.device.sectors }
+        ensures fails { IsErr result ↔ IsTrue (is_blown self.old) }
+        ensures passed { OnOk result
+            (self.new ≡ after_pass self.old (erased self.old.device.sector_size sector self.old.device.image)) }
+        ensures failed { OnErr result
+            (self.new ≡ after_fault self.old (erase_left self.old.fail self.old.device.sector_size sector self.old.device.image)) }
+
+        // What each device promises.
+        ensures done { OnOk result
+            (self.new.device.image ≡ erased self.old.device.sector_size sector self.old.device.image) }
+        ensures half { IfErr result (λ _.
+            IsHalfErased (sector * self.old.device.sector_size) self.old.device.sector_size self.old.device.image self.new.device.image) }
+        ensures sectors { self.new.device.sectors ≡ self.old.device.sectors }
+        ensures size { self.new.device.sector_size ≡ self.old.device.sector_size }
+        ensures faults { MatchResult result
+            (λ _. self.new.faults ≡ self.old.faults)
+            (λ _. self.old.faults < self.new.faults) }
+    {
+        let size = self.inner.sector_size();
+        if self.is_blown() {
+            self.fail_erase(sector);
+            return Err(FlashFault);
+        }
+        self.inner.set_bits(sector, size);
+        self.count_pass();
+        Ok(())
+    }
+}

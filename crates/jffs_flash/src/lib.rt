@@ -1,0 +1,18 @@
+//! NOR flash: programming turns bits from one to zero, an erase turns a whole sector to ones.
+//!
+//! The crate stands on nothing but std. Its promise is the contract of [`Flash`]: what the device's image, one list of
+//! bytes, holds after each call, whether the call passed or failed. [`MemoryFlash`] is a device in memory that never
+//! fails, [`FuseFlash`] one that fails from a chosen call on, and [`is_geometry`] says which sizes a volume may have.
+#![tactic(auto)]
+
+mod flash;
+mod fuse;
+mod memory;
+mod sizes;
+#[cfg(test)]
+mod tests;
+
+pub use flash::{ERASED_BYTE, Flash, FlashFault};
+pub use fuse::{Fail, FuseFlash, Fused};
+pub use memory::{FlashNew, MemoryFlash};
+pub use sizes::{MAX_SECTORS, MIN_SECTORS, SECTOR_SIZES, is_geometry};

@@ -1,0 +1,7 @@
+pub mod Emptying
+pub mod Making
+pub mod RingMaking
+pub mod Ringing
+pub mod Settling
+pub mod Steps
+pub mod Numbering

@@ -1,0 +1,6 @@
+use Rattle.std.proofs.Common.{ap}
+use Rattle.jffs_line.proofs.Steps.{takes, learns}
+use Rattle.jffs_line.proofs.shared.settling.drain.Goals as goal
+
+pub try_recv_as-requires-clause-rule : goal.try_recv_as-requires-clause-rule
+try_recv_as-requires-clause-rule g c = (takes _ _ (ap (λ v. v.takes) c.loop.invariant.known), learns _ _)

@@ -1,0 +1,54 @@
+-- What contracts see of the shared line's ends.
+use Rattle.std.specs.Prelude.{◌≡◌, ℕ, List, [], ◌∷◌, ◌++◌, length, map}
+use Rattle.crossbeam_channel.specs.Claims.{view}
+use Rattle.crossbeam_channel.specs.Ends.{sends_on, receives_on, ruled_capacity}
+use Rattle.crossbeam_channel.specs.declared.flavors.array.Rows.{Rows}
+use Rattle.crossbeam_channel.specs.declared.flavors.array.Key.{Key}
+use Rattle.atomic_table.specs.declared.badge.Badge.{Badge}
+use Rattle.jffs_line.specs.declared.request.Request.{Request}
+use Rattle.jffs_line.specs.declared.hand.Hands.{Hands}
+use Rattle.jffs_line.specs.declared.shared.SharedHand.{SharedHand}
+use Rattle.jffs_line.specs.declared.shared.SharedTaker.{SharedTaker}
+use Rattle.jffs_line.specs.Requests.{of}
+use Rattle.jffs_line.specs.InOrder.{Learned, accepted_of, sent_by}
+use Rattle.jffs_line.specs.declared.knows.Sent.{Sent}
+use Rattle.jffs_line.specs.Line.{Line, Shared, End, senders}
+
+-- a channel's name is that of its table, beside the one of its table of messages
+abbrev pub channel_line : {D Q M K L A : Type 0} → Rows (Badge (Key Request)) D Q M K L A → Line
+channel_line c = Shared c.stamps.shared.table_id c.stamps.shared.key
+
+abbrev pub shared_line : SharedHand → Line
+shared_line h = channel_line (sends_on h.sends)
+
+abbrev pub shared_end : SharedHand → End
+shared_end h = (h.number, shared_line h)
+
+abbrev pub shared_accepted : SharedHand → List Request
+shared_accepted h = accepted_of (view h.pass)
+
+abbrev pub shared_capacity : SharedHand → ℕ
+shared_capacity h = ruled_capacity (sends_on h.sends)
+
+-- at one moment the line held as many requests as it may, and all that was accepted of sender w was taken, or waited there
+abbrev pub WasFull : ℕ → ℕ → List Request → Type 0
+WasFull capacity w accepted =
+    (taken : List Request) × (waiting : List Request) × (length waiting ≡ capacity) × (accepted ≡ of w (taken ++ waiting))
+
+abbrev pub shared_ends : SharedTaker → List End
+shared_ends t = map (λ w. (w, channel_line (receives_on t.receives))) (senders t.writers)
+
+-- what a hand's sender handed in, beside the sender
+abbrev pub hand_sent : SharedHand → Sent
+hand_sent h = sent_by h.number (shared_accepted h)
+
+-- the writers' hands in order, the cleaner's and the control's
+abbrev pub all_hands : Hands SharedHand → List SharedHand
+all_hands hands = hands.writers.items ++ hands.cleaner ∷ hands.control.hand ∷ []
+
+abbrev pub shared_taken : SharedTaker → ℕ → List Request
+shared_taken t w = of w (view t.pass).taken
+
+-- at one moment the line held nothing
+abbrev pub WasEmpty : SharedTaker → Type 0
+WasEmpty t = Learned (view t.pass) []

@@ -1,0 +1,148 @@
+//! The two ends of a line: a hand hands in requests of one sender, and a taker takes them.
+ghost use Rattle.std.specs.Prelude.{◌≡◌, ℕ, ◌+◌, ◌↔◌, List, [], ◌∷◌, ◌++◌, length, map, All, Contains, IfOk, IfErr, IsErrAnd, IfSome, IfNone};
+ghost use Rattle.jffs_line.specs.Line.{Line, End};
+ghost use Rattle.jffs_line.specs.Requests.{of, request, IsNumbered};
+ghost use Rattle.jffs_line.specs.declared.request.Request.{Request};
+ghost use Rattle.jffs_line.specs.declared.request.Why.TheVariants.{Spent};
+
+use crate::request::{NotTaken, Request, SettleFault, Settled, Why};
+use crossbeam_utils::Backoff;
+use jffs_tree::Wish;
+use std::alloc::Global;
+use std::sync::Wait;
+
+/// The cleaner's number.
+pub const CLEANER: u16 = 9;
+
+/// The control's number.
+pub const CONTROL: u16 = 10;
+
+pub(crate) const MOST_WRITERS: u16 = 8;
+
+pub(crate) const MOST_CAPACITY: usize = 256;
+
+/// A sender's end of a line.
+pub trait Hand: Drop {
+    /// The sender's number.
+    ghost sender: { Self → ℕ };
+
+    /// Where its requests go.
+    ghost line: { Self → Line };
+
+    /// The requests that were accepted, in order.
+    ghost accepted: { Self → List Request };
+
+    /// Hands in a wish, or gives it back. `Spent` where the sender's last number is used, and else `Full` where no place was found.
+    fn offer<R: Wait>(&mut self, rt: &R, wish: Wish) -> Result<u32, NotTaken>
+        ensures end { (sender self.new ≡ sender self.old) × (line self.new ≡ line self.old) }
+        ensures accepted { IfOk result (λ seq. (seq ≡ length (accepted self.old) + 1) × (accepted self.new ≡ accepted self.old ++ request (sender self.old) seq wish ∷ [])) }
+        ensures refused { IfErr result (λ e. (e.wish ≡ wish) × (accepted self.new ≡ accepted self.old)) }
+        ensures spent { IsErrAnd result (λ e. e.why ≡ Spent) ↔ (length (accepted self.old) ≡ u32.MAX) };
+
+    /// The accepted requests are numbered 1, 2, 3, ..
+    ghost numbered: { (hand : Self) → IsNumbered (accepted hand) };
+}
+
+/// The end of a line that takes.
+pub trait Taker: Drop {
+    /// The ends of the hands that belong to it.
+    ghost ends: { Self → List End };
+
+    /// The requests of a sender that were taken, in order.
+    ghost taken: { Self → ℕ → List Request };
+
+    /// Takes a request. `None` where no hand is left.
+    fn take<R: Wait>(&mut self, rt: &R) -> Option<Request>
+        ensures ends { ends self.new ≡ ends self.old }
+        ensures taken { IfSome result (λ r. (w : ℕ) → taken self.new w ≡ taken self.old w ++ of w (r ∷ [])) }
+        ensures none { IfNone result ((w : ℕ) → taken self.new w ≡ taken self.old w) };
+}
+
+/// The control's hand, which unmounts.
+#[derive(Drop)]
+pub struct Control<H: Hand> {
+    hand: H,
+}
+
+impl<H: Hand> Control<H> {
+    ghost use Rattle.std.specs.Prelude.{◌≡◌, ◌+◌, ◌↔◌, [], ◌∷◌, ◌++◌, length, IfOk, IfErr, IsErr};
+    ghost use Rattle.jffs_line.specs.Requests.{request};
+    ghost use Rattle.jffs_line.specs.declared.request.Why.TheVariants.{Spent};
+    ghost use Rattle.jffs_tree.specs.declared.wish.Wish.TheVariants.{Unmount};
+
+    pub fn new(hand: H) -> Control<H>
+        ensures { result.hand ≡ hand }
+    {
+        Control { hand }
+    }
+
+    pub fn into_hand(self) -> H
+        ensures { result ≡ self.hand }
+    {
+        let Control { hand } = self;
+        hand
+    }
+
+    /// Hands in an unmount, and waits for a place. Its one refusal is `Spent`.
+    pub fn unmount<R: Wait>(&mut self, rt: &R) -> Result<u32, NotTaken>
+        ensures end { (H.sender self.new.hand ≡ H.sender self.old.hand) × (H.line self.new.hand ≡ H.line self.old.hand) }
+        ensures accepted { IfOk result (λ seq. (seq ≡ length (H.accepted self.old.hand) + 1) × (H.accepted self.new.hand ≡ H.accepted self.old.hand ++ request (H.sender self.old.hand) seq Unmount ∷ [])) }
+        ensures refused { IfErr result (λ e. (e.wish ≡ Unmount) × (e.why ≡ Spent) × (H.accepted self.new.hand ≡ H.accepted self.old.hand)) }
+        ensures spent { IsErr result ↔ (length (H.accepted self.old.hand) ≡ u32.MAX) }
+    {
+        let backoff = Backoff::new();
+        for _ in rt.forever() {
+            match self.hand.offer(rt, Wish::Unmount) {
+                Err(NotTaken { why: Why::Full, .. }) => backoff.snooze(),
+                reply => return reply,
+            }
+        }
+        unreachable!()
+    }
+}
+
+impl<H: Hand> Hand for Control<H> {
+    ghost sender = { λ c. H.sender c.hand };
+
+    ghost line = { λ c. H.line c.hand };
+
+    ghost accepted = { λ c. H.accepted c.hand };
+
+    ghost numbered = { λ c. H.numbered c.hand };
+
+    fn offer<R: Wait>(&mut self, rt: &R, wish: Wish) -> Result<u32, NotTaken> {
+        self.hand.offer(rt, wish)
+    }
+}
+
+/// All hands of a line.
+#[derive(Drop)]
+pub struct Hands<H: Hand> {
+    pub writers: Vec<H>,
+    pub cleaner: H,
+    pub control: Control<H>,
+}
+
+/// All ends of a line.
+#[derive(Drop)]
+pub struct Ends<H: Hand, T: Taker> {
+    pub hands: Hands<H>,
+    pub taker: T,
+}
+
+/// A taker that takes all ends of its line back, in one thread.
+pub trait Settle: Taker {
+    type Of: Hand;
+
+    /// For each sender, what was taken of it and then what waits is what was accepted. Memory is the one refusal, and the ends are then gone.
+    fn settle<R: Wait>(
+        self,
+        rt: &R,
+        alloc: Global,
+        hands: Hands<Self::Of>,
+    ) -> Result<Settled, SettleFault>
+        requires { Self.ends self ≡ map (λ h. (Self.Of.sender h, Self.Of.line h)) (hands.writers.items ++ hands.cleaner ∷ hands.control.hand ∷ []) }
+        ensures settled { IfOk result (λ s. All (λ h. Self.taken self (Self.Of.sender h) ++ of (Self.Of.sender h) s.waiting.items ≡ Self.Of.accepted h) (hands.writers.items ++ hands.cleaner ∷ hands.control.hand ∷ [])) }
+        ensures numbered { IfOk result (λ _. All (λ h. IsNumbered (Self.Of.accepted h)) (hands.writers.items ++ hands.cleaner ∷ hands.control.hand ∷ [])) }
+        ensures others { IfOk result (λ s. (w : ℕ) → ¬ (Contains (map Self.Of.sender (hands.writers.items ++ hands.cleaner ∷ hands.control.hand ∷ [])) w) → Self.taken self w ++ of w s.waiting.items ≡ []) };
+}

@@ -1,0 +1,21 @@
+//! The line between the senders of requests and the log: one shared queue, or a ring for each sender.
+//!
+//! Both forms have the same traits, with the same words: a [`hand::Hand`] hands in the wishes of one sender, a
+//! [`hand::Taker`] takes requests, and [`hand::Settle`] takes all ends back and gives what nobody took. `settle`
+//! carries the line's promise: of each sender, what was taken and then what waits is what it accepted, numbered
+//! 1, 2, 3, .. The shared form stands on `crossbeam_channel`, with a pass for each sender and one for the taker,
+//! the other on a ring of `rtrb` for each sender.
+#![tactic(auto)]
+
+pub mod hand;
+pub mod knows;
+pub mod request;
+pub mod rings;
+pub mod shared;
+#[cfg(test)]
+mod tests;
+
+pub use hand::{CLEANER, CONTROL, Control, Ends, Hand, Hands, Settle, Taker};
+pub use request::{LineFault, NotTaken, Request, SettleFault, Settled, Why};
+pub use rings::{RingHand, RingLine, RingTaker, ring_line};
+pub use shared::{SharedHand, SharedLine, SharedTaker, shared_line};

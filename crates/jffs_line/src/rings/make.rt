@@ -1,0 +1,111 @@
+//! The making of a ring for each sender.
+ghost use Rattle.std.specs.Prelude.{◌≡◌, ℕ, ◌+◌, ◌<◌, ◌≤◌, ◌⊎◌, ◌↔◌, [], ◌∷◌, ◌++◌, map, All, IfOk, OnOk, IsErrAnd};
+ghost use Rattle.std.specs.List.{range_with_len};
+ghost use Rattle.jffs_line.specs.Line.{senders};
+ghost use Rattle.jffs_line.specs.Rings.{ring_end, ring_hand_end, ring_accepted, ring_capacity, ring_taken, rings_ends, rings_taken, all_ring_hands};
+ghost use Rattle.jffs_line.specs.declared.request.LineFault.TheVariants.{Capacity, Senders};
+
+use super::{Ring, RingHand, RingLine, RingTaker};
+use crate::hand::{CLEANER, CONTROL, Control, Ends, Hands, MOST_CAPACITY, MOST_WRITERS};
+use crate::request::LineFault;
+use rtrb::RingBuffer;
+use std::alloc::{AllocError, Global};
+
+// Both ends of a sender's ring.
+fn ring(alloc: Global, capacity: usize, number: u16) -> Result<(RingHand, Ring), AllocError>
+    ensures ends { IfOk result (λ r. (ring_hand_end r.0 ≡ ring_end r.1) × (r.0.number ≡ number)) }
+    ensures fresh { IfOk result (λ r. (ring_accepted r.0 ≡ []) × (ring_capacity r.0 ≡ capacity) × (ring_taken r.1 ≡ [])) }
+{
+    let (producer, consumer) = RingBuffer::new(alloc, capacity)?;
+    let hand = RingHand {
+        producer,
+        number,
+        last: 0,
+    };
+    Ok((hand, Ring { consumer, number }))
+}
+
+// Makes a sender's ring, and puts its ends behind the others.
+fn add(
+    alloc: Global,
+    capacity: usize,
+    number: u16,
+    hands: &mut Vec<RingHand>,
+    rings: &mut Vec<Ring>,
+) -> Result<(), AllocError>
+    requires ends { map ring_hand_end hands.old.items ≡ map ring_end rings.old.items }
+    requires fresh { All (λ h. (ring_accepted h ≡ []) × (ring_capacity h ≡ capacity)) hands.old.items }
+    requires taken { All (λ r. ring_taken r ≡ []) rings.old.items }
+    ensures ends { OnOk result (map ring_hand_end hands.new.items ≡ map ring_end rings.new.items) }
+    ensures numbers { OnOk result (map (λ r. r.number) rings.new.items ≡ map (λ r. r.number) rings.old.items ++ number ∷ []) }
+    ensures fresh { OnOk result (All (λ h. (ring_accepted h ≡ []) × (ring_capacity h ≡ capacity)) hands.new.items) }
+    ensures taken { OnOk result (All (λ r. ring_taken r ≡ []) rings.new.items) }
+{
+    let (hand, ring) = ring(alloc, capacity, number)?;
+    hands.push(hand)?;
+    rings.push(ring)?;
+    Ok(())
+}
+
+// The writers' rings, in order.
+fn writer_rings(
+    alloc: Global,
+    capacity: usize,
+    count: u16,
+) -> Result<(Vec<RingHand>, Vec<Ring>), AllocError>
+    requires few { count ≤ 8 }
+    ensures ends { IfOk result (λ r. map ring_hand_end r.0.items ≡ map ring_end r.1.items) }
+    ensures numbers { IfOk result (λ r. map (λ x. x.number) r.1.items ≡ range_with_len 1 count) }
+    ensures fresh { IfOk result (λ r. All (λ h. (ring_accepted h ≡ []) × (ring_capacity h ≡ capacity)) r.0.items) }
+    ensures taken { IfOk result (λ r. All (λ x. ring_taken x ≡ []) r.1.items) }
+{
+    let mut hands = Vec::new(alloc);
+    let mut rings = Vec::new(alloc);
+    for index in 0..count {
+        add(alloc, capacity, index + 1, &mut hands, &mut rings)?;
+    }
+    Ok((hands, rings))
+}
+
+fn line(alloc: Global, capacity: usize, writers: u16) -> Result<RingLine, AllocError>
+    requires few { writers ≤ 8 }
+    ensures ends { IfOk result (λ l. rings_ends l.taker ≡ map ring_hand_end (all_ring_hands l.hands)) }
+    ensures senders { IfOk result (λ l. map (λ h. h.number) (all_ring_hands l.hands) ≡ senders writers) }
+    ensures fresh { IfOk result (λ l. All (λ h. (ring_accepted h ≡ []) × (ring_capacity h ≡ capacity)) (all_ring_hands l.hands)) }
+    ensures taken { IfOk result (λ l. (w : ℕ) → rings_taken l.taker w ≡ []) }
+{
+    let (hands, mut rings) = writer_rings(alloc, capacity, writers)?;
+    let (cleaner, of_cleaner) = ring(alloc, capacity, CLEANER)?;
+    let (control, of_control) = ring(alloc, capacity, CONTROL)?;
+    rings.push(of_cleaner)?;
+    rings.push(of_control)?;
+    Ok(Ends {
+        hands: Hands {
+            writers: hands,
+            cleaner,
+            control: Control::new(control),
+        },
+        taker: RingTaker { rings, next: 0 },
+    })
+}
+
+/// A ring with room for `capacity` requests for each of that many writers, the cleaner and the control.
+pub fn ring_line(alloc: Global, capacity: usize, writers: u16) -> Result<RingLine, LineFault>
+    ensures capacity { IsErrAnd result (λ e. e ≡ Capacity) ↔ ((capacity ≡ 0) ⊎ (256 < capacity)) }
+    ensures writers { IsErrAnd result (λ e. e ≡ Senders) ↔ ((0 < capacity) × (capacity ≤ 256) × (8 < writers)) }
+    ensures ends { IfOk result (λ l. rings_ends l.taker ≡ map ring_hand_end (all_ring_hands l.hands)) }
+    ensures senders { IfOk result (λ l. map (λ h. h.number) (all_ring_hands l.hands) ≡ senders writers) }
+    ensures fresh { IfOk result (λ l. All (λ h. (ring_accepted h ≡ []) × (ring_capacity h ≡ capacity)) (all_ring_hands l.hands)) }
+    ensures taken { IfOk result (λ l. (w : ℕ) → rings_taken l.taker w ≡ []) }
+{
+    if capacity == 0 || capacity > MOST_CAPACITY {
+        return Err(LineFault::Capacity);
+    }
+    if writers > MOST_WRITERS {
+        return Err(LineFault::Senders);
+    }
+    match line(alloc, capacity, writers) {
+        Ok(line) => Ok(line),
+        Err(_) => Err(LineFault::Memory),
+    }
+}

@@ -1,0 +1,121 @@
+//! The making of a shared line: the first pass speaks for all senders, and each hand gets its own from it.
+ghost use Rattle.std.specs.Prelude.{◌≡◌, ◌≢◌, ℕ, ◌+◌, ◌-◌, ◌<◌, ◌≤◌, ◌⊎◌, ◌↔◌, [], ◌∷◌, ◌++◌, true, map, drop, All, OnOk, IfOk, IsErrAnd};
+ghost use Rattle.std.specs.List.{range_with_len};
+ghost use Rattle.crossbeam_channel.specs.Claims.{view, IsSeatAt};
+ghost use Rattle.crossbeam_channel.specs.Ends.{sends_on, receives_on, ruled_capacity};
+ghost use Rattle.jffs_line.specs.InOrder.{knows, sent_by, silent, without_first};
+ghost use Rattle.jffs_line.specs.Line.{senders};
+ghost use Rattle.jffs_line.specs.Shared.{channel_line, shared_end, shared_accepted, shared_capacity, shared_ends, shared_taken, all_hands};
+ghost use Rattle.jffs_line.specs.declared.request.LineFault.TheVariants.{Capacity, Senders};
+
+use super::{Each, EachInOrder, Place, Receives, Sends, SharedHand, SharedLine, SharedTaker};
+use crate::hand::{CLEANER, CONTROL, Control, Ends, Hands, MOST_CAPACITY, MOST_WRITERS};
+use crate::knows::Knows;
+use crate::request::{LineFault, Request};
+use crossbeam_channel::bounded_with;
+use std::alloc::{AllocError, Global};
+
+// The hand of the first sender that the pass speaks for.
+fn first_hand(
+    sends: &Sends,
+    receives: &Receives,
+    pass: &mut Place,
+    number: u16,
+) -> Result<SharedHand, AllocError>
+    requires seat { IsSeatAt (sends_on sends.now) pass.old }
+    requires first { view pass.old ≡ knows (view pass.old).takes (view pass.old).taken (sent_by number [] ∷ drop 1 (view pass.old).sent) }
+    requires apart { All (λ s. s.sender ≢ number) (drop 1 (view pass.old).sent) }
+    requires number { (0 < number) × (number ≤ 10) }
+    ensures seat { IsSeatAt (sends_on sends.now) pass.new }
+    ensures rest { OnOk result (view pass.new ≡ without_first (view pass.old)) }
+    ensures hand { IfOk result (λ h. (shared_end h ≡ (number, channel_line (sends_on sends.now))) × (shared_accepted h ≡ []) × (shared_capacity h ≡ ruled_capacity (sends_on sends.now))) }
+{
+    let sends_too = sends.try_clone()?;
+    let open = receives.try_clone()?;
+    let own = sends.another::<Each>(pass);
+    Ok(SharedHand {
+        sends: sends_too,
+        open,
+        pass: own,
+        number,
+        last: 0,
+    })
+}
+
+// The writers' hands, in order.
+fn writer_hands(
+    alloc: Global,
+    sends: &Sends,
+    receives: &Receives,
+    pass: &mut Place,
+    count: u16,
+) -> Result<Vec<SharedHand>, AllocError>
+    requires seat { IsSeatAt (sends_on sends.now) pass.old }
+    requires all { view pass.old ≡ knows true [] (silent 1 8) }
+    requires few { count ≤ 8 }
+    ensures seat { IsSeatAt (sends_on sends.now) pass.new }
+    ensures rest { OnOk result (view pass.new ≡ knows true [] (silent (count + 1) (8 - count))) }
+    ensures ends { IfOk result (λ hands. map shared_end hands.items ≡ map (λ w. (w, channel_line (sends_on sends.now))) (range_with_len 1 count)) }
+    ensures fresh { IfOk result (λ hands. All (λ h. (shared_accepted h ≡ []) × (shared_capacity h ≡ ruled_capacity (sends_on sends.now))) hands.items) }
+{
+    let mut hands = Vec::new(alloc);
+    for index in 0..count {
+        let hand = first_hand(sends, receives, pass, index + 1)?;
+        hands.push(hand)?;
+    }
+    Ok(hands)
+}
+
+fn line(alloc: Global, capacity: usize, writers: u16) -> Result<SharedLine, AllocError>
+    requires capacity { 0 < capacity }
+    requires few { writers ≤ 8 }
+    ensures ends { IfOk result (λ l. shared_ends l.taker ≡ map shared_end (all_hands l.hands)) }
+    ensures senders { IfOk result (λ l. map (λ h. h.number) (all_hands l.hands) ≡ senders writers) }
+    ensures fresh { IfOk result (λ l. All (λ h. (shared_accepted h ≡ []) × (shared_capacity h ≡ capacity)) (all_hands l.hands)) }
+    ensures taken { IfOk result (λ l. (w : ℕ) → shared_taken l.taker w ≡ []) }
+{
+    let (sends, receives, mut pass) = bounded_with::<Request, Knows, EachInOrder, Global>(
+        alloc, capacity,
+    )?;
+    let cleaner = first_hand(&sends, &receives, &mut pass, CLEANER)?;
+    let control = first_hand(&sends, &receives, &mut pass, CONTROL)?;
+    let hands = writer_hands(alloc, &sends, &receives, &mut pass, writers)?;
+    Ok(Ends {
+        hands: Hands {
+            writers: hands,
+            cleaner,
+            control: Control::new(control),
+        },
+        taker: SharedTaker {
+            receives,
+            pass,
+            writers,
+        },
+    })
+}
+
+/// A shared line with room for `capacity` requests, with hands for that many writers, the cleaner and the control.
+pub fn shared_line<R>(
+    _rt: &R,
+    alloc: Global,
+    capacity: usize,
+    writers: u16,
+) -> Result<SharedLine, LineFault>
+    ensures capacity { IsErrAnd result (λ e. e ≡ Capacity) ↔ ((capacity ≡ 0) ⊎ (256 < capacity)) }
+    ensures writers { IsErrAnd result (λ e. e ≡ Senders) ↔ ((0 < capacity) × (capacity ≤ 256) × (8 < writers)) }
+    ensures ends { IfOk result (λ l. shared_ends l.taker ≡ map shared_end (all_hands l.hands)) }
+    ensures senders { IfOk result (λ l. map (λ h. h.number) (all_hands l.hands) ≡ senders writers) }
+    ensures fresh { IfOk result (λ l. All (λ h. (shared_accepted h ≡ []) × (shared_capacity h ≡ capacity)) (all_hands l.hands)) }
+    ensures taken { IfOk result (λ l. (w : ℕ) → shared_taken l.taker w ≡ []) }
+{
+    if capacity == 0 || capacity > MOST_CAPACITY {
+        return Err(LineFault::Capacity);
+    }
+    if writers > MOST_WRITERS {
+        return Err(LineFault::Senders);
+    }
+    match line(alloc, capacity, writers) {
+        Ok(line) => Ok(line),
+        Err(_) => Err(LineFault::Memory),
+    }
+}

@@ -1,0 +1,106 @@
+//! The end of a shared line: all passes come together again, and what waits is taken out.
+ghost use Rattle.std.specs.Prelude.{◌≡◌, ℕ, ◌+◌, ◌-◌, [], ◌∷◌, ◌++◌, true, map, All, Contains, IfOk, OnOk};
+ghost use Rattle.crossbeam_channel.specs.Claims.{view, IsSeatAt};
+ghost use Rattle.crossbeam_channel.specs.Ends.{sends_on, receives_on};
+ghost use Rattle.jffs_line.specs.InOrder.{Learned, knows, joined};
+ghost use Rattle.jffs_line.specs.Requests.{of, IsNumbered};
+ghost use Rattle.jffs_line.specs.Shared.{channel_line, shared_line, shared_end, shared_accepted, shared_ends, shared_taken, all_hands, hand_sent};
+
+use super::{Each, Place, Receives, Sends, SharedHand, SharedTaker, Take};
+use crate::hand::{Hands, Settle};
+use crate::request::{Request, SettleFault, Settled};
+use std::alloc::{AllocError, Global};
+use std::sync::Wait;
+
+// The passes of all hands come back.
+fn give_all_back(sends: &Sends, pass: &mut Place, hands: Vec<SharedHand>)
+    requires seat { IsSeatAt (sends_on sends.now) pass.old }
+    requires line { All (λ h. shared_line h ≡ channel_line (sends_on sends.now)) hands.items }
+    ensures seat { IsSeatAt (sends_on sends.now) pass.new }
+    ensures joined { view pass.new ≡ knows (view pass.old).takes (view pass.old).taken ((view pass.old).sent ++ map hand_sent hands.items) }
+{
+    for hand in hands {
+        let SharedHand { pass: own, .. } = hand;
+        sends.absorb::<Each>(pass, own);
+    }
+}
+
+// Takes what waits, until nothing does.
+fn drain<R: Wait>(
+    rt: &R,
+    alloc: Global,
+    receives: &Receives,
+    pass: &mut Place,
+) -> Result<Vec<Request>, AllocError>
+    requires seat { IsSeatAt (receives_on receives.now) pass.old }
+    requires takes { (view pass.old).takes ≡ true }
+    ensures { IfOk result (λ waiting. Learned (knows true ((view pass.old).taken ++ waiting.items) (view pass.old).sent) []) }
+{
+    let mut waiting = Vec::new(alloc);
+    for _ in rt.forever() {
+        waiting.reserve(1)?;
+        match receives.try_recv_as::<Take, R>(rt, pass) {
+            Ok(request) => waiting.push_reserved(request),
+            Err(_) => return Ok(waiting),
+        }
+    }
+    unreachable!()
+}
+
+/// Takes all ends of a line back. For each sender, what was taken of it and then what waits is what was accepted.
+pub fn settle<R: Wait>(
+    rt: &R,
+    alloc: Global,
+    hands: Hands<SharedHand>,
+    taker: SharedTaker,
+) -> Result<Settled, SettleFault>
+    requires ends { shared_ends taker ≡ map shared_end (all_hands hands) }
+    ensures settled { IfOk result (λ s. All (λ h. shared_taken taker h.number ++ of h.number s.waiting.items ≡ shared_accepted h) (all_hands hands)) }
+    ensures numbered { IfOk result (λ _. All (λ h. IsNumbered (shared_accepted h)) (all_hands hands)) }
+    ensures others { IfOk result (λ s. (w : ℕ) → ¬ (Contains (map (λ h. h.number) (all_hands hands)) w) → shared_taken taker w ++ of w s.waiting.items ≡ []) }
+{
+    let Hands {
+        writers,
+        cleaner,
+        control,
+    } = hands;
+    let SharedTaker {
+        receives,
+        mut pass,
+        ..
+    } = taker;
+    let SharedHand {
+        sends,
+        pass: of_control,
+        ..
+    } = control.into_hand();
+    let SharedHand {
+        pass: of_cleaner,
+        ..
+    } = cleaner;
+    give_all_back(&sends, &mut pass, writers);
+    sends.absorb::<Each>(&mut pass, of_cleaner);
+    sends.absorb::<Each>(&mut pass, of_control);
+    match drain(rt, alloc, &receives, &mut pass) {
+        Ok(waiting) => Ok(Settled { waiting }),
+        Err(_) => Err(SettleFault::Memory),
+    }
+}
+
+impl Settle for SharedTaker {
+    type Of = SharedHand;
+
+    fn settle<R: Wait>(
+        self,
+        rt: &R,
+        alloc: Global,
+        hands: Hands<SharedHand>,
+    ) -> Result<Settled, SettleFault>
+        requires { shared_ends self ≡ map shared_end (all_hands hands) }
+        ensures settled { IfOk result (λ s. All (λ h. shared_taken self h.number ++ of h.number s.waiting.items ≡ shared_accepted h) (all_hands hands)) }
+        ensures numbered { IfOk result (λ _. All (λ h. IsNumbered (shared_accepted h)) (all_hands hands)) }
+        ensures others { IfOk result (λ s. (w : ℕ) → ¬ (Contains (map (λ h. h.number) (all_hands hands)) w) → shared_taken self w ++ of w s.waiting.items ≡ []) }
+    {
+        settle(rt, alloc, hands, self)
+    }
+}

@@ -1,0 +1,33 @@
+//! Which record may stand where.
+
+use jffs_node::HEADER_LEN;
+
+/// Whose record asks for room.
+#[derive(Clone, Copy, Debug, PartialEq, Eq)]
+pub enum Room {
+    /// A fresh node, or a copy that a sender handed in.
+    Fresh,
+    /// A copy that cleaning makes.
+    Copy,
+    /// The node of an unmount.
+    Unmount,
+}
+
+impl Room {
+    /// How many sectors must be erased for the record to open the next one.
+    pub(crate) fn erased_need(self) -> u32 {
+        match self {
+            Room::Fresh => 4,
+            Room::Copy | Room::Unmount => 2,
+        }
+    }
+
+    /// How many bytes must be free in the tail for a record of this length to stand there.
+    /// All but an unmount node leave room for an unmount node behind them.
+    pub(crate) fn tail_need(self, len: u32) -> u64 {
+        match self {
+            Room::Unmount => HEADER_LEN as u64,
+            Room::Fresh | Room::Copy => len as u64 + HEADER_LEN as u64,
+        }
+    }
+}

@@ -1,0 +1,64 @@
+-- What is found at a place, by its parts.
+use Rattle.std.proofs.Common.{◌≡◌, ℕ, ◌+◌, ◌≤◌, ◌<◌, Bool, true, false, cond, not, ◌||◌, leb, ltb, eqb, List, length, drop, get_or, Option, Some, None, Ok, Err, refl, sym, ap, subst, ◌∙◌}
+use Rattle.jffs_node.specs.declared.read.Why.{Why}
+use Rattle.jffs_node.specs.declared.read.Read.{Read}
+use Rattle.jffs_node.specs.declared.read.Read.TheVariants.{Closed, Free, Torn}
+use Rattle.jffs_node.specs.declared.header.Head.{Head}
+use Rattle.jffs_node.specs.Laws.{IsClosedExactly}
+use Rattle.jffs_node.specs.Reading.{rules, broken_rule, byte_at, data_len, node_at, is_erased, closed_or_bad, found}
+use Rattle.std.proofs.lemmas.Bool.{or_parts, ltb-false}
+use Rattle.jffs_node.specs.Record.{numbers_hold, is_unmount, len_of_data, record_len, BeginsWith}
+use Rattle.jffs_node.specs.Header.{head_at, head_or_why}
+use Rattle.jffs_node.proofs.Found.{records_are_found}
+use Rattle.jffs_node.proofs.Sound.{all_hold, found_are_records}
+use Rattle.jffs_node.proofs.Rules.{place_fits, ok_differs, ok_same, err_same}
+
+-- so is one that breaks no rule
+pub record_fits : (rest : List ℕ) (record_max : ℕ) → broken_rule record_max rest ≡ None → (len_of_data (data_len rest) ≤ record_max) × (len_of_data (data_len rest) ≤ length rest)
+record_fits rest record_max h =
+    let hold = all_hold (rules record_max rest) h in
+    place_fits (is_unmount (node_at rest).kind || leb (len_of_data (data_len rest) + 64) (length rest)) (data_len rest) record_max (length rest) (numbers_hold (node_at rest) (data_len rest)) hold.1.1.1.1.1.1.0
+
+-- What a head that was read says of the record.
+pub head_read : (rest : List ℕ) (o : Option Why) (head : Head) → Ok head ≡ head_or_why rest o → (o ≡ None) × (head ≡ head_at rest)
+head_read rest None head h = (refl, ok_same (head_at rest) head h)
+head_read rest (Some w) head h = absurd (ok_differs w head h)
+
+pub head_refused : (rest : List ℕ) (o : Option Why) (w : Why) → Err w ≡ head_or_why rest o → o ≡ Some w
+head_refused rest None w h = absurd (ok_differs w (head_at rest) (sym h))
+head_refused rest (Some v) w h = ap (λ x. Some x) (sym (err_same {A = Head} v w h))
+
+-- What is found, by its parts.
+not_true : (b : Bool) → not b ≡ true → b ≡ false
+not_true true h = cc
+not_true false h = refl
+
+not_false : (b : Bool) → not b ≡ false → b ≡ true
+not_false true h = refl
+not_false false h = cc
+
+-- a closed gate stands behind a whole header
+pub closed_long : (rest : List ℕ) (closed : Bool) → closed ≡ not (ltb (length rest) 64 || not (eqb (byte_at 7 rest) 0)) → closed ≡ true → 64 ≤ length rest
+closed_long rest closed e h = ltb-false (length rest) 64 (or_parts (ltb (length rest) 64) (not (eqb (byte_at 7 rest) 0)) (not_true _ (sym e ∙ h))).0
+
+pub found_without : (rest : List ℕ) (record_max : ℕ) (closed : Bool) → closed ≡ not (ltb (length rest) 64 || not (eqb (byte_at 7 rest) 0)) → closed ≡ false
+    → cond (is_erased rest) Free Torn ≡ found record_max rest
+found_without rest record_max closed e h = ap (λ t. cond t (cond (is_erased rest) Free Torn) (closed_or_bad rest (broken_rule record_max rest))) (sym (not_false _ (sym e ∙ h)))
+
+pub found_with : (rest : List ℕ) (record_max : ℕ) (closed : Bool) (o : Option Why) → closed ≡ not (ltb (length rest) 64 || not (eqb (byte_at 7 rest) 0)) → closed ≡ true
+    → broken_rule record_max rest ≡ o → closed_or_bad rest o ≡ found record_max rest
+found_with rest record_max closed o e h b =
+    ap (λ p. closed_or_bad rest p) (sym b)
+    ∙ ap (λ t. cond t (cond (is_erased rest) Free Torn) (closed_or_bad rest (broken_rule record_max rest))) (sym (not_true _ (sym e ∙ h)))
+
+-- Both laws, of what was read.
+pub closed_exactly : (rest : List ℕ) (record_max : ℕ) (read : Read) → ((i : ℕ) → get_or rest i 0 < 256) → read ≡ found record_max rest → IsClosedExactly record_max rest read
+closed_exactly rest record_max read bytes h n len = (λ e. begins e, λ b. closed b)
+  where
+    begins : read ≡ Closed n len → BeginsWith rest record_max n (drop len rest) × (len ≡ record_len n)
+    begins e =
+        let b = found_are_records rest record_max n len bytes (sym h ∙ e) in
+        (subst (λ k. BeginsWith rest record_max n (drop k rest)) (sym b.1) b.0, b.1)
+
+    closed : BeginsWith rest record_max n (drop len rest) × (len ≡ record_len n) → read ≡ Closed n len
+    closed b = h ∙ records_are_found rest record_max n (drop len rest) b.0 ∙ ap (λ k. Closed n k) (sym b.1)

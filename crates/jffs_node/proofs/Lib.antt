@@ -1,0 +1,7 @@
+pub mod Fields
+pub mod Found
+pub mod Sound
+pub mod Names
+pub mod Rules
+pub mod Decoded
+pub mod Pieces

@@ -1,0 +1,75 @@
+-- The pieces of a text between its slashes, and the answer that they make.
+use Rattle.std.proofs.Common.{◌≡◌, ℕ, ◌+◌, ◌-◌, ◌<◌, ◌≤◌, Bool, cond, not, ◌||◌, eqb, ltb, List, [], ◌∷◌, ◌++◌, length, take, drop, Option, Some, None, Result, Ok, Err, refl, sym, ap, ◌∙◌, ⊎_elim, append_assoc, arith, length-append, length-drop}
+use Rattle.std.specs.List.{slice_split, position, position_or_len, onto_first}
+use Rattle.std.proofs.lemmas.Bool.{cases_Bool, ltb-true, ltb-false}
+use Rattle.std.proofs.lemmas.List.{take_all}
+use Rattle.std.proofs.lemmas.List.Splits.{slice_split_first, slice_split-cons_no}
+use Rattle.jffs_node.specs.declared.path.PathFault.{PathFault}
+use Rattle.jffs_node.specs.declared.path.PathFault.TheVariants.{Deep}
+use Rattle.jffs_node.specs.Path.{name_fault, names_fault, or_else, unless_fault, answer_after, named, unless_bad}
+
+-- where a slash was looked for
+found_some : (k n e : ℕ) → cond (ltb k n) (Some k) None ≡ Some e → (k < n) × (k ≡ e)
+found_some k n e h = ⊎_elim
+    (λ t. (ltb-true k n t, same k e (sym (ap (λ b. cond b (Some k) None) t) ∙ h)))
+    (λ f. absurd (none_some e (sym (ap (λ b. cond b (Some k) None) f) ∙ h)))
+    (cases_Bool (ltb k n))
+  where
+    same : (a b : ℕ) → ◌≡◌ {A = Option ℕ} (Some a) (Some b) → a ≡ b
+    same a b g = cc
+
+    none_some : (b : ℕ) → ◌≡◌ {A = Option ℕ} None (Some b) → ⊥
+    none_some b g = cc
+
+found_none : (k n : ℕ) → ◌≡◌ {A = Option ℕ} (cond (ltb k n) (Some k) None) None → n ≤ k
+found_none k n h = ⊎_elim
+    (λ t. absurd (some_none k (sym (ap (λ b. cond b (Some k) None) t) ∙ h)))
+    (λ f. ltb-false k n f)
+    (cases_Bool (ltb k n))
+  where
+    some_none : (b : ℕ) → ◌≡◌ {A = Option ℕ} (Some b) None → ⊥
+    some_none b g = cc
+
+pub one_piece : (xs : List ℕ) → length xs ≤ position_or_len (λ c. eqb c 47) xs → slice_split (λ c. eqb c 47) xs ≡ xs ∷ []
+one_piece [] h = refl
+one_piece (x ∷ xs) h = ⊎_elim
+    (λ t. let e = ap (λ b. cond (not b) (1 + position_or_len (λ c. eqb c 47) xs) 0) t in absurd (omega arith))
+    (λ f.
+    let e = ap (λ b. cond (not b) (1 + position_or_len (λ c. eqb c 47) xs) 0) f in
+    slice_split-cons_no (λ c. eqb c 47) x xs f ∙ ap (onto_first x) (one_piece xs (omega arith)))
+    (cases_Bool (eqb x 47))
+
+pub one_piece_if : (xs : List ℕ) → position (λ c. eqb c 47) xs ≡ None → slice_split (λ c. eqb c 47) xs ≡ xs ∷ []
+one_piece_if xs h = one_piece xs (found_none _ (length xs) h)
+
+pub piece_before : (xs : List ℕ) (end : ℕ) → position (λ c. eqb c 47) xs ≡ Some end
+    → slice_split (λ c. eqb c 47) xs ≡ take end xs ∷ slice_split (λ c. eqb c 47) (take (length xs - (end + 1)) (drop (end + 1) xs))
+piece_before xs end h =
+    let f = found_some (position_or_len (λ c. eqb c 47) xs) (length xs) end h in
+    let l = length-drop (end + 1) xs in
+    slice_split_first (λ c. eqb c 47) xs 0 f.0
+    ∙ ap (λ k. take k xs ∷ slice_split (λ c. eqb c 47) (drop (k + 1) xs)) f.1
+    ∙ ap (λ ys. take end xs ∷ slice_split (λ c. eqb c 47) ys) (sym (take_all (length xs - (end + 1)) (drop (end + 1) xs) (omega arith)))
+
+-- The answer, one piece at a time.
+module _ (names : List (List ℕ)) (deep : Bool) (piece : List ℕ) (pieces : List (List ℕ)) where
+  -- a name is read
+  pub answer_name : name_fault piece ≡ None → answer_after names deep (piece ∷ pieces) ≡ answer_after (names ++ piece ∷ []) deep pieces
+  answer_name h =
+      let l : length names + length (piece ∷ pieces) ≡ length (names ++ piece ∷ []) + length pieces = omega (arith, length-append names (piece ∷ [])) in
+      ap (λ o. unless_fault (names ++ piece ∷ pieces) (or_else (or_else o (names_fault pieces)) (cond (deep || ltb 8 (length names + length (piece ∷ pieces))) (Some Deep) None))) h
+      ∙ (λ i. unless_fault (sym (append_assoc names (piece ∷ []) pieces) i) (or_else (names_fault pieces) (cond (deep || ltb 8 (l i)) (Some Deep) None)))
+
+-- What a name that was read says of its bytes.
+name_same : (a b : List ℕ) → ◌≡◌ {A = Result (List ℕ) PathFault} (Ok a) (Ok b) → a ≡ b
+name_same a b e = cc
+
+name_no_fault : (a : List ℕ) (b : PathFault) → ◌≡◌ {A = Result (List ℕ) PathFault} (Ok a) (Err b) → ⊥
+name_no_fault a b e = cc
+
+read_of : (bytes name : List ℕ) (o : Option PathFault) → Ok name ≡ unless_bad bytes o → (o ≡ None) × (name ≡ bytes)
+read_of bytes name None h = (refl, name_same name bytes h)
+read_of bytes name (Some fault) h = absurd (name_no_fault name fault h)
+
+pub named_read : (bytes name : List ℕ) → Ok name ≡ named bytes → (name_fault bytes ≡ None) × (name ≡ bytes)
+named_read bytes name h = read_of bytes name (name_fault bytes) h

@@ -1,0 +1,26 @@
+use Rattle.std.proofs.Common.{◌≡◌, ℕ, ◌+◌, ◌<◌, List, [], ◌∷◌, ◌++◌, length, sym, ap, ◌∙◌, arith, length-append}
+use Rattle.std.specs.Option.{option_copied}
+use Rattle.jffs_node.specs.Path.{pieces_of, answer_after}
+use Rattle.jffs_node.proofs.Pieces.{answer_name, named_read}
+use Rattle.jffs_node.proofs.path.Path.parse.Goals as goal
+
+pub loop-left-preserved-in_ok-push : goal.loop-left-preserved-in_ok-push
+loop-left-preserved-in_ok-push c =
+    let names = c.loop-left.names.items in
+    let piece = c.split_first_name.result.0.now in
+    let pieces = pieces_of (option_copied c.split_first_name.result.1) in
+    let was = c.loop-left.invariant in
+    let read = named_read piece _ c.in_ok-name.ensures in
+    let items : c.push.new.self.items ≡ names ++ piece ∷ [] = c.in_ok-push.ensures.items ∙ ap (λ (n : List ℕ). names ++ n ∷ []) read.1 in
+    let short : length names < 8 = omega (arith, c.len.ensures, c.if-len-lt-PATH_DEPTH_MAX.true, c.loop-left.names.ok) in
+    let longer : length c.push.new.self.items ≡ length names + 1 = ap length items ∙ length-append names (piece ∷ []) in
+    record {
+      same =
+          was.same
+          ∙ ap (λ o. answer_after names c.loop-left.deep (pieces_of (option_copied o))) c.in-Some.is
+          ∙ ap (λ (xs : List (List ℕ)). answer_after names c.loop-left.deep xs) c.split_first_name.ensures.pieces
+          ∙ answer_name names c.loop-left.deep piece pieces read.0
+          ∙ ap (λ (xs : List (List ℕ)). answer_after xs c.loop-left.deep pieces) (sym items);
+      few = omega arith;
+      full = λ d. let f = was.full d in omega arith;
+    }

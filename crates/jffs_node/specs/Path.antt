@@ -1,0 +1,65 @@
+-- The grammar of paths, and the first fault of a text that is none.
+use Rattle.std.specs.Prelude.{ℕ, ◌+◌, Bool, ◌||◌, ◌==◌, nat_lt, List, [], ◌∷◌, ◌++◌, length, Option, Some, None, Result, Ok, Err, if◌then◌else◌, flat_map}
+use Rattle.std.specs.List.{list_all, slice_split}
+use Rattle.jffs_node.specs.declared.path.PathFault.{PathFault}
+use Rattle.jffs_node.specs.declared.path.PathFault.TheVariants.{NoSlash, NameEmpty, NameLong, NameByte, Deep}
+use Rattle.jffs_node.specs.Name.{is_name_byte}
+
+-- what stands between the slashes after the first; `/` alone is the root
+abbrev pub names_in : List ℕ → List (List ℕ)
+names_in [] = []
+names_in (b ∷ text) = slice_split (λ c. c == 47) (b ∷ text)
+
+abbrev pub name_fault : List ℕ → Option PathFault
+name_fault name =
+    if length name == 0 then Some NameEmpty else (
+    if nat_lt 20 (length name) then Some NameLong else (
+    if list_all is_name_byte name then None else Some NameByte))
+
+abbrev pub or_else : Option PathFault → Option PathFault → Option PathFault
+or_else (Some fault) later = Some fault
+or_else None later = later
+
+-- the fault of the first bad name
+abbrev pub names_fault : List (List ℕ) → Option PathFault
+names_fault [] = None
+names_fault (name ∷ names) = or_else (name_fault name) (names_fault names)
+
+abbrev pub unless_fault : List (List ℕ) → Option PathFault → Result (List (List ℕ)) PathFault
+unless_fault names None = Ok names
+unless_fault names (Some fault) = Err fault
+
+abbrev pub checked_names : List (List ℕ) → Result (List (List ℕ)) PathFault
+checked_names names = unless_fault names (or_else (names_fault names) (if nat_lt 8 (length names) then Some Deep else None))
+
+-- the names of a path, or its first fault
+abbrev pub path_of : List ℕ → Result (List (List ℕ)) PathFault
+path_of [] = Err NoSlash
+path_of (b ∷ text) = if b == 47 then checked_names (names_in text) else Err NoSlash
+
+-- the one text of a path
+abbrev pub path_text : List (List ℕ) → List ℕ
+path_text [] = 47 ∷ []
+path_text (name ∷ names) = flat_map (λ n. 47 ∷ n) (name ∷ names)
+
+abbrev pub unless_bad : List ℕ → Option PathFault → Result (List ℕ) PathFault
+unless_bad name None = Ok name
+unless_bad name (Some fault) = Err fault
+
+-- the name that bytes spell, or their fault
+abbrev pub named : List ℕ → Result (List ℕ) PathFault
+named bytes = unless_bad bytes (name_fault bytes)
+
+-- the pieces of what is left of a text, if anything is
+abbrev pub pieces_of : Option (List ℕ) → List (List ℕ)
+pieces_of None = []
+pieces_of (Some text) = slice_split (λ c. c == 47) text
+
+-- a measure of what is left
+abbrev pub left_len : Option (List ℕ) → ℕ
+left_len None = 0
+left_len (Some text) = length text + 1
+
+-- the answer, where these names were read, too many or not, and these pieces are left
+abbrev pub answer_after : List (List ℕ) → Bool → List (List ℕ) → Result (List (List ℕ)) PathFault
+answer_after names deep pieces = unless_fault (names ++ pieces) (or_else (names_fault pieces) (if deep || nat_lt 8 (length names + length pieces) then Some Deep else None))

@@ -1,0 +1,145 @@
+//! Paths: the names from the root to an inode.
+
+ghost use Rattle.std.specs.Prelude.{◌≡◌, ◌≢◌, ◌<◌, ◌==◌, ◌∷◌, Err, Some, position};
+ghost use Rattle.std.specs.Option.{option_copied};
+ghost use Rattle.jffs_node.specs.Path.{path_of, named, pieces_of, left_len};
+
+use crate::name::{NAME_MAX, Name};
+use std::alloc::{AllocError, AllocFailed, Global};
+use std::marker::Model;
+use thiserror::Error;
+
+/// The most names of a path: no inode is deeper in the tree.
+pub const PATH_DEPTH_MAX: usize = 8;
+
+/// What stands before each name.
+const SLASH: u8 = b'/';
+
+/// A path: the names from the root on, at most eight. The root's own path has none.
+#[derive(Drop)]
+pub struct Path {
+    names: Vec<Name>,
+}
+
+impl Model for Path {
+    ghost use Rattle.std.specs.Prelude.{List, ℕ};
+
+    ghost Value = { List (List ℕ) };
+
+    ghost view = { λ a. a.names.items };
+}
+
+/// Why a text is no path. Where it has several faults, this is the first in this order: no slash at its start, then
+/// the first bad name from the left, then too many names.
+#[derive(Clone, Copy, Debug, Error, PartialEq, Eq)]
+pub enum PathFault {
+    /// The text doesn't begin with a slash.
+    #[error("a path begins with a slash")]
+    NoSlash,
+    /// Nothing stands between two slashes, or behind the last.
+    #[error("a name is empty")]
+    NameEmpty,
+    /// A name has more than 20 bytes.
+    #[error("a name is longer than {NAME_MAX} bytes")]
+    NameLong,
+    /// A name has a byte that isn't printable, or a blank.
+    #[error("a name has a byte that is not allowed")]
+    NameByte,
+    /// There are more than eight names.
+    #[error("a path has more than {PATH_DEPTH_MAX} names")]
+    Deep,
+    /// Memory for the names was refused.
+    #[error("out of memory")]
+    Memory,
+}
+
+impl<T: Drop> From<AllocFailed<T>> for PathFault {
+    ghost use Rattle.jffs_node.specs.declared.path.PathFault.TheVariants.{Memory};
+    ghost use Rattle.std.specs.Prelude.{◌≡◌};
+
+    ghost from_gives = { λ _ fault. fault ≡ Memory };
+
+    fn from(_refused: AllocFailed<T>) -> PathFault {
+        PathFault::Memory
+    }
+}
+
+impl Path {
+    /// The path that a text spells: a slash before each name, and a slash alone for the root.
+    ///
+    /// `Memory` where memory for the names is refused; each other fault is that of the text.
+    pub fn parse(alloc: Global, text: &str) -> Result<Path, PathFault>
+        ensures { result ≢ Err PathFault.Memory → result ≡ path_of text.now }
+    {
+        let Some((&SLASH, text)) = text.as_bytes().split_first() else {
+            return Err(PathFault::NoSlash);
+        };
+        let mut names = Vec::new(alloc);
+        let mut deep = false;
+        let mut left = if text.is_empty() { None } else { Some(text) };
+        while let Some(text) = left {
+            let (first, behind) = split_first_name(text);
+            let name = name_of(first)?;
+            if names.len() < PATH_DEPTH_MAX {
+                names.push(name)?;
+            } else {
+                deep = true;
+            }
+            left = behind;
+        }
+        if deep {
+            Err(PathFault::Deep)
+        } else {
+            Ok(Path { names })
+        }
+    }
+
+    /// The names from the root on.
+    pub fn names(&self) -> &[Name]
+        ensures { result.now ≡ self.now }
+    {
+        self.names.as_slice()
+    }
+}
+
+impl Clone for Path {
+    ghost use Rattle.std.specs.Prelude.{◌≡◌};
+
+    ghost is_clone = { λ source copy. copy ≡ source };
+
+    fn clone(&self) -> Result<Path, AllocError> {
+        let names = self.names.clone()?;
+        Ok(Path { names })
+    }
+}
+
+/// The name that bytes spell, or their fault.
+fn name_of(bytes: &[u8]) -> Result<Name, PathFault>
+    ensures { result ≡ named bytes.now }
+{
+    if bytes.is_empty() {
+        return Err(PathFault::NameEmpty);
+    }
+    if bytes.len() > NAME_MAX {
+        return Err(PathFault::NameLong);
+    }
+    Name::from_bytes(bytes).ok_or(PathFault::NameByte)
+}
+
+/// What stands before the first slash, and what behind it if there is one.
+fn split_first_name(text: &[u8]) -> (&[u8], Option<&[u8]>)
+    ensures pieces { pieces_of (Some text.now) ≡ result.0.now ∷ pieces_of (option_copied result.1) }
+    ensures shorter { left_len (option_copied result.1) < left_len (Some text.now) }
+{
+    match slash_in(text) {
+        Some(end) => (&text[..end], Some(&text[end + 1..])),
+        None => (text, None),
+    }
+}
+
+/// Where the first slash stands, if there is one.
+fn slash_in(text: &[u8]) -> Option<usize>
+    ensures { result ≡ position (λ c. c == 47) text.now }
+{
+    text.iter().position(|byte| *byte == SLASH)
+}

@@ -1,0 +1,29 @@
+//! Reading the fields of a record, whose bytes stand at fixed places.
+
+ghost use Rattle.std.specs.Prelude.{◌≡◌, ◌==◌, ◌+◌, ◌≤◌, length};
+ghost use Rattle.std.specs.Int.{w16, w32};
+ghost use Rattle.std.specs.List.{list_all};
+ghost use Rattle.jffs_node.specs.Reading.{number_at};
+
+/// Whether all bytes are this one.
+pub(crate) fn is_all(bytes: &[u8], byte: u8) -> bool
+    ensures { result ≡ list_all (λ b. b == byte) bytes.now }
+{
+    bytes.iter().all(|b| *b == byte)
+}
+
+/// The number of 32 bits that stands at a place.
+pub(crate) fn word_at(rest: &[u8], at: usize) -> u32
+    requires { at + 4 ≤ length rest.now }
+    ensures { result ≡ number_at w32 at rest.now }
+{
+    u32::from_be_bytes([rest[at], rest[at + 1], rest[at + 2], rest[at + 3]])
+}
+
+/// The number of 16 bits that stands at a place.
+pub(crate) fn half_at(rest: &[u8], at: usize) -> u16
+    requires { at + 2 ≤ length rest.now }
+    ensures { result ≡ number_at w16 at rest.now }
+{
+    u16::from_be_bytes([rest[at], rest[at + 1]])
+}

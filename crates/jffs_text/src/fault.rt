@@ -1,0 +1,64 @@
+//! Why a script is refused.
+
+use std::alloc::{AllocError, AllocFailed};
+use thiserror::Error;
+
+/// Why a script is refused. In a line the reasons are tried in this order, but for `Empty`,
+/// which is known only at the end, and `Memory`, which comes wherever a growth is refused.
+#[derive(Clone, Copy, Debug, PartialEq, Eq, Error)]
+pub enum ScriptWhy {
+    /// Each line is empty or a comment.
+    #[error("Empty")]
+    Empty,
+    /// The first statement isn't `volume` with sizes that a volume may have.
+    #[error("Volume")]
+    Volume,
+    /// A byte that isn't printable ASCII, or a line that is too long.
+    #[error("Text")]
+    Text,
+    /// An unknown first word, a wrong number of words, a second `volume`, or `line` with
+    /// another form than `shared` or `rings`.
+    #[error("Command")]
+    Command,
+    /// A header statement after a `writer`, or a second `line` or `cleaner`.
+    #[error("Header")]
+    Header,
+    /// A command before the first `writer`.
+    #[error("Outside")]
+    Outside,
+    /// Too many readers, writers, or commands of a writer.
+    #[error("Many")]
+    Many,
+    /// A word that isn't a number, or is out of its range.
+    #[error("Number")]
+    Number,
+    /// A word that isn't hex.
+    #[error("Hex")]
+    Hex,
+    /// A word that isn't a path.
+    #[error("Path")]
+    Path,
+    /// A growth was refused.
+    #[error("Memory")]
+    Memory,
+}
+
+impl From<AllocError> for ScriptWhy {
+    fn from(_: AllocError) -> ScriptWhy {
+        ScriptWhy::Memory
+    }
+}
+
+impl<T: Drop> From<AllocFailed<T>> for ScriptWhy {
+    fn from(_: AllocFailed<T>) -> ScriptWhy {
+        ScriptWhy::Memory
+    }
+}
+
+/// The first line at which a script is refused, counted from 1, and why.
+#[derive(Clone, Copy, Debug, PartialEq, Eq, Error)]
+#[error("bad script, line {line}: {why}")]
+pub struct ScriptFault {
+    pub line: usize,
+    pub why: ScriptWhy,
+}

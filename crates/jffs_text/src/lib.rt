@@ -1,0 +1,19 @@
+//! The texts of the file system: the script that a run reads, and the lines that tell of a tree.
+//!
+//! `Script::parse` carries the script's grammar, `dump` the tree's text.
+#![tactic(auto)]
+
+mod command;
+mod dumping;
+mod fault;
+mod keyword;
+mod script;
+mod word;
+
+pub use command::{Command, FILL_MAX};
+pub use dumping::{DumpFault, dump, write_hex};
+pub use fault::{ScriptFault, ScriptWhy};
+pub use script::{
+    CAPACITY_MAX, COMMANDS_MAX, LINE_MAX, LineChoice, LineForm, READERS_MAX, ROUNDS_MAX,
+    ReaderStatement, Script, WRITERS_MAX, Writer,
+};

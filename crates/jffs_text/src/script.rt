@@ -1,0 +1,216 @@
+//! Scripts, and how one is read.
+
+use crate::command::Command;
+use crate::fault::{ScriptFault, ScriptWhy};
+use crate::keyword::Keyword;
+pub use crate::keyword::LineForm;
+use crate::word::Words;
+use jffs_node::Path;
+use std::alloc::{AllocError, Global};
+
+/// The longest line, in bytes.
+pub const LINE_MAX: usize = 16_384;
+/// The most readers of a script.
+pub const READERS_MAX: usize = 16;
+/// The most writers of a script.
+pub const WRITERS_MAX: usize = 8;
+/// The most commands of one writer.
+pub const COMMANDS_MAX: usize = 4096;
+/// The most requests that a line may be asked to hold.
+pub const CAPACITY_MAX: u32 = 256;
+/// The most rounds of a cleaner.
+pub const ROUNDS_MAX: u32 = 1_000_000;
+
+/// The line that a script asks for: its form, and how many requests it holds, 1 to 256, in
+/// the whole shared line or in each ring.
+#[derive(Clone, Copy, Debug, PartialEq, Eq)]
+pub struct LineChoice {
+    pub form: LineForm,
+    pub capacity: u32,
+}
+
+/// The line of a script that has no `line` statement.
+const USUAL_LINE: LineChoice = LineChoice {
+    form: LineForm::Shared,
+    capacity: 16,
+};
+
+/// A reader: it looks until request `seq` of `writer` is answered, and then reads `path`.
+#[derive(Drop)]
+pub struct ReaderStatement {
+    /// 1 to 8.
+    pub writer: u32,
+    /// At least 1.
+    pub seq: u32,
+    pub path: Path,
+}
+
+/// The commands of one writer, in order.
+#[derive(Drop)]
+pub struct Writer {
+    pub commands: Vec<Command>,
+}
+
+/// A script that was read: the volume, the line, who takes part, and what each writer asks for.
+#[derive(Drop)]
+pub struct Script {
+    pub sectors: u32,
+    /// In bytes.
+    pub sector_size: u32,
+    pub line: LineChoice,
+    /// The rounds of the cleaner, 1 to 1,000,000, where there is one.
+    pub cleaner: Option<u32>,
+    pub readers: Vec<ReaderStatement>,
+    pub writers: Vec<Writer>,
+}
+
+impl Script {
+    /// Reads a script. An error names the first line that is refused, and the first reason
+    /// that holds there.
+    pub fn parse(alloc: Global, text: &[u8]) -> Result<Script, ScriptFault> {
+        let mut draft = Draft::new(alloc);
+        for (index, line) in text.split(|byte| *byte == b'\n').enumerate() {
+            if let Err(why) = draft.take_line(line) {
+                return Err(ScriptFault {
+                    line: index + 1,
+                    why,
+                });
+            }
+        }
+        draft.finish().ok_or(ScriptFault {
+            line: 1,
+            why: ScriptWhy::Empty,
+        })
+    }
+}
+
+/// What was read so far.
+#[derive(Drop)]
+struct Draft {
+    alloc: Global,
+    volume: Option<(u32, u32)>,
+    line: Option<LineChoice>,
+    cleaner: Option<u32>,
+    readers: Vec<ReaderStatement>,
+    writers: Vec<Writer>,
+}
+
+impl Draft {
+    fn new(alloc: Global) -> Draft {
+        Draft {
+            alloc,
+            volume: None,
+            line: None,
+            cleaner: None,
+            readers: Vec::new(alloc),
+            writers: Vec::new(alloc),
+        }
+    }
+
+    /// The script, where some line had a statement.
+    fn finish(self) -> Option<Script> {
+        let (sectors, sector_size) = self.volume?;
+        Some(Script {
+            sectors,
+            sector_size,
+            line: self.line.unwrap_or(USUAL_LINE),
+            cleaner: self.cleaner,
+            readers: self.readers,
+            writers: self.writers,
+        })
+    }
+
+    fn take_line(&mut self, line: &[u8]) -> Result<(), ScriptWhy> {
+        let line = line_text(line)?;
+        if line.len() == 0 || line.starts_with('#') {
+            return Ok(());
+        }
+        let mut words = Words::of(line);
+        let keyword = Keyword::take(&mut words);
+        if self.volume.is_none() {
+            self.volume = Some(volume_sizes(keyword, words)?);
+            return Ok(());
+        }
+        let keyword = keyword.ok_or(ScriptWhy::Command)?;
+        self.admit(keyword)?;
+        self.take_statement(keyword, words)
+    }
+
+    /// Whether the statement may stand here.
+    fn admit(&self, keyword: Keyword) -> Result<(), ScriptWhy> {
+        let headed = self.writers.len() > 0;
+        match keyword {
+            Keyword::Volume => Err(ScriptWhy::Command),
+            Keyword::Line(_) if headed || self.line.is_some() => Err(ScriptWhy::Header),
+            Keyword::Cleaner if headed || self.cleaner.is_some() => Err(ScriptWhy::Header),
+            Keyword::Reader if headed => Err(ScriptWhy::Header),
+            Keyword::Reader if self.readers.len() >= READERS_MAX => Err(ScriptWhy::Many),
+            Keyword::Writer if self.writers.len() >= WRITERS_MAX => Err(ScriptWhy::Many),
+            Keyword::Edit(_) => match self.writers.last() {
+                None => Err(ScriptWhy::Outside),
+                Some(writer) if writer.commands.len() >= COMMANDS_MAX => Err(ScriptWhy::Many),
+                Some(_) => Ok(()),
+            },
+            _ => Ok(()),
+        }
+    }
+
+    fn take_statement(&mut self, keyword: Keyword, mut words: Words<'_>) -> Result<(), ScriptWhy> {
+        match keyword {
+            Keyword::Volume => {}
+            Keyword::Line(form) => {
+                let capacity = words.take_number(1, CAPACITY_MAX)?;
+                self.line = Some(LineChoice { form, capacity });
+            }
+            Keyword::Cleaner => self.cleaner = Some(words.take_number(1, ROUNDS_MAX)?),
+            Keyword::Reader => self.take_reader(words)?,
+            Keyword::Writer => self.begin_writer()?,
+            Keyword::Edit(edit) => {
+                let command = Command::parse(self.alloc, edit, words)?;
+                if let Some(writer) = self.writers.last_mut() {
+                    writer.commands.push(command)?;
+                }
+            }
+        }
+        Ok(())
+    }
+
+    fn take_reader(&mut self, mut words: Words<'_>) -> Result<(), ScriptWhy> {
+        let writer = words.take_number(1, WRITERS_MAX as u32)?;
+        let seq = words.take_number(1, u32::MAX)?;
+        let path = words.take_path(self.alloc)?;
+        self.readers.push(ReaderStatement { writer, seq, path })?;
+        Ok(())
+    }
+
+    fn begin_writer(&mut self) -> Result<(), AllocError> {
+        self.writers.push(Writer {
+            commands: Vec::new(self.alloc),
+        })?;
+        Ok(())
+    }
+}
+
+/// The sizes in the first statement, where it is a `volume` with sizes that a volume may have.
+fn volume_sizes(keyword: Option<Keyword>, mut words: Words<'_>) -> Result<(u32, u32), ScriptWhy> {
+    if keyword != Some(Keyword::Volume) {
+        return Err(ScriptWhy::Volume);
+    }
+    let sizes = (
+        words.take_number(0, u32::MAX),
+        words.take_number(0, u32::MAX),
+    );
+    match sizes {
+        (Ok(sectors), Ok(size)) if jffs_flash::is_geometry(sectors, size) => Ok((sectors, size)),
+        _ => Err(ScriptWhy::Volume),
+    }
+}
+
+/// A line as text: printable ASCII, and not too long.
+fn line_text(line: &[u8]) -> Result<&str, ScriptWhy> {
+    let printable = line.iter().all(|byte| matches!(byte, b' '..=b'~'));
+    if !printable || line.len() > LINE_MAX {
+        return Err(ScriptWhy::Text);
+    }
+    str::from_utf8(line).map_err(|_| ScriptWhy::Text)
+}

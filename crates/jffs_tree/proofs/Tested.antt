@@ -1,0 +1,76 @@
+-- A tree tests a node as its nodes do.
+use Rattle.std.proofs.Common.{◌≡◌, ℕ, suc, ◌+◌, ◌<◌, ◌^◌, Bool, true, false, not, ◌&&◌, ◌||◌, eqb, leb, ltb, List, [], ◌∷◌, length, get_or, arith, ⊎_elim, option_map, Option, Some, None, refl, sym, ap, ◌∙◌}
+use Rattle.std.specs.Option.{option_map_or, unwrap_or}
+use Rattle.std.proofs.lemmas.Bool.{and_parts, and_from, eqb-true, eq-eqb, lt-ltb, le-ltb, le-leb, lt-leb, cases_lt}
+use Rattle.std.specs.List.{list_all}
+use Rattle.jffs_node.specs.declared.node.Node.{Node}
+use Rattle.jffs_node.specs.declared.node.Kind.TheVariants.{File, Directory, Unmount}
+use Rattle.jffs_node.specs.Record.{dsize, is_file, kind_byte, is_lawful, fits_fields, suits_kind, numbers_hold, kind_numbers, has_no_range}
+use Rattle.jffs_tree.specs.State.{Entry, bytes_of}
+use Rattle.jffs_tree.specs.Origin.{entry, size_in, tree_of}
+use Rattle.jffs_tree.specs.Check.{keeps_kind, keeps_places}
+use Rattle.jffs_tree.specs.After.{keeps_kind_in, keeps_places_in}
+use Rattle.jffs_tree.specs.Laws.{TreesTestAsNodes}
+use Rattle.jffs_tree.proofs.Grown.{at-tree, held_at}
+
+-- Tests that types give.
+pub small_bytes : (xs : List ℕ) → ((k : ℕ) → get_or xs k 0 < 256) → list_all (λ b. ltb b 256) xs ≡ true
+small_bytes [] h = refl
+small_bytes (x ∷ xs) h = and_from (ltb x 256) (list_all (λ b. ltb b 256) xs) (lt-ltb x 256 (h 0)) (small_bytes xs (λ k. h (suc k)))
+
+pub same_limit : (n : ℕ) → leb n 4294967295 ≡ ltb n (2 ^ 32)
+same_limit n = ⊎_elim
+    (λ less. le-leb n 4294967295 (omega arith) ∙ sym (lt-ltb n (2 ^ 32) less))
+    (λ more. lt-leb n 4294967295 (omega arith) ∙ sym (le-ltb n (2 ^ 32) more))
+    (cases_lt n (2 ^ 32))
+
+pub all_but : {a b c d e f g s l : Bool} → a ≡ true → b ≡ true → c ≡ true → d ≡ true → e ≡ true → f ≡ true → g ≡ true → (x : Bool) → s ≡ true → l ≡ true
+    → x ≡ (a && b && c && d && e && f && g && x && s && l)
+all_but a b c d e f g x s l = alone x ∙ sym (λ i. a i && b i && c i && d i && e i && f i && g i && x && s i && l i)
+  where
+    alone : (x : Bool) → x ≡ (x && true && true)
+    alone true = refl
+    alone false = refl
+
+kind_same : (past : List Node) (n : Node) → keeps_kind_in (tree_of past) n ≡ keeps_kind past n
+kind_same past n =
+    ap (λ o. n.deleted || option_map_or (λ h. eqb (kind_byte h.entry.kind) (kind_byte n.kind)) o true) (at-tree past n.inode)
+    ∙ ap (λ b. n.deleted || b) (by_entry (entry past n.inode))
+  where
+    by_entry : (o : Option Entry) → option_map_or (λ h. eqb (kind_byte h.entry.kind) (kind_byte n.kind)) (option_map (λ e. held_at past n.inode e) o) true
+        ≡ option_map_or (λ e. eqb (kind_byte e.kind) (kind_byte n.kind)) o true
+    by_entry None = refl
+    by_entry (Some e) = refl
+
+-- only a file's node has a range
+no_range : (n : Node) → has_no_range n (dsize n) ≡ true → eqb (dsize n) n.rsize ≡ true
+no_range n h =
+    let a = and_parts (eqb n.offset 0 && eqb (dsize n) 0) (eqb n.rsize 0) h in
+    let b = and_parts (eqb n.offset 0) (eqb (dsize n) 0) a.0 in
+    eq-eqb (dsize n) n.rsize (eqb-true (dsize n) 0 b.1 ∙ sym (eqb-true n.rsize 0 a.1))
+
+file_or_none : (n : Node) → is_lawful n ≡ true → (not (is_file n.kind) || eqb (dsize n) n.rsize) ≡ eqb (dsize n) n.rsize
+file_or_none n h =
+    let a = and_parts (fits_fields n && suits_kind n) (numbers_hold n (dsize n)) h in
+    let b = and_parts _ _ a.1 in
+    let c = and_parts _ _ b.0 in
+    let d = and_parts _ _ c.0 in
+    let e = and_parts _ _ d.0 in
+    (elim n.kind as (λ k. kind_numbers k n (dsize n) ≡ true → (not (is_file k) || eqb (dsize n) n.rsize) ≡ eqb (dsize n) n.rsize) [
+      | Unmount ↦ λ x. sym (no_range n (and_parts _ _ x).1)
+      | Directory ↦ λ x. sym (no_range n (and_parts _ _ x).1)
+      | File ↦ λ x. refl
+    ]) e.1
+
+places_same : (past : List Node) (n : Node) → is_lawful n ≡ true → keeps_places_in (tree_of past) n ≡ keeps_places past n
+places_same past n h =
+    ap (λ o. eqb (dsize n) n.rsize || leb (length (unwrap_or (option_map (λ x. x.entry.bytes) o) [])) (n.offset + n.rsize)) (at-tree past n.inode)
+    ∙ ap (λ k. eqb (dsize n) n.rsize || leb k (n.offset + n.rsize)) (by_entry (entry past n.inode))
+    ∙ ap (λ b. b || leb (size_in past n.inode) (n.offset + n.rsize)) (sym (file_or_none n h))
+  where
+    by_entry : (o : Option Entry) → length (unwrap_or (option_map (λ x. x.entry.bytes) (option_map (λ e. held_at past n.inode e) o)) []) ≡ length (bytes_of o)
+    by_entry None = refl
+    by_entry (Some e) = refl
+
+pub trees_test_as_nodes : TreesTestAsNodes
+trees_test_as_nodes past n h = (kind_same past n, places_same past n h)

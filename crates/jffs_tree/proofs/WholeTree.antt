@@ -1,0 +1,130 @@
+-- Where a version is of one inode's nodes alone, it is live in the tree where it is live in that inode.
+use Rattle.std.proofs.Common.{◌≡◌, ℕ, zero, suc, ◌+◌, Bool, true, false, cond, not, ◌||◌, eqb, ltb, List, [], ◌∷◌, map, flat_map, option_map, option_to_list, ⊎_elim, Option, Some, None, refl, sym, ap, subst, ◌∙◌}
+use Rattle.std.specs.List.{AllByRecursion, list_any, find, range_with_len}
+use Rattle.std.specs.Option.{option_map_or}
+use Rattle.std.proofs.lemmas.Bool.{eqb-true, cases_Bool, and_parts, or_cases}
+use Rattle.std.proofs.lemmas.List.Folds.{list_any-append}
+use Rattle.jffs_node.specs.declared.node.Node.{Node}
+use Rattle.jffs_node.specs.Record.{is_unmount}
+use Rattle.jffs_tree.specs.State.{Entry, state_of_past}
+use Rattle.jffs_tree.specs.Origin.{Held, Tree, concerns, entry, size_in, writes, place_before, origin, newest, held, versions_held, version_of, writers_of, tree_of, is_live}
+use Rattle.jffs_tree.specs.Look.{holds_version, IsVersionOf}
+use Rattle.jffs_tree.proofs.Pointwise.{at-state, sorted-state}
+use Rattle.jffs_tree.proofs.Copies.{found_there}
+use Rattle.jffs_tree.proofs.Grown.{at-tree, held_at}
+use Rattle.jffs_tree.proofs.Live.{live_by}
+use Rattle.jffs_tree.proofs.Steps.{newest-other, newest-deleted, newest-written, origin-other}
+
+its_inode : (i : ℕ) (n : Node) → concerns i n ≡ true → n.inode ≡ i
+its_inode i n c = eqb-true n.inode i (and_parts (not (is_unmount n.kind)) (eqb n.inode i) c).1
+
+-- the newest node and each origin of an inode are nodes of it, in the list
+module _ (Q : Node → Type 0) (i : ℕ) where
+  this_one : (n m : Node) → concerns i n ≡ true → Q n → n ≡ m → (m.inode ≡ i) × Q m
+  this_one n m c q same = (ap (λ x. x.inode) (sym same) ∙ its_inode i n c, subst Q same q)
+
+  of_newest : (past : List Node) (m : Node) → AllByRecursion Q past → newest past i ≡ Some m → (m.inode ≡ i) × Q m
+  of_newest [] m q is = cc
+  of_newest (n ∷ past) m q is = ⊎_elim
+      (λ c. ⊎_elim
+      (λ d. let none = newest-deleted i n past c d in cc)
+      (λ d. let some = newest-written i n past c d in let same : n ≡ m = cc in this_one n m c q.0 same)
+      (cases_Bool n.deleted))
+      (λ c. of_newest past m q.1 (sym (newest-other i n past c) ∙ is))
+      (cases_Bool (concerns i n))
+
+  of_origin : (past : List Node) (p : ℕ) (m : Node) → AllByRecursion Q past → origin past i p ≡ Some m → (m.inode ≡ i) × Q m
+  of_origin [] p m q is = cc
+  of_origin (n ∷ past) p m q is = ⊎_elim
+      (λ c. by_parts (λ e. of_origin past (place_before n p) m q.1 e) c n.deleted (writes n p) (ltb (place_before n p) (size_in past i))
+      (sym (ap (λ t. cond (not t) (origin past i p) (cond n.deleted None (cond (writes n p) (Some n) (cond (ltb (place_before n p) (size_in past i)) (origin past i (place_before n p)) None)))) c) ∙ is))
+      (λ c. of_origin past p m q.1 (sym (origin-other i n past p c) ∙ is))
+      (cases_Bool (concerns i n))
+    where
+      by_parts : (origin past i (place_before n p) ≡ Some m → (m.inode ≡ i) × Q m) → concerns i n ≡ true → (d w l : Bool) → cond d None (cond w (Some n) (cond l (origin past i (place_before n p)) None)) ≡ Some m → (m.inode ≡ i) × Q m
+      by_parts back c true w l is = cc
+      by_parts back c false true l is = let same : n ≡ m = cc in this_one n m c q.0 same
+      by_parts back c false false true is = back is
+      by_parts back c false false false is = cc
+
+single : (b : Bool) → (b || false) ≡ true → b ≡ true
+single true h = refl
+single false h = h
+
+the_version : (v : ℕ) (o : Option ℕ) → list_any (λ w. eqb w v) (option_to_list o) ≡ true → o ≡ Some v
+the_version v None h = cc
+the_version v (Some w) h = ap (λ x. Some x) (eqb-true w v (single (eqb w v) h))
+
+-- a version among those of a range stands at one of its places
+from_range : (f : ℕ → Option ℕ) (v n a : ℕ) → list_any (λ w. eqb w v) (flat_map option_to_list (map f (range_with_len a n))) ≡ true → (p : ℕ) × (f p ≡ Some v)
+from_range f v zero a h = cc
+from_range f v (suc n) a h = ⊎_elim
+    (λ here. (a, the_version v (f a) here))
+    (λ later. from_range f v n (a + 1) later)
+    (or_cases (list_any (λ w. eqb w v) (option_to_list (f a))) (list_any (λ w. eqb w v) (flat_map option_to_list (map f (range_with_len (a + 1) n))))
+    (sym (list_any-append (λ w. eqb w v) (option_to_list (f a)) (flat_map option_to_list (map f (range_with_len (a + 1) n)))) ∙ h))
+
+named : (o : Option Node) (v : ℕ) → version_of o ≡ Some v → (m : Node) × (o ≡ Some m) × (m.version ≡ v)
+named None v h = cc
+named (Some m) v h = let same : m.version ≡ v = cc in (m, refl, same)
+
+-- what holds a version is an inode of which a node has it
+held_of_inode : (past : List Node) (v i j : ℕ) (e : Entry) → IsVersionOf past v i → list_any (λ w. eqb w v) (versions_held (held past (j, e))) ≡ true → j ≡ i
+held_of_inode past v i j e own h = ⊎_elim
+    (λ top.
+    let m = named (newest past j) v (the_version v (version_of (newest past j)) top) in
+    let of = of_newest (λ n. n.version ≡ v → n.inode ≡ i) j past m.0 own m.1 in
+    sym of.0 ∙ of.1 m.2)
+    (λ place.
+    let p = from_range (λ q. version_of (origin past j q)) v (size_in past j) 0 place in
+    let m = named (origin past j p.0) v p.1 in
+    let of = of_origin (λ n. n.version ≡ v → n.inode ≡ i) j past p.0 m.0 own m.1 in
+    sym of.0 ∙ of.1 m.2)
+    (or_cases (list_any (λ w. eqb w v) (option_to_list (version_of (newest past j)))) (list_any (λ w. eqb w v) (flat_map option_to_list (writers_of past j)))
+    (sym (list_any-append (λ w. eqb w v) (option_to_list (version_of (newest past j))) (flat_map option_to_list (writers_of past j))) ∙ h))
+
+-- the first element whose list has it
+has_it : {X : Type 0} (test : ℕ → Bool) (f : X → List ℕ) (xs : List X) → list_any test (flat_map f xs) ≡ true
+    → (x : X) × (find (λ y. list_any test (f y)) xs ≡ Some x) × (list_any test (f x) ≡ true)
+has_it test f [] h = cc
+has_it test f (x ∷ xs) h = ⊎_elim
+    (λ here. (x, ap (λ b. cond b (Some x) (find (λ y. list_any test (f y)) xs)) here, here))
+    (λ not_here.
+    let rest = ⊎_elim (λ a. let never : ⊥ = cc in absurd never) (λ b. b) (or_cases (list_any test (f x)) (list_any test (flat_map f xs)) (sym (list_any-append test (f x) (flat_map f xs)) ∙ h)) in
+    let later = has_it test f xs rest in
+    (later.0, ap (λ b. cond b (Some x) (find (λ y. list_any test (f y)) xs)) not_here ∙ later.1, later.2))
+    (cases_Bool (list_any test (f x)))
+
+module _ (past : List Node) (v i : ℕ) (own : IsVersionOf past v i) where
+  abbrev here : (o : Option Entry) → Bool
+  here o = option_map_or (λ e. list_any (λ w. eqb w v) (versions_held (held past (i, e)))) o false
+
+  holds_here : holds_version (tree_of past) i v ≡ here (entry past i)
+  holds_here = ap (λ o. option_map_or (λ h. list_any (λ w. eqb w v) (versions_held (i, h))) o false) (at-tree past i) ∙ by_entry (entry past i)
+    where
+      by_entry : (o : Option Entry) → option_map_or (λ h. list_any (λ w. eqb w v) (versions_held (i, h))) (option_map (λ e. held_at past i e) o) false ≡ here o
+      by_entry None = refl
+      by_entry (Some e) = refl
+
+  to_live : (o : Option Entry) → entry past i ≡ o → here o ≡ true → is_live past v ≡ true
+  to_live None is h = cc
+  to_live (Some e) is h = live_by past v i e is h
+
+  from_live : is_live past v ≡ true → here (entry past i) ≡ true
+  from_live h =
+      let found = has_it (λ w. eqb w v) versions_held (tree_of past) h in
+      let there = found_there past (λ (g : ℕ × Held). list_any (λ w. eqb w v) (versions_held g)) (state_of_past past) found.0 (sorted-state past) found.1 in
+      let holds : list_any (λ w. eqb w v) (versions_held (held past (found.0.0, there.0))) ≡ true = ap (λ g. list_any (λ w. eqb w v) (versions_held g)) (sym there.1) ∙ found.2 in
+      let same : found.0.0 ≡ i = held_of_inode past v i found.0.0 there.0 own holds in
+      ap here (ap (λ k. entry past k) (sym same) ∙ sym (at-state past found.0.0) ∙ there.2)
+      ∙ ap (λ k. list_any (λ w. eqb w v) (versions_held (held past (k, there.0)))) (sym same) ∙ holds
+
+both_ways : (a b : Bool) → (a ≡ true → b ≡ true) → (b ≡ true → a ≡ true) → a ≡ b
+both_ways true b f g = sym (f refl)
+both_ways false true f g = g refl
+both_ways false false f g = refl
+
+pub live_whole : (past : List Node) (tree : Tree) (v i : ℕ) → tree ≡ tree_of past → IsVersionOf past v i → holds_version tree i v ≡ is_live past v
+live_whole past tree v i is own =
+    ap (λ t. holds_version t i v) is ∙ holds_here past v i own
+    ∙ both_ways (here past v i own (entry past i)) (is_live past v) (λ h. to_live past v i own (entry past i) refl h) (λ h. from_live past v i own h)

@@ -1,0 +1,74 @@
+-- One node more, in a tree that is a map of inodes.
+use Rattle.std.proofs.Common.{◌≡◌, ℕ, ◌+◌, ◌≤◌, ◌≢◌, Bool, true, false, cond, ◌||◌, eqb, T, map, option_map, [], length, ⊎_elim, Option, Some, None, Result, Ok, Err, refl, sym, ap, subst, ◌∙◌, nat_cmp}
+use Rattle.std.specs.Cmp.{unsigned_tied}
+use Rattle.std.specs.List.Sorted.{IsStrictlySortedBy}
+use Rattle.std.specs.Option.{unwrap_or}
+use Rattle.std.specs.Result.{OnErr}
+use Rattle.std.specs.Map.{lookup}
+use Rattle.std.specs.BTreeMap.{is_at}
+use Rattle.std.proofs.lemmas.Bool.{cases_Bool, eqb-true, leb-true}
+use Rattle.jffs_node.specs.declared.node.Node.{Node}
+use Rattle.jffs_node.specs.Record.{dsize}
+use Rattle.jffs_tree.specs.Origin.{Held, Tree}
+use Rattle.jffs_tree.specs.After.{held_in, held_after, keeps_places_in, IsWritten, IsRemoved}
+use Rattle.jffs_tree.proofs.Maps.{found_get, sorted_map}
+
+pub t_true : (b : Bool) → T b → b ≡ true
+t_true true h = refl
+t_true false h = absurd h
+
+module _ (old new : Tree) (n : Node) where
+  pub is_written : IsStrictlySortedBy nat_cmp (map (λ e. e.0) new)
+      → ((q : ℕ) → lookup (is_at (nat_cmp q)) new ≡ cond (is_at (nat_cmp n.inode) q) (Some (held_after n (held_in old n.inode))) (lookup (is_at (nat_cmp q)) old))
+      → IsWritten old new n
+  is_written ordered updates = record {
+    ordered = t_true _ (sorted_map new ordered);
+    found = λ i.
+        sym (found_get i new) ∙ updates i
+        ∙ ap (λ b. cond b (Some (held_after n (held_in old n.inode))) (lookup (is_at (nat_cmp i)) old)) (unsigned_tied n.inode i)
+        ∙ ap (λ o. cond (eqb n.inode i) (Some (held_after n (held_in old n.inode))) o) (found_get i old)
+        ∙ at_own i;
+  }
+    where
+      at_own : (i : ℕ) → cond (eqb n.inode i) (Some (held_after n (held_in old n.inode))) (held_in old i) ≡ cond (eqb n.inode i) (Some (held_after n (held_in old i))) (held_in old i)
+      at_own i = ⊎_elim
+          (λ same. ap (λ k. cond (eqb n.inode i) (Some (held_after n (held_in old k))) (held_in old i)) (eqb-true n.inode i same))
+          (λ apart. ap (λ b. cond b (Some (held_after n (held_in old n.inode))) (held_in old i)) apart ∙ sym (ap (λ b. cond b (Some (held_after n (held_in old i))) (held_in old i)) apart))
+          (cases_Bool (eqb n.inode i))
+
+-- what the test on a node's places says of the inode that is found
+pub places_there : (tree : Tree) (n : Node) (h : Held) → lookup (is_at (nat_cmp n.inode)) tree ≡ Some h → keeps_places_in tree n ≡ true → dsize n ≢ n.rsize → length h.entry.bytes ≤ n.offset + n.rsize
+places_there tree n h there keeps differ =
+    ⊎_elim
+    (λ same. absurd (differ (eqb-true (dsize n) n.rsize same)))
+    (λ apart.
+    let found : held_in tree n.inode ≡ Some h = sym (found_get n.inode tree) ∙ there in
+    subst (λ (o : Option Held). length (unwrap_or (option_map (λ (x : Held). x.entry.bytes) o) []) ≤ n.offset + n.rsize) found
+    (leb-true (length (unwrap_or (option_map (λ (x : Held). x.entry.bytes) (held_in tree n.inode)) [])) (n.offset + n.rsize) (second (eqb (dsize n) n.rsize) _ apart keeps)))
+    (cases_Bool (eqb (dsize n) n.rsize))
+  where
+    second : (a b : Bool) → a ≡ false → (a || b) ≡ true → b ≡ true
+    second true b e h = cc
+    second false b e h = h
+
+-- the map of inodes with one value new
+pub map_written : (old new : Tree) (n : Node) (o : Option Held) (w : Held) → lookup (is_at (nat_cmp n.inode)) old ≡ o → w ≡ held_after n o → IsStrictlySortedBy nat_cmp (map (λ e. e.0) new)
+    → ((q : ℕ) → lookup (is_at (nat_cmp q)) new ≡ cond (is_at (nat_cmp n.inode) q) (Some w) (lookup (is_at (nat_cmp q)) old)) → IsWritten old new n
+map_written old new n o w was is ordered updates =
+    let same : w ≡ held_after n (held_in old n.inode) = is ∙ ap (λ x. held_after n x) (sym was ∙ found_get n.inode old) in
+    is_written old new n ordered (λ q. updates q ∙ ap (λ x. cond (is_at (nat_cmp n.inode) q) (Some x) (lookup (is_at (nat_cmp q)) old)) same)
+
+pub at_error : {A E P : Type 0} (r : Result A E) → P → OnErr r P
+at_error (Ok x) p = tt
+at_error (Err e) p = p
+
+-- the map of inodes with one of them away
+pub map_removed : (old new : Tree) (i : ℕ) → IsStrictlySortedBy nat_cmp (map (λ e. e.0) new)
+    → ((q : ℕ) → lookup (is_at (nat_cmp q)) new ≡ cond (is_at (nat_cmp i) q) None (lookup (is_at (nat_cmp q)) old)) → IsRemoved old new i
+map_removed old new i ordered updates = record {
+  ordered = t_true _ (sorted_map new ordered);
+  found = λ j.
+      sym (found_get j new) ∙ updates j
+      ∙ ap (λ b. cond b None (lookup (is_at (nat_cmp j)) old)) (unsigned_tied i j)
+      ∙ ap (λ o. cond (eqb i j) None o) (found_get j old);
+}

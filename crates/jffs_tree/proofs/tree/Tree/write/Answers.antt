@@ -1,0 +1,67 @@
+use Rattle.std.proofs.Common.{◌≡◌, ℕ, Bool, true, false, cond, not, ◌&&◌, eqb, List, Option, None, Some, IsTrue, inl, inr, refl, ap, subst, sym, rules, nat_cmp, ◌∙◌}
+use Rattle.std.specs.FinMap.Entries as entries
+use Rattle.jffs_tree.specs.Origin.{Held}
+use Rattle.jffs_tree.specs.Look.{parent_name_in}
+use Rattle.jffs_tree.specs.Index.{Place, has_place, is_named, IsIndexOf}
+use Rattle.jffs_tree.proofs.Reindexed.{tied, by_place, restored, parted, stayed}
+use Rattle.jffs_tree.proofs.tree.Tree.write.Goals as goal
+
+absent : (b t : Bool) → b ≡ not t → b ≡ true → t ≡ false
+absent b true e h = cc
+absent b false e h = refl
+
+pub invariant_of-self-then-is_new : goal.invariant_of-self-then-is_new
+invariant_of-self-then-is_new c =
+    let old = c.self.inside.inodes.entries in
+    let before = c.self.inside.children.keys in
+    let here : Place = (c.args.node.now.parent, Some c.args.name, c.args.node.now.inode) in
+    let kept = restored old old c.args.node.now c.args.name before c.self.invariant.indexed c.remove.new.self.keys
+    (absent c.in_ok-is_new.is_new (has_place before here) c.in_ok-is_new.ensures.added c.if-is_new.true)
+    (λ q. c.remove.ensures.updates.0 q ∙ ap (λ b. cond (tied here q) false b) (c.in_ok-is_new.ensures.updates.0 q)) in
+    record {
+      ordered = subst (λ (t : List (ℕ × Held)). IsTrue (entries.is_sorted nat_cmp t)) (sym c.in-Err.ensures.err) c.self.invariant.ordered;
+      indexed = subst (λ (t : List (ℕ × Held)). IsIndexOf t c.remove.new.self.keys) (sym c.in-Err.ensures.err) kept;
+    }
+
+pub invariant_of-self-in_default-old : goal.invariant_of-self-in_default-old
+invariant_of-self-in_default-old c =
+    let old = c.self.inside.inodes.entries in
+    let was : ◌≡◌ {A = Option (ℕ × List ℕ)} None (parent_name_in c.args.self.now c.args.node.now.inode) = search rules in
+    record {
+      ordered = c.in_default.ensures.ok.ordered;
+      indexed = by_place old c.write_inode.new.inodes.entries c.args.node.now c.args.name c.self.inside.children.keys c.self.invariant.indexed c.insert.new.self.keys
+          c.requires.named c.in_default.ensures.ok None
+          (ap (λ (t : List (ℕ × Held)). parent_name_in t c.args.node.now.inode) c.self.view_is ∙ sym was)
+          c.in_ok-is_new.ensures.updates.0;
+    }
+
+pub invariant_of-self-then-not-bears : goal.invariant_of-self-then-not-bears
+invariant_of-self-then-not-bears c =
+    let old = c.self.inside.inodes.entries in
+    let here : Place = (c.args.node.now.parent, Some c.args.name, c.args.node.now.inode) in
+    let left : Place = (c.in-Some.parent, Some c.in-Some.left, c.args.node.now.inode) in
+    let was : Some (c.in-Some.parent, c.in-Some.left) ≡ parent_name_in c.args.self.now c.args.node.now.inode = search rules in
+    let other : ((eqb c.in-Some.parent c.args.node.now.parent) && is_named c.args.name (Some c.in-Some.left)) ≡ false = search rules in
+    record {
+      ordered = c.in_default.ensures.ok.ordered;
+      indexed = by_place old c.write_inode.new.inodes.entries c.args.node.now c.args.name c.self.inside.children.keys c.self.invariant.indexed c.remove-then-not-bears.new.self.keys
+          c.requires.named c.in_default.ensures.ok (Some (c.in-Some.parent, c.in-Some.left))
+          (ap (λ (t : List (ℕ × Held)). parent_name_in t c.args.node.now.inode) c.self.view_is ∙ sym was)
+          (inl (
+            λ q. c.remove-then-not-bears.ensures.updates.0 q ∙ ap (λ b. cond (tied left q) false b) (c.in_ok-is_new.ensures.updates.0 q),
+            parted c.args.node.now.parent c.args.name c.args.node.now.inode (c.in-Some.parent, c.in-Some.left) other,
+          ));
+    }
+
+pub invariant_of-self-else-not-bears : goal.invariant_of-self-else-not-bears
+invariant_of-self-else-not-bears c =
+    let old = c.self.inside.inodes.entries in
+    let was : Some (c.in-Some.parent, c.in-Some.left) ≡ parent_name_in c.args.self.now c.args.node.now.inode = search rules in
+    let same : ((eqb c.in-Some.parent c.args.node.now.parent) && is_named c.args.name (Some c.in-Some.left)) ≡ true = search rules in
+    record {
+      ordered = c.in_default.ensures.ok.ordered;
+      indexed = by_place old c.write_inode.new.inodes.entries c.args.node.now c.args.name c.self.inside.children.keys c.self.invariant.indexed c.insert.new.self.keys
+          c.requires.named c.in_default.ensures.ok (Some (c.in-Some.parent, c.in-Some.left))
+          (ap (λ (t : List (ℕ × Held)). parent_name_in t c.args.node.now.inode) c.self.view_is ∙ sym was)
+          (inr (c.in_ok-is_new.ensures.updates.0, stayed c.args.node.now.parent c.args.name (c.in-Some.parent, c.in-Some.left) same));
+    }

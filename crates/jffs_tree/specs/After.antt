@@ -1,0 +1,67 @@
+-- What one more node makes of a tree, inode by inode.
+use Rattle.std.specs.Prelude.{◌≡◌, ◌≤◌, ℕ, Bool, IsTrue, true, ◌&&◌, ◌||◌, ◌==◌, nat_le, ◌+◌, ◌-◌, List, [], ◌++◌, length, take, drop, replicate, Option, Some, None, option_map, unwrap_or, is_some, if◌then◌else◌}
+use Rattle.std.specs.FinMap.Entries as entries
+use Rattle.std.specs.Ordering.{nat_cmp}
+use Rattle.jffs_node.specs.declared.node.Node.{Node}
+use Rattle.std.specs.Option.{option_map_or}
+use Rattle.jffs_node.specs.Record.{dsize, file_max, kind_byte, is_lawful}
+use Rattle.jffs_tree.specs.State.{written}
+use Rattle.jffs_tree.specs.Origin.{Held, Tree, concerns}
+
+-- Padding, splicing and sizing of any list, d standing where nothing stood. Of bytes they are `padded`, `splice` and `sized`, with 0.
+abbrev pub padded_with : {A : Type 0} → A → ℕ → List A → List A
+padded_with d k c = c ++ replicate (k - length c) d
+
+abbrev pub spliced_with : {A : Type 0} → A → ℕ → ℕ → List A → List A → List A
+spliced_with d o r b c = take o (padded_with d o c) ++ b ++ drop (o + r) (padded_with d o c)
+
+abbrev pub sized_with : {A : Type 0} → A → Option ℕ → List A → List A
+sized_with d None c = c
+sized_with d (Some k) c = take k (padded_with d k c)
+
+-- what a tree has of an inode
+abbrev pub held_in : Tree → ℕ → Option Held
+held_in tree i = entries.find nat_cmp i tree
+
+-- the last writers, after the node: it is that of its own data, and padding has none
+abbrev pub writers_after : Node → List (Option ℕ) → List (Option ℕ)
+writers_after n ws = sized_with None n.size (spliced_with None n.offset n.rsize (replicate (dsize n) (Some n.version)) ws)
+
+abbrev pub held_after : Node → Option Held → Held
+held_after n old = record {
+  entry = written n (option_map (λ h. h.entry) old);
+  writers = writers_after n (unwrap_or (option_map (λ h. h.writers) old) []);
+  newest = Some n.version;
+  states_size = is_some n.size;
+}
+
+-- what is held of an inode, after the node
+abbrev pub found_after : Tree → Node → ℕ → Option Held
+found_after tree n i = if concerns i n then (if n.deleted then None else Some (held_after n (held_in tree i))) else held_in tree i
+
+-- The node leaves no bytes behind its range, unless it keeps their places.
+abbrev pub keeps_places_in : Tree → Node → Bool
+keeps_places_in tree n = (dsize n == n.rsize) || nat_le (length (unwrap_or (option_map (λ h. h.entry.bytes) (held_in tree n.inode)) [])) (n.offset + n.rsize)
+
+-- its inode has its kind, where it is present
+abbrev pub keeps_kind_in : Tree → Node → Bool
+keeps_kind_in tree n = n.deleted || option_map_or (λ h. kind_byte h.entry.kind == kind_byte n.kind) (held_in tree n.inode) true
+
+-- what a node must keep to be applied to a tree
+abbrev pub can_apply : Tree → Node → Bool
+can_apply tree n = is_lawful n && keeps_kind_in tree n && keeps_places_in tree n
+
+-- The inodes stand in order, the node's is as the node makes it, and each other is as it was.
+pub record IsWritten (old new : Tree) (n : Node) : Type 0 where
+  pub ordered : IsTrue (entries.is_sorted nat_cmp new)
+  pub found : (i : ℕ) → held_in new i ≡ (if n.inode == i then Some (held_after n (held_in old i)) else held_in old i)
+
+-- The inodes stand in order, and all are as they were but one, which is away.
+pub record IsRemoved (old new : Tree) (i : ℕ) : Type 0 where
+  pub ordered : IsTrue (entries.is_sorted nat_cmp new)
+  pub found : (j : ℕ) → held_in new j ≡ (if i == j then None else held_in old j)
+
+-- It makes no file too long.
+pub record IsSmall (n : Node) : Type 0 where
+  pub range : n.offset + dsize n ≤ file_max
+  pub size : unwrap_or n.size 0 ≤ file_max

@@ -1,0 +1,204 @@
+-- The decision on a wish: the first cause that holds, else the node. Of a state, and of who holds which live version.
+use Rattle.std.specs.Prelude.{ℕ, ◌+◌, ◌-◌, min, max, Bool, true, false, not, ◌&&◌, ◌||◌, ◌==◌, nat_le, nat_lt, List, [], ◌∷◌, length, take, drop, get_or, Option, Some, None, is_none, is_some, unwrap_or, Result, Ok, Err, bytes_eq, if◌then◌else◌}
+use Rattle.std.specs.Option.{option_map_or}
+use Rattle.std.specs.List.{list_any}
+use Rattle.jffs_node.specs.declared.node.Node.{Node}
+use Rattle.jffs_node.specs.declared.node.Kind.{Kind}
+use Rattle.jffs_node.specs.declared.node.Kind.TheVariants.{File, Directory, Unmount as UnmountNode}
+use Rattle.jffs_node.specs.Record.{dsize, file_max, is_directory}
+use Rattle.jffs_tree.specs.declared.wish.Wish.{Wish}
+use Rattle.jffs_tree.specs.declared.wish.Wish.TheVariants.{MakeDir, Create, Write, Truncate, Rename, Remove, Copy, Unmount}
+use Rattle.jffs_tree.specs.declared.wish.Cause.{Cause}
+use Rattle.jffs_tree.specs.declared.wish.Cause.TheVariants.{RootFixed, NoParent, NameTaken, NotFound, IsDirectory, DataLong, FileLong, NotEmpty, NotNeeded, Stale, InodesSpent, VersionsSpent}
+use Rattle.jffs_tree.specs.declared.wish.Limits.{Limits}
+use Rattle.jffs_tree.specs.declared.wish.NewNode.{NewNode}
+use Rattle.jffs_tree.specs.State.{Entry, State, at, resolve, is_directory_in, state_of_past}
+use Rattle.jffs_tree.specs.Origin.{Held, Tree, tree_of, state_in, holder, stated_size}
+
+-- the first cause whose test holds, else the node
+abbrev pub unless : List (Bool × Cause) → NewNode → Result NewNode Cause
+unless [] n = Ok n
+unless (c ∷ causes) n = if c.0 then Err c.1 else unless causes n
+
+abbrev pub is_root : List (List ℕ) → Bool
+is_root path = length path == 0
+
+abbrev pub last_name : List (List ℕ) → List ℕ
+last_name path = get_or path (length path - 1) []
+
+-- the inode of the path without its last name
+abbrev pub parent_in : State → List (List ℕ) → Option ℕ
+parent_in s path = resolve s (take (length path - 1) path)
+
+abbrev pub has_parent : State → List (List ℕ) → Bool
+has_parent s path = option_map_or (is_directory_in s) (parent_in s path) false
+
+abbrev pub is_there : State → List (List ℕ) → Bool
+is_there s path = is_some (resolve s path)
+
+abbrev pub inode_at : State → List (List ℕ) → ℕ
+inode_at s path = unwrap_or (resolve s path) 0
+
+abbrev pub is_empty : State → ℕ → Bool
+is_empty s i = not (list_any (λ e. e.1.parent == i) s)
+
+abbrev pub nobody : Entry
+nobody = record { kind = File; parent = 0; name = []; bytes = [] }
+
+abbrev pub entry_of : State → ℕ → Entry
+entry_of s i = unwrap_or (at s i) nobody
+
+-- a node that only says what an inode is
+abbrev pub plain : ℕ → Entry → NewNode
+plain i e = record {
+  kind = e.kind;
+  deleted = false;
+  copy = false;
+  inode = i;
+  parent = e.parent;
+  offset = 0;
+  rsize = 0;
+  size = stated_size e;
+  name = Some e.name;
+  bytes = [];
+}
+
+abbrev pub write_node : ℕ → Entry → ℕ → List ℕ → NewNode
+write_node i e offset bytes =
+    let old = length e.bytes in
+    if length bytes == 0 then record (plain i e) { offset = min offset old }
+    else record (plain i e) { offset = offset; rsize = min (length bytes) (old - offset); size = Some (max old (offset + length bytes)); bytes = bytes }
+
+abbrev pub truncate_node : ℕ → Entry → ℕ → NewNode
+truncate_node i e size =
+    let old = length e.bytes in
+    record (plain i e) { offset = min size old; rsize = old - min size old; size = Some size }
+
+abbrev pub copy_node : ℕ → Entry → ℕ → List ℕ → NewNode
+copy_node i e offset bytes = record (plain i e) { copy = true; offset = offset; rsize = length bytes; bytes = bytes }
+
+abbrev pub unmount_node : NewNode
+unmount_node = record { kind = UnmountNode; deleted = false; copy = false; inode = 0; parent = 0; offset = 0; rsize = 0; size = None; name = None; bytes = [] }
+
+-- the current bytes from the offset on begin with these
+abbrev pub is_current : Entry → ℕ → List ℕ → Bool
+is_current e offset bytes = nat_le offset (length e.bytes) && bytes_eq (take (length bytes) (drop offset e.bytes)) bytes
+
+abbrev pub held_entry : Option (ℕ × Held) → Entry
+held_entry None = nobody
+held_entry (Some h) = h.1.entry
+
+abbrev pub held_inode : Option (ℕ × Held) → ℕ
+held_inode None = 0
+held_inode (Some h) = h.0
+
+abbrev pub decide_copy : Option (ℕ × Held) → Limits → ℕ → List ℕ → ℕ → List ℕ → Result NewNode Cause
+decide_copy source limits parent name offset bytes =
+    let e = held_entry source in
+    unless (
+    (nat_lt limits.data_max (length bytes), DataLong)
+    ∷ (is_none source, NotNeeded)
+    ∷ (not ((e.parent == parent) && bytes_eq e.name name && is_current e offset bytes), Stale)
+    ∷ (is_none limits.next_version, VersionsSpent)
+    ∷ [])
+    (copy_node (held_inode source) e offset bytes)
+
+abbrev pub decide_new : State → Limits → Kind → List (List ℕ) → Result NewNode Cause
+decide_new s limits kind path = unless (
+    (is_root path, RootFixed)
+    ∷ (not (has_parent s path), NoParent)
+    ∷ (is_there s path, NameTaken)
+    ∷ (is_none limits.next_inode, InodesSpent)
+    ∷ (is_none limits.next_version, VersionsSpent)
+    ∷ [])
+    (plain (unwrap_or limits.next_inode 0) (record { kind = kind; parent = unwrap_or (parent_in s path) 0; name = last_name path; bytes = [] }))
+
+abbrev pub decide_in : State → (ℕ → Option (ℕ × Held)) → Limits → Wish → Result NewNode Cause
+decide_in s holds limits (MakeDir path) = decide_new s limits Directory path
+decide_in s holds limits (Create path) = decide_new s limits File path
+decide_in s holds limits (Write path offset bytes) =
+    let i = inode_at s path in
+    unless (
+    (not (is_there s path), NotFound)
+    ∷ (is_directory_in s i, IsDirectory)
+    ∷ (nat_lt limits.data_max (length bytes), DataLong)
+    ∷ (nat_lt file_max (offset + length bytes), FileLong)
+    ∷ (is_none limits.next_version, VersionsSpent)
+    ∷ [])
+    (write_node i (entry_of s i) offset bytes)
+decide_in s holds limits (Truncate path size) =
+    let i = inode_at s path in
+    unless (
+    (not (is_there s path), NotFound)
+    ∷ (is_directory_in s i, IsDirectory)
+    ∷ (nat_lt file_max size, FileLong)
+    ∷ (is_none limits.next_version, VersionsSpent)
+    ∷ [])
+    (truncate_node i (entry_of s i) size)
+decide_in s holds limits (Rename source target) =
+    let i = inode_at s source in
+    let e = entry_of s i in
+    let parent = unwrap_or (parent_in s target) 0 in
+    unless (
+    (is_root source || is_root target, RootFixed)
+    ∷ (not (has_parent s target), NoParent)
+    ∷ (is_there s target, NameTaken)
+    ∷ (not (is_there s source), NotFound)
+    ∷ (is_directory e.kind && not (e.parent == parent), IsDirectory)
+    ∷ (is_none limits.next_version, VersionsSpent)
+    ∷ [])
+    (plain i (record e { parent = parent; name = last_name target }))
+decide_in s holds limits (Remove path) =
+    let i = inode_at s path in
+    unless (
+    (is_root path, RootFixed)
+    ∷ (not (is_there s path), NotFound)
+    ∷ (not (is_empty s i), NotEmpty)
+    ∷ (is_none limits.next_version, VersionsSpent)
+    ∷ [])
+    (record (plain i (entry_of s i)) { deleted = true; size = None })
+decide_in s holds limits (Copy source parent name offset bytes) = decide_copy (holds source) limits parent name offset bytes
+decide_in s holds limits Unmount = unless ((is_none limits.next_version, VersionsSpent) ∷ []) unmount_node
+
+-- whether an accepted wish's node carries bytes, and so needs memory
+abbrev pub carries_bytes : Wish → Bool
+carries_bytes (Write path offset bytes) = not (length bytes == 0)
+carries_bytes (Copy source parent name offset bytes) = not (length bytes == 0)
+carries_bytes (MakeDir path) = false
+carries_bytes (Create path) = false
+carries_bytes (Truncate path size) = false
+carries_bytes (Rename source target) = false
+carries_bytes (Remove path) = false
+carries_bytes Unmount = false
+
+-- of a tree, as a contract has it
+abbrev pub decide_on : Tree → Limits → Wish → Result NewNode Cause
+decide_on tree limits wish = decide_in (state_in tree) (λ v. holder tree v) limits wish
+
+-- of a list of nodes, the newest first
+abbrev pub decide : List Node → Limits → Wish → Result NewNode Cause
+decide past limits wish = decide_in (state_of_past past) (λ v. holder (tree_of past) v) limits wish
+
+abbrev pub with : NewNode → ℕ → ℕ → ℕ → Node
+with n version writer seq = record {
+  kind = n.kind;
+  deleted = n.deleted;
+  copy = n.copy;
+  inode = n.inode;
+  parent = n.parent;
+  version = version;
+  offset = n.offset;
+  rsize = n.rsize;
+  writer = writer;
+  seq = seq;
+  size = n.size;
+  name = n.name;
+  bytes = n.bytes;
+}
+
+-- The copy that cleaning makes of a live node: what is so now of the source's range, as far as the file reaches.
+abbrev pub cleaning_copy : State → Node → NewNode
+cleaning_copy s n =
+    let e = entry_of s n.inode in
+    let offset = min n.offset (length e.bytes) in
+    copy_node n.inode e offset (take (dsize n) (drop offset e.bytes))

@@ -1,0 +1,12 @@
+pub mod State
+pub mod Origin
+pub mod Decide
+pub mod Check
+pub mod After
+pub mod Index
+pub mod Indexed
+pub mod Shown
+pub mod Look
+pub mod Laws
+pub mod Examples
+pub mod Deciding

@@ -1,0 +1,103 @@
+//! The rules of a final tree.
+
+ghost use Rattle.std.specs.Prelude.{◌≡◌};
+ghost use Rattle.std.specs.List.{list_all};
+ghost use Rattle.jffs_tree.specs.Origin.{state_in};
+ghost use Rattle.jffs_tree.specs.Look.{stands_first};
+ghost use Rattle.jffs_tree.specs.Check.{check, parents_are_there, names_differ, bytes_are_written, is_within};
+
+use crate::inode::Inode;
+use crate::look::ROOT;
+use crate::tree::Tree;
+
+const DEEPEST: u32 = 8;
+
+impl Tree {
+    /// Whether the tree keeps the rules that a log's tree keeps at its end.
+    pub fn check(&self) -> bool
+        ensures { result ≡ check self.now }
+    {
+        self.parents_are_there()
+            && self.names_differ()
+            && self.bytes_are_written()
+            && self.paths_are_short()
+    }
+
+    fn parents_are_there(&self) -> bool
+        ensures { result ≡ parents_are_there (state_in self.now) }
+    {
+        for (_, found) in self.inodes.iter() {
+            if !self.is_directory(found.parent) {
+                return false;
+            }
+        }
+        true
+    }
+
+    /// Each inode is the first of its name, so no two stand at one place.
+    fn names_differ(&self) -> bool
+        ensures { result ≡ names_differ (state_in self.now) }
+    {
+        // Brings in that the inodes stand in order.
+        let _ = &self.inodes;
+        self.all_stand_first()
+    }
+
+    fn all_stand_first(&self) -> bool
+        ensures { result ≡ list_all (λ e. stands_first (state_in self.now) e) (state_in self.now) }
+    {
+        for (inode, found) in self.inodes.iter() {
+            if !self.stands_first(*inode, found) {
+                return false;
+            }
+        }
+        true
+    }
+
+    fn stands_first(&self, inode: u32, found: &Inode) -> bool
+        ensures { result ≡ stands_first (state_in self.now) (inode, found.now.entry) }
+    {
+        match self.child(found.parent, &found.name) {
+            Some(first) => first == inode,
+            None => false,
+        }
+    }
+
+    fn bytes_are_written(&self) -> bool
+        ensures { result ≡ list_all (λ h. bytes_are_written h.1) self.now }
+    {
+        for (_, found) in self.inodes.iter() {
+            if !found.is_written() {
+                return false;
+            }
+        }
+        true
+    }
+
+    fn paths_are_short(&self) -> bool
+        ensures { result ≡ list_all (λ e. is_within 8 (state_in self.now) e.0) (state_in self.now) }
+    {
+        for (inode, _) in self.inodes.iter() {
+            if !self.is_within(DEEPEST, *inode) {
+                return false;
+            }
+        }
+        true
+    }
+
+    /// Whether so many names lead from the root to the inode, at most.
+    fn is_within(&self, names: u32, inode: u32) -> bool
+        ensures { result ≡ is_within names (state_in self.now) inode }
+    {
+        if inode == ROOT {
+            return true;
+        }
+        if names == 0 {
+            return false;
+        }
+        match self.inode(inode) {
+            Some(found) => self.is_within(names - 1, found.parent),
+            None => false,
+        }
+    }
+}

@@ -1,0 +1,19 @@
+//! A copy of a tree.
+
+ghost use Rattle.std.specs.Prelude.{◌≡◌, IfOk};
+
+use crate::tree::Tree;
+use jffs_node::NoMemory;
+
+impl Tree {
+    /// An equal tree. `NoMemory` where a growth was refused.
+    pub fn copy_tree(&self) -> Result<Tree, NoMemory>
+        ensures { IfOk result (λ tree. tree ≡ self.now) }
+    {
+        Ok(Tree {
+            alloc: self.alloc,
+            inodes: self.inodes.clone()?,
+            children: self.children.clone()?,
+        })
+    }
+}

@@ -1,0 +1,328 @@
+//! The decision on a wish.
+
+ghost use Rattle.std.specs.Prelude.{◌≡◌, ◌≢◌, not, false, length, Some, Err, IsSome, IsOk, option_map};
+ghost use Rattle.jffs_tree.specs.declared.wish.Cause.TheVariants.{Memory};
+ghost use Rattle.jffs_tree.specs.declared.wish.Wish.TheVariants.{Write, Truncate, Rename, Remove, Copy, Unmount};
+ghost use Rattle.jffs_tree.specs.State.{is_directory_in};
+ghost use Rattle.jffs_tree.specs.Origin.{holder, state_in};
+ghost use Rattle.jffs_tree.specs.After.{held_in};
+ghost use Rattle.jffs_tree.specs.Decide.{decide_on, decide_new, parent_in, is_empty, plain, entry_of, carries_bytes};
+
+use crate::children::any_named;
+use crate::inode::Inode;
+use crate::tree::Tree;
+use crate::wish::{Cause, Limits, NewNode, Wish};
+use jffs_node::{Bytes, FILE_MAX, Kind, Name, Path};
+use std::alloc::Global;
+
+impl Inode {
+    /// A node that only says what the inode is.
+    fn plain(&self, alloc: Global, inode: u32) -> NewNode
+        ensures { result ≡ plain inode self.now.entry }
+    {
+        NewNode {
+            kind: self.kind,
+            deleted: false,
+            copy: false,
+            inode,
+            parent: self.parent,
+            offset: 0,
+            rsize: 0,
+            size: if self.kind == Kind::File {
+                Some(self.size())
+            } else {
+                None
+            },
+            name: Some(self.name),
+            bytes: Bytes::none(alloc),
+        }
+    }
+}
+
+impl Tree {
+    pub(crate) fn is_directory(&self, inode: u32) -> bool
+        ensures { result ≡ is_directory_in (state_in self.now) inode }
+    {
+        matches!(self.kind(inode), Some(Kind::Directory))
+    }
+
+    /// Whether something stands in the directory.
+    fn has_names(&self, inode: u32) -> bool
+        ensures { result ≡ not (is_empty (state_in self.now) inode) }
+    {
+        any_named(&self.children, inode)
+    }
+
+    /// The inode of the names without the last.
+    fn parent_of(&self, names: &[Name]) -> Option<u32>
+        ensures { result ≡ parent_in (state_in self.now) names.now }
+    {
+        self.follow(&names[..names.len().saturating_sub(1)])
+    }
+
+    /// A node for a new file or directory.
+    fn decide_new(&self, limits: Limits, kind: Kind, path: &Path) -> Result<NewNode, Cause>
+        ensures { result ≡ decide_new (state_in self.now) limits kind path.now }
+    {
+        let names = path.names();
+        let Some(name) = names.last() else {
+            return Err(Cause::RootFixed);
+        };
+        let Some(parent) = self.parent_of(names) else {
+            return Err(Cause::NoParent);
+        };
+        if !self.is_directory(parent) {
+            return Err(Cause::NoParent);
+        }
+        if self.follow(names).is_some() {
+            return Err(Cause::NameTaken);
+        }
+        let Some(inode) = limits.next_inode else {
+            return Err(Cause::InodesSpent);
+        };
+        if limits.next_version.is_none() {
+            return Err(Cause::VersionsSpent);
+        }
+        Ok(NewNode {
+            kind,
+            deleted: false,
+            copy: false,
+            inode,
+            parent,
+            offset: 0,
+            rsize: 0,
+            size: if kind == Kind::File { Some(0) } else { None },
+            name: Some(*name),
+            bytes: Bytes::none(self.alloc),
+        })
+    }
+
+    /// An inode that is there.
+    fn present(&self, inode: u32) -> &Inode
+        requires { IsSome (held_in self.now inode) }
+        ensures held { held_in self.now inode ≡ Some result.now }
+        ensures entry { entry_of (state_in self.now) inode ≡ result.now.entry }
+    {
+        match self.inode(inode) {
+            Some(found) => found,
+            None => unreachable!(),
+        }
+    }
+
+    /// What holds a live version.
+    fn holder(&self, version: u32) -> Option<(u32, &Inode)>
+        ensures { option_map (λ f. (f.0, f.1.now)) result ≡ holder self.now version }
+    {
+        for (inode, found) in self.inodes.iter() {
+            if found.holds(version) {
+                return Some((*inode, found));
+            }
+        }
+        None
+    }
+
+    fn decide_write(
+        &self,
+        limits: Limits,
+        path: &Path,
+        offset: u32,
+        bytes: &[u8],
+    ) -> Result<NewNode, Cause>
+        ensures decided { result ≢ Err Memory → result ≡ decide_on self.now limits (Write path.now offset bytes.now) }
+        ensures bare { length bytes.now ≡ 0 → result ≡ decide_on self.now limits (Write path.now offset bytes.now) }
+        ensures last { result ≡ Err Memory → IsOk (decide_on self.now limits (Write path.now offset bytes.now)) }
+    {
+        let Some(inode) = self.resolve(path) else {
+            return Err(Cause::NotFound);
+        };
+        if self.is_directory(inode) {
+            return Err(Cause::IsDirectory);
+        }
+        if (limits.data_max as usize) < bytes.len() {
+            return Err(Cause::DataLong);
+        }
+        if (FILE_MAX as usize) < offset as usize + bytes.len() {
+            return Err(Cause::FileLong);
+        }
+        if limits.next_version.is_none() {
+            return Err(Cause::VersionsSpent);
+        }
+        let found = self.present(inode);
+        let old = found.size();
+        let mut node = found.plain(self.alloc, inode);
+        let length = bytes.len() as u32;
+        if length == 0 {
+            node.offset = offset.min(old);
+            return Ok(node);
+        }
+        node.offset = offset;
+        node.rsize = length.min(old.saturating_sub(offset));
+        node.size = Some(old.max(offset + length));
+        node.bytes = Bytes::from_slice(self.alloc, bytes)?;
+        Ok(node)
+    }
+
+    fn decide_truncate(&self, limits: Limits, path: &Path, size: u32) -> Result<NewNode, Cause>
+        ensures { result ≡ decide_on self.now limits (Truncate path.now size) }
+    {
+        let Some(inode) = self.resolve(path) else {
+            return Err(Cause::NotFound);
+        };
+        if self.is_directory(inode) {
+            return Err(Cause::IsDirectory);
+        }
+        if FILE_MAX < size {
+            return Err(Cause::FileLong);
+        }
+        if limits.next_version.is_none() {
+            return Err(Cause::VersionsSpent);
+        }
+        let found = self.present(inode);
+        let old = found.size();
+        let mut node = found.plain(self.alloc, inode);
+        node.offset = size.min(old);
+        node.rsize = old - size.min(old);
+        node.size = Some(size);
+        Ok(node)
+    }
+
+    fn decide_rename(&self, limits: Limits, from: &Path, to: &Path) -> Result<NewNode, Cause>
+        ensures { result ≡ decide_on self.now limits (Rename from.now to.now) }
+    {
+        let Some(name) = to.names().last() else {
+            return Err(Cause::RootFixed);
+        };
+        if from.names().is_empty() {
+            return Err(Cause::RootFixed);
+        }
+        let Some(parent) = self.parent_of(to.names()) else {
+            return Err(Cause::NoParent);
+        };
+        if !self.is_directory(parent) {
+            return Err(Cause::NoParent);
+        }
+        if self.resolve(to).is_some() {
+            return Err(Cause::NameTaken);
+        }
+        let Some(inode) = self.resolve(from) else {
+            return Err(Cause::NotFound);
+        };
+        let found = self.present(inode);
+        if found.kind == Kind::Directory && found.parent != parent {
+            return Err(Cause::IsDirectory);
+        }
+        if limits.next_version.is_none() {
+            return Err(Cause::VersionsSpent);
+        }
+        let mut node = found.plain(self.alloc, inode);
+        node.parent = parent;
+        node.name = Some(*name);
+        Ok(node)
+    }
+
+    fn decide_remove(&self, limits: Limits, path: &Path) -> Result<NewNode, Cause>
+        ensures { result ≡ decide_on self.now limits (Remove path.now) }
+    {
+        if path.names().is_empty() {
+            return Err(Cause::RootFixed);
+        }
+        let Some(inode) = self.resolve(path) else {
+            return Err(Cause::NotFound);
+        };
+        if self.has_names(inode) {
+            return Err(Cause::NotEmpty);
+        }
+        if limits.next_version.is_none() {
+            return Err(Cause::VersionsSpent);
+        }
+        let mut node = self.present(inode).plain(self.alloc, inode);
+        node.deleted = true;
+        node.size = None;
+        Ok(node)
+    }
+
+    fn decide_copy(
+        &self,
+        limits: Limits,
+        source: u32,
+        parent: u32,
+        name: &Name,
+        offset: u32,
+        bytes: &[u8],
+    ) -> Result<NewNode, Cause>
+        ensures decided { result ≢ Err Memory → result ≡ decide_on self.now limits (Copy source parent name.now offset bytes.now) }
+        ensures bare { length bytes.now ≡ 0 → result ≡ decide_on self.now limits (Copy source parent name.now offset bytes.now) }
+        ensures last { result ≡ Err Memory → IsOk (decide_on self.now limits (Copy source parent name.now offset bytes.now)) }
+    {
+        if (limits.data_max as usize) < bytes.len() {
+            return Err(Cause::DataLong);
+        }
+        let Some((inode, found)) = self.holder(source) else {
+            return Err(Cause::NotNeeded);
+        };
+        if !found.is_child(parent, name) || !found.is_current(offset, bytes) {
+            return Err(Cause::Stale);
+        }
+        if limits.next_version.is_none() {
+            return Err(Cause::VersionsSpent);
+        }
+        let mut node = found.plain(self.alloc, inode);
+        node.copy = true;
+        node.offset = offset;
+        node.rsize = bytes.len() as u32;
+        if !bytes.is_empty() {
+            node.bytes = Bytes::from_slice(self.alloc, bytes)?;
+        }
+        Ok(node)
+    }
+
+    /// The node of a wish, or the first cause against it, of the first twelve. `Memory` comes
+    /// only where the node carries bytes, for which a growth was refused, and nothing stands
+    /// against the wish.
+    pub fn decide(&self, limits: Limits, wish: &Wish) -> Result<NewNode, Cause>
+        ensures decided { result ≢ Err Memory → result ≡ decide_on self.now limits wish.now }
+        ensures bare { carries_bytes wish.now ≡ false → result ≡ decide_on self.now limits wish.now }
+        ensures last { result ≡ Err Memory → IsOk (decide_on self.now limits wish.now) }
+    {
+        match wish {
+            Wish::MakeDir(path) => self.decide_new(limits, Kind::Directory, path),
+            Wish::Create(path) => self.decide_new(limits, Kind::File, path),
+            Wish::Write {
+                path,
+                offset,
+                bytes,
+            } => self.decide_write(limits, path, *offset, bytes.as_slice()),
+            Wish::Truncate { path, size } => self.decide_truncate(limits, path, *size),
+            Wish::Rename { from, to } => self.decide_rename(limits, from, to),
+            Wish::Remove(path) => self.decide_remove(limits, path),
+            Wish::Copy {
+                source,
+                parent,
+                name,
+                offset,
+                bytes,
+            } => self.decide_copy(limits, *source, *parent, name, *offset, bytes.as_slice()),
+            Wish::Unmount => self.decide_unmount(limits),
+        }
+    }
+
+    fn decide_unmount(&self, limits: Limits) -> Result<NewNode, Cause>
+        ensures { result ≡ decide_on self.now limits Unmount }
+    {
+        if limits.next_version.is_none() {
+            return Err(Cause::VersionsSpent);
+        }
+        Ok(NewNode {
+            kind: Kind::Unmount,
+            deleted: false,
+            copy: false,
+            inode: 0,
+            parent: 0,
+            offset: 0,
+            rsize: 0,
+            size: None,
+            name: None,
+            bytes: Bytes::none(self.alloc),
+        })
+    }
+}

@@ -1,0 +1,32 @@
+//! What the file system knows in memory, and every decision that it takes.
+//!
+//! A `Tree` is what a list of nodes makes: for each inode its kind, parent, name and bytes, and
+//! byte by byte the version of the node that wrote it. `Tree::apply` takes in the next node,
+//! `Tree::decide` says which node a wish gets or why it gets none, and the other calls look.
+//! It stands on `jffs_node` and knows nothing of flash, sectors or threads. Each call of `Tree`
+//! is proved against the definitions in `specs/`; the laws over those stand in `laws`.
+#![tactic(auto)]
+
+mod cells;
+mod check;
+mod children;
+mod copy;
+mod decide;
+mod deciding;
+mod fits;
+mod inode;
+mod laws;
+mod look;
+mod names;
+#[cfg(test)]
+mod tests;
+mod tree;
+mod wish;
+
+pub use deciding::decided_nodes_keep_rules;
+pub use laws::{
+    bytes_come_from_origins, decisions_hold, erasing_keeps_tree, examples_are_decided,
+    tree_of_none, trees_test_as_nodes, true_copies_keep_state,
+};
+pub use tree::Tree;
+pub use wish::{Cause, Limits, NewNode, Outcome, Wish};

@@ -1,0 +1,120 @@
+//! Looks into a tree.
+
+ghost use Rattle.std.specs.Prelude.{◌≡◌, ◌==◌, ◌+◌, ◌^◌, Some, ◌-◌, ◌++◌, ◌<◌, ◌≤◌, min, length, take, drop, List, None, option_map, option_and_then, option_copied, bytes_eq, ◌&&◌, slice_index_or, unwrap_or};
+ghost use Rattle.std.specs.List.{list_any};
+ghost use Rattle.jffs_node.specs.declared.node.Node.{Node};
+ghost use Rattle.jffs_tree.specs.State.{child, resolve, resolve_from};
+ghost use Rattle.jffs_tree.specs.Origin.{tree_of, state_in, size_in, origin, newest, version_of, is_live};
+ghost use Rattle.jffs_tree.specs.After.{held_in};
+ghost use Rattle.jffs_tree.specs.Look.{kind_in, size_of, bytes_in, writers_in, parent_name_in, holds_version, IsVersionOf};
+
+use crate::children::first_named;
+use crate::inode::Inode;
+use crate::tree::Tree;
+use jffs_node::{Kind, Name, Path};
+
+pub(crate) const ROOT: u32 = 1;
+
+impl Tree {
+    pub(crate) fn inode(&self, inode: u32) -> Option<&Inode>
+        ensures { option_copied result ≡ held_in self.now inode }
+    {
+        self.inodes.get(&inode)
+    }
+
+    /// What the inode is, where it is present.
+    pub fn kind(&self, inode: u32) -> Option<Kind>
+        ensures { result ≡ kind_in self.now inode }
+    {
+        if inode == ROOT {
+            return Some(Kind::Directory);
+        }
+        self.inode(inode).map(|found| found.kind)
+    }
+
+    /// How many bytes it has; a directory has none.
+    pub fn size(&self, inode: u32) -> Option<u32>
+        ensures { result ≡ size_of self.now inode }
+    {
+        if inode == ROOT {
+            return Some(0);
+        }
+        self.inode(inode).map(|found| found.size())
+    }
+
+    /// Where it stands, and under which name; the root has neither.
+    pub fn parent_name(&self, inode: u32) -> Option<(u32, Name)>
+        ensures { result ≡ parent_name_in self.now inode }
+    {
+        self.inode(inode).map(|found| (found.parent, found.name))
+    }
+
+    /// The version of its newest node.
+    pub fn newest(&self, inode: u32) -> Option<u32>
+        ensures held { result ≡ unwrap_or (option_map (λ h. h.newest) (held_in self.now inode)) None }
+        ensures of { (past : List Node) → self.now ≡ tree_of past → result ≡ version_of (newest past inode) }
+    {
+        self.inode(inode).map(|found| found.newest)
+    }
+
+    /// The version of the node that wrote a place. Padding has none, and what lies past the end.
+    pub fn last_writer(&self, inode: u32, place: u32) -> Option<u32>
+        ensures held { result ≡ slice_index_or (writers_in self.now inode) place None }
+        ensures inside { (past : List Node) → self.now ≡ tree_of past → place < size_in past inode → result ≡ version_of (origin past inode place) }
+        ensures past_end { (past : List Node) → self.now ≡ tree_of past → size_in past inode ≤ place → result ≡ None }
+    {
+        match self.inode(inode) {
+            Some(found) => found.writer(place as usize),
+            None => None,
+        }
+    }
+
+    /// Reads bytes from a place on, as many as there are and as the slice takes.
+    pub fn read(&self, inode: u32, offset: u32, out: &mut [u8]) -> usize
+        ensures count { result ≡ min (length out.old) (length (bytes_in self.now inode) - offset) }
+        ensures read { out.new ≡ take result (drop offset (bytes_in self.now inode)) ++ drop result out.old }
+    {
+        let Some(found) = self.inode(inode) else {
+            return 0;
+        };
+        found.read(offset as usize, out)
+    }
+
+    /// Whether the inode is there and this version is live in it: that of its newest node, or
+    /// of some byte's last writer. So of a version of that inode's nodes alone it says whether
+    /// it is live in the whole tree. Takes no memory.
+    pub fn live(&self, inode: u32, version: u32) -> bool
+        ensures held { result ≡ holds_version self.now inode version }
+        ensures whole { (past : List Node) → self.now ≡ tree_of past → IsVersionOf past version inode → result ≡ is_live past version }
+    {
+        match self.inode(inode) {
+            Some(found) => found.holds(version),
+            None => false,
+        }
+    }
+
+    /// The inode of that parent and name, the smallest where there are several.
+    pub(crate) fn child(&self, parent: u32, name: &Name) -> Option<u32>
+        ensures { result ≡ child (state_in self.now) parent name.now }
+    {
+        first_named(&self.children, parent, name)
+    }
+
+    /// The inode at the end of the names.
+    pub(crate) fn follow(&self, names: &[Name]) -> Option<u32>
+        ensures { result ≡ resolve (state_in self.now) names.now }
+    {
+        let mut inode = ROOT;
+        for name in names {
+            inode = self.child(inode, name)?;
+        }
+        Some(inode)
+    }
+
+    /// The inode at a path.
+    pub fn resolve(&self, path: &Path) -> Option<u32>
+        ensures { result ≡ resolve (state_in self.now) path.now }
+    {
+        self.follow(path.names())
+    }
+}

@@ -1,0 +1,130 @@
+//! The tree.
+
+ghost use Rattle.std.specs.Prelude.{◌≡◌, ◌∷◌, [], List, Some, IsTrue, OnOk, OnErr, IfErr};
+ghost use Rattle.jffs_node.specs.declared.node.Node.{Node};
+ghost use Rattle.jffs_node.specs.Record.{is_lawful};
+ghost use Rattle.jffs_tree.specs.Origin.{tree_of};
+ghost use Rattle.jffs_tree.specs.After.{keeps_places_in, IsSmall, IsWritten, IsRemoved};
+
+use crate::children::{Place, bears};
+use crate::inode::Inode;
+use crate::wish::Cause;
+use jffs_node::{Name, Node};
+use std::alloc::{AllocError, Global};
+use std::collections::{BTreeMap, BTreeSet};
+use std::marker::Model;
+
+/// The tree that nodes make: its inodes, and for each where it stands, so that a name is found
+/// without a walk.
+#[derive(Drop)]
+pub struct Tree {
+    pub(crate) alloc: Global,
+    pub(crate) inodes: BTreeMap<u32, Inode>,
+    pub(crate) children: BTreeSet<Place>,
+}
+
+impl Model for Tree {
+    ghost use Rattle.std.specs.Prelude.{List, ℕ};
+    ghost use Rattle.jffs_tree.specs.Origin.{Held};
+
+    ghost Value = { List (ℕ × Held) };
+
+    ghost use Rattle.jffs_tree.specs.Indexed.{IsIndexed};
+
+    ghost view = { λ t. t.inodes.entries };
+
+    ghost invariant = { IsIndexed };
+}
+
+impl Tree {
+    /// The root alone. Takes no memory.
+    pub fn new(alloc: Global) -> Tree
+        ensures { result ≡ tree_of [] }
+    {
+        Tree {
+            alloc,
+            inodes: BTreeMap::new(alloc),
+            children: BTreeSet::new(alloc),
+        }
+    }
+
+    /// Takes in the next node. `Memory` where a growth was refused, and the tree is as it was.
+    /// An unmount node changes nothing. `can_apply` says whether a node meets the conditions;
+    /// those on versions and kinds are their list's matter, and not needed here.
+    pub fn apply(&mut self, node: &Node) -> Result<(), Cause>
+        requires lawful { IsTrue (is_lawful node.now) }
+        requires places { IsTrue (keeps_places_in self.old node.now) }
+        ensures ok { OnOk result ((past : List Node) → self.old ≡ tree_of past → self.new ≡ tree_of (node.now ∷ past)) }
+        ensures err { OnErr result (self.new ≡ self.old) }
+        ensures cause { IfErr result (λ cause. cause ≡ Cause.Memory) }
+    {
+        let Some(name) = node.name else {
+            return Ok(());
+        };
+        if node.deleted {
+            self.remove(node.inode);
+            return Ok(());
+        }
+        self.write(node, name)?;
+        Ok(())
+    }
+
+    /// Takes an inode away, where it is present.
+    fn remove(&mut self, inode: u32)
+        ensures { IsRemoved self.old self.new inode }
+    {
+        if let Some(old) = self.inodes.remove(&inode) {
+            self.children.remove(&(old.parent, Some(old.name), inode));
+        }
+    }
+
+    /// Writes a node that isn't deleted over its inode, present or not. The new place is entered
+    /// first and the old one left last, so that a refused growth can be taken back.
+    fn write(&mut self, node: &Node, name: Name) -> Result<(), AllocError>
+        requires named { node.now.name ≡ Some name }
+        requires small { IsSmall node.now }
+        requires places { IsTrue (keeps_places_in self.old node.now) }
+        ensures ok { OnOk result (IsWritten self.old self.new node.now) }
+        ensures err { OnErr result (self.new ≡ self.old) }
+    {
+        let old = self.parent_name(node.inode);
+        let place = (node.parent, Some(name), node.inode);
+        let is_new = self.children.insert(place)?;
+        if let Err(refused) = write_inode(self.alloc, &mut self.inodes, node, name) {
+            if is_new {
+                self.children.remove(&place);
+            }
+            return Err(refused);
+        }
+        if let Some((parent, left)) = &old {
+            let left_place = (*parent, Some(*left), node.inode);
+            if !bears(left_place, node.parent, &name) {
+                self.children.remove(&left_place);
+            }
+        }
+        Ok(())
+    }
+}
+
+/// Writes a node over its inode in a map, present or not.
+fn write_inode(
+    alloc: Global,
+    inodes: &mut BTreeMap<u32, Inode>,
+    node: &Node,
+    name: Name,
+) -> Result<(), AllocError>
+    requires named { node.now.name ≡ Some name }
+    requires small { IsSmall node.now }
+    requires places { IsTrue (keeps_places_in inodes.old.entries node.now) }
+    ensures ok { OnOk result (IsWritten inodes.old.entries inodes.new.entries node.now) }
+    ensures err { OnErr result (inodes.new.entries ≡ inodes.old.entries) }
+{
+    if let Some(inode) = inodes.get_mut(&node.inode) {
+        inode.write(node, name)?;
+        return Ok(());
+    }
+    let mut inode = Inode::empty(alloc, node, name);
+    inode.write(node, name)?;
+    inodes.insert(node.inode, inode)?;
+    Ok(())
+}

@@ -3,7 +3,7 @@
 use crate::log::{Log, Place, Tail, place_in_image};
 use crate::sector::{Ending, SectorRead, read_sector};
 use jffs_flash::{Flash, FlashFault, is_geometry};
-use jffs_node::{Kind, NoMemory, Node, Why};
+use jffs_node::{HEADER_LEN, Kind, NoMemory, Node, Why};
 use jffs_tree::{Cause, Limits, Tree};
 use std::alloc::{AllocError, Global};
 use thiserror::Error;
@@ -156,29 +156,29 @@ fn oldest(found: &Vec<SectorRead>) -> Result<usize, ScanWhy> {
     Ok(first.unwrap_or(0))
 }
 
-/// The sector that stands so many steps behind the first, where it holds records of the log.
-fn held_at(found: &Vec<SectorRead>, first: usize, step: usize) -> Option<&SectorRead> {
+/// The number of the sector that stands so many steps behind the first, cyclically.
+fn ring_sector(found: &Vec<SectorRead>, first: usize, step: usize) -> usize {
     let at = first.saturating_add(step);
-    let at = if at < found.len() {
+    if at < found.len() {
         at
     } else {
         at - found.len()
-    };
-    found.get(at).filter(|sector| !sector.erased)
+    }
+}
+
+/// The sector that stands so many steps behind the first, where it holds records of the log.
+fn held_at(found: &Vec<SectorRead>, first: usize, step: usize) -> Option<&SectorRead> {
+    found
+        .get(ring_sector(found, first, step))
+        .filter(|sector| !sector.erased)
 }
 
 /// The sector that was begun last.
 fn last_held(found: &Vec<SectorRead>, first: usize) -> Option<usize> {
     let mut last = None;
     for step in 0..found.len() {
-        let at = first.saturating_add(step);
-        let at = if at < found.len() {
-            at
-        } else {
-            at - found.len()
-        };
-        if at < found.len() && !found[at].erased {
-            last = Some(at);
+        if held_at(found, first, step).is_some() {
+            last = Some(ring_sector(found, first, step));
         }
     }
     last
@@ -269,7 +269,7 @@ fn limits_of(found: &Vec<SectorRead>, first: usize, sector_size: u32) -> Limits 
         }
     }
     Limits {
-        data_max: (sector_size / 4).saturating_sub(64),
+        data_max: (sector_size / 4).saturating_sub(HEADER_LEN as u32),
         next_inode: inode.checked_add(1),
         next_version: version.checked_add(1),
     }

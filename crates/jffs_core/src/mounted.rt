@@ -1,23 +1,51 @@
-//! A mounted device, and what it answers.
+//! A mounted device.
+
+ghost use Rattle.std.specs.Prelude.{◌≡◌, false};
+ghost use Rattle.jffs_log.specs.Book.{IsBook};
 
 use crate::answer::Answer;
 use jffs_flash::Flash;
-use jffs_line::Request;
-use jffs_log::{Log, Mounted, RECORD_MAX, Room, ScanFault, scan};
-use jffs_node::{HEADER_LEN, Kind, Node, record_len};
-use jffs_tree::{Cause, Limits, Outcome, Tree, Wish};
+use jffs_log::{Log, Mounted, ScanFault, scan};
+use jffs_tree::{Limits, Tree};
 use std::alloc::Global;
+use std::marker::Model;
 
 /// A mounted device: its log, the tree that the log makes, and the answers since the mount.
-pub struct Core<F> {
-    log: Log<F>,
-    tree: Tree,
-    limits: Limits,
-    /// Whether the log ends with an unmount node.
-    clean: bool,
-    failed: bool,
-    closed: bool,
-    answers: Vec<Answer>,
+#[derive(Drop)]
+pub struct Core<F: Flash> {
+    pub(crate) alloc: Global,
+    pub(crate) log: Log<F>,
+    pub(crate) tree: Tree,
+    /// The longest data of a node, and the numbers that come next. None is given twice.
+    pub(crate) limits: Limits,
+    /// Whether the log ends with an unmount node, and nothing was programmed behind it.
+    pub(crate) clean: bool,
+    /// Whether the device failed. The log's book tells of nothing from then on.
+    pub(crate) failed: bool,
+    pub(crate) closed: bool,
+    pub(crate) answers: Vec<Answer>,
+}
+
+impl<F: Flash> Model for Core<F> {
+    ghost use Rattle.jffs_core.specs.Standing.{Standing, HasBook};
+    ghost use Rattle.std.specs.Prelude.{vec_capacity};
+
+    ghost Value = { Standing };
+
+    ghost view = { λ c. record {
+      image = F.image c.log.flash;
+      faults = F.fault_count c.log.flash;
+      book = c.log.book;
+      tree = c.tree;
+      limits = c.limits;
+      clean = c.clean;
+      failed = c.failed;
+      closed = c.closed;
+      answers = c.answers.items;
+      places = vec_capacity c.answers;
+    } };
+
+    ghost invariant = { λ c. HasBook c.failed (F.sector_count c.log.flash) (F.sector_len c.log.flash) (F.image c.log.flash) c.log.book };
 }
 
 impl<F: Flash> Core<F> {
@@ -30,6 +58,7 @@ impl<F: Flash> Core<F> {
             limits,
         } = scan(alloc, flash)?;
         Ok(Core {
+            alloc,
             log,
             tree,
             limits,
@@ -41,33 +70,66 @@ impl<F: Flash> Core<F> {
     }
 
     /// Whether the log ends with an unmount node, and nothing was programmed behind it.
-    pub fn clean(&self) -> bool {
+    pub fn clean(&self) -> bool
+        ensures { result ≡ self.now.clean }
+    {
         self.clean
     }
 
     /// Whether an Unmount was answered Closed.
-    pub fn closed(&self) -> bool {
+    pub fn closed(&self) -> bool
+        ensures { result ≡ self.now.closed }
+    {
         self.closed
     }
 
     /// Whether the device failed; from then on each answer is Failed.
-    pub fn failed(&self) -> bool {
+    pub fn failed(&self) -> bool
+        ensures { result ≡ self.now.failed }
+    {
         self.failed
     }
 
     /// The answers since the mount, in order.
-    pub fn answers(&self) -> &[Answer] {
+    pub fn answers(&self) -> &[Answer]
+        ensures { result.now ≡ self.now.answers }
+    {
         &self.answers
     }
 
     /// The tree that all nodes of the log make.
-    pub fn tree(&self) -> &Tree {
+    pub fn tree(&self) -> &Tree
+        ensures { result.now ≡ self.now.tree }
+    {
         &self.tree
     }
 
+    /// The log.
+    pub fn log(&self) -> &Log<F>
+        ensures image { F.image result.now.flash ≡ self.now.image }
+        ensures book { result.now.book ≡ self.now.book }
+        ensures standing { self.now.failed ≡ false → IsBook (F.image result.now.flash) result.now.book }
+    {
+        &self.log
+    }
+
+    /// Gives the device back.
+    pub fn into_flash(self) -> F
+        ensures image { F.image result ≡ self.image }
+        ensures faults { F.fault_count result ≡ self.faults }
+    {
+        let (flash, _) = self.into_parts();
+        flash
+    }
+
     /// Gives the device and the answers back.
-    pub fn into_parts(self) -> (F, Vec<Answer>) {
+    pub fn into_parts(self) -> (F, Vec<Answer>)
+        ensures image { F.image result.0 ≡ self.image }
+        ensures faults { F.fault_count result.0 ≡ self.faults }
+        ensures answers { result.1.items ≡ self.answers }
+    {
         let Core {
+            alloc: _,
             log,
             tree: _,
             limits: _,
@@ -78,84 +140,4 @@ impl<F: Flash> Core<F> {
         } = self;
         (log.into_flash(), answers)
     }
-
-    /// Makes the place for one answer. Memory: nothing is changed.
-    pub fn reserve_answer(&mut self) -> Result<(), Cause> {
-        self.answers.reserve(1)?;
-        Ok(())
-    }
-
-    /// Answers a request and keeps the answer, whose place is to be reserved.
-    pub fn answer(&mut self, request: Request) -> Outcome {
-        let writer = request.writer;
-        let seq = request.seq;
-        let outcome = match self.outcome(request) {
-            Ok(outcome) => outcome,
-            Err(cause) => Outcome::Refused(cause),
-        };
-        self.failed |= outcome == Outcome::Refused(Cause::Device);
-        self.closed |= outcome == Outcome::Closed;
-        let _ = self.answers.push(Answer {
-            writer,
-            seq,
-            outcome,
-        });
-        outcome
-    }
-
-    /// Decides and acts.
-    fn outcome(&mut self, request: Request) -> Result<Outcome, Cause> {
-        if self.failed {
-            return Err(Cause::Failed);
-        }
-        let unmounts = matches!(&request.wish, Wish::Unmount);
-        if unmounts && self.clean {
-            return Ok(Outcome::Closed);
-        }
-        let new = self.tree.decide(self.limits, &request.wish)?;
-        let version = self.limits.next_version.ok_or(Cause::VersionsSpent)?;
-        let node = new.with(version, request.writer, request.seq);
-        let room = if unmounts { Room::Unmount } else { Room::Fresh };
-        self.take_in(room, &node)?;
-        Ok(if unmounts {
-            Outcome::Closed
-        } else if node.copy {
-            Outcome::Copied { version }
-        } else {
-            Outcome::Appended {
-                inode: node.inode,
-                version,
-            }
-        })
-    }
-
-    /// Changes the tree and then appends the record.
-    fn take_in(&mut self, room: Room, node: &Node) -> Result<(), Cause> {
-        // That a decided node may be applied, and is no longer than a record, isn't proved yet:
-        // these two tests stand for it.
-        if !self.tree.can_apply(node) {
-            return Err(Cause::NoSpace);
-        }
-        if node.bytes.as_slice().len() > DATA_MAX {
-            return Err(Cause::NoSpace);
-        }
-        if !self.log.room(room, record_len(node)) {
-            return Err(Cause::NoSpace);
-        }
-        self.tree.apply(node)?;
-        self.log.append(room, node)?;
-        self.limits.next_version = node.version.checked_add(1);
-        if self
-            .limits
-            .next_inode
-            .is_some_and(|next| node.inode >= next)
-        {
-            self.limits.next_inode = node.inode.checked_add(1);
-        }
-        self.clean = node.kind == Kind::Unmount;
-        Ok(())
-    }
 }
-
-/// The most data of a record in the largest sector, in bytes.
-const DATA_MAX: usize = RECORD_MAX - HEADER_LEN;

@@ -1,14 +1,35 @@
-//! The log on flash: what a scan of an image finds, and how a node is appended.
+//! The log on flash: what a scan of an image finds, how a node is appended, and how the oldest sector is erased.
 //!
 //! It stands on `jffs_flash` for the device, on `jffs_node` for records, and on `jffs_tree`
-//! for the tree that the log makes. Proved here so far: that each call is safe and returns.
+//! for the tree that the log makes.
 #![tactic(auto)]
 
+mod book;
+mod erasing;
+mod examples;
+mod finding;
+mod folding;
+mod laws;
 mod log;
+mod oldest;
 mod room;
 mod scanning;
 mod sector;
+mod weighing;
+mod writing;
 
-pub use log::{Log, RECORD_MAX};
+pub use book::{Book, Kept};
+pub use examples::{example_is_cleaned, examples_are_scanned};
+pub use laws::{
+    cleaning_keeps_room, copies_take_over, full_logs_are_heavy, histories_stay_lawful,
+    mounts_are_sound, puts_keep_room, weight_is_kept,
+};
+pub use log::Log;
 pub use room::Room;
 pub use scanning::{Mounted, ScanFault, ScanWhy, scan};
+pub use writing::RECORD_MAX;
+
+#[cfg(test)]
+mod scan_tests;
+#[cfg(test)]
+mod tests;

@@ -1,5 +1,8 @@
 //! Which record may stand where.
 
+ghost use Rattle.std.specs.Prelude.{◌≡◌};
+ghost use Rattle.jffs_log.specs.Room.{tail_need as need_of_tail, erased_need as need_of_erased};
+
 use jffs_node::HEADER_LEN;
 
 /// Whose record asks for room.
@@ -15,7 +18,9 @@ pub enum Room {
 
 impl Room {
     /// How many sectors must be erased for the record to open the next one.
-    pub(crate) fn erased_need(self) -> u32 {
+    pub(crate) fn erased_need(self) -> u32
+        ensures { result ≡ need_of_erased self }
+    {
         match self {
             Room::Fresh => 4,
             Room::Copy | Room::Unmount => 2,
@@ -24,7 +29,9 @@ impl Room {
 
     /// How many bytes must be free in the tail for a record of this length to stand there.
     /// All but an unmount node leave room for an unmount node behind them.
-    pub(crate) fn tail_need(self, len: u32) -> u64 {
+    pub(crate) fn tail_need(self, len: u32) -> u64
+        ensures { result ≡ need_of_tail self len }
+    {
         match self {
             Room::Unmount => HEADER_LEN as u64,
             Room::Fresh | Room::Copy => len as u64 + HEADER_LEN as u64,

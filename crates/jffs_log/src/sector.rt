@@ -1,57 +1,159 @@
 //! What a sector reads as.
 
-use crate::log::RECORD_MAX;
+ghost use Rattle.std.specs.Prelude.{◌≡◌, ◌<◌, ◌≤◌, ◌+◌, ◌^◌, ◌++◌, ◌==◌, List, length, map, drop, sum_by, IsTrue, IfOk, OnOk};
+ghost use Rattle.std.specs.List.{AllByRecursion, list_all};
+ghost use Rattle.jffs_node.specs.Record.{is_lawful, record_len as length_of};
+ghost use Rattle.jffs_node.specs.Reading.{is_erased as erased_test};
+ghost use Rattle.jffs_log.specs.Image.{sector_of, records_in, placed_from};
+ghost use Rattle.jffs_log.specs.Book.{kept};
+ghost use Rattle.jffs_log.specs.ScanRead.{IsSpelled};
+
+use crate::book::Kept;
 use jffs_flash::ERASED_BYTE;
-use jffs_node::{NoMemory, Node, Read, Why, decode};
-use std::alloc::Global;
+use jffs_node::{NoMemory, Node, Read, decode, record_len};
+use std::alloc::{AllocError, Global};
+use std::collections::VecDeque;
+use std::marker::Model;
 
-/// How the reading of a sector ended.
-#[derive(Clone, Copy, Debug, PartialEq, Eq)]
-pub(crate) enum Ending {
-    /// All that follows the records is erased.
-    Free,
-    /// An interrupted write follows the records.
-    Torn,
-    /// A closed record that breaks a rule follows the records.
-    Bad(Why),
-}
+/// A sector takes at least so many records: none is longer than this part of it.
+pub(crate) const RECORDS_PER_SECTOR: u32 = 4;
 
-/// The records of a sector, one after another, and what follows them.
+/// A sector with its number: the nodes of its records, one after another, and what follows them.
 #[derive(Drop)]
 pub(crate) struct SectorRead {
-    pub(crate) nodes: Vec<Node>,
+    number: u32,
+    nodes: Vec<Node>,
     /// The bytes that the records take.
-    pub(crate) used: u32,
-    pub(crate) ending: Ending,
+    used: u32,
+    /// What follows the records; never a closed record.
+    ending: Read,
     /// Whether the whole sector is erased.
-    pub(crate) erased: bool,
+    erased: bool,
+}
+
+impl Model for SectorRead {
+    ghost use Rattle.std.specs.Prelude.{ℕ};
+    ghost use Rattle.jffs_log.specs.Image.{Sector};
+    ghost use Rattle.jffs_log.specs.ScanRead.{sector_read, IsRead};
+
+    ghost Value = { ℕ × Sector };
+
+    ghost view = { sector_read };
+
+    ghost invariant = { IsRead };
+}
+
+impl SectorRead {
+    pub(crate) fn number(&self) -> u32
+        ensures { result ≡ self.now.0 }
+    {
+        self.number
+    }
+
+    pub(crate) fn is_erased(&self) -> bool
+        ensures { result ≡ self.now.1.erased }
+    {
+        self.erased
+    }
+
+    pub(crate) fn nodes(&self) -> &[Node]
+        ensures value { result.now ≡ self.now.1.reading.nodes }
+        ensures lawful { AllByRecursion (λ n. IsTrue (is_lawful n)) result.now }
+    {
+        &self.nodes
+    }
+
+    /// The bytes that the records take.
+    pub(crate) fn used(&self) -> u32
+        ensures { result ≡ sum_by length_of self.now.1.reading.nodes }
+    {
+        self.used
+    }
+
+    /// What follows the records; never a closed record.
+    pub(crate) fn ending(&self) -> &Read
+        ensures { result.now ≡ self.now.1.reading.ending }
+    {
+        &self.ending
+    }
+
+    /// Takes the nodes out.
+    pub(crate) fn into_nodes(self) -> Vec<Node>
+        ensures value { result.items ≡ self.1.reading.nodes }
+        ensures lawful { AllByRecursion (λ n. IsTrue (is_lawful n)) result.items }
+    {
+        let SectorRead {
+            number: _,
+            nodes,
+            used: _,
+            ending: _,
+            erased: _,
+        } = self;
+        nodes
+    }
+
+    /// Adds what is kept of the records. Where a growth is refused, some of them are added.
+    pub(crate) fn list_records(&self, records: &mut VecDeque<Kept>) -> Result<(), AllocError>
+        ensures { OnOk result (records.new.items ≡ records.old.items ++ map kept (records_in self.now)) }
+    {
+        // Brings in that the used bytes fit.
+        let _used = self.used;
+        list_nodes(self.number, &self.nodes, records)
+    }
+}
+
+/// Adds what is kept of the records of these nodes, which stand at the start of a sector.
+fn list_nodes(sector: u32, nodes: &[Node], records: &mut VecDeque<Kept>) -> Result<(), AllocError>
+    requires { sum_by length_of nodes.now < 2 ^ 32 }
+    ensures { OnOk result (records.new.items ≡ records.old.items ++ map kept (placed_from sector 0 nodes.now)) }
+{
+    let mut place = 0u32;
+    for node in nodes {
+        let length = record_len(node);
+        records.push_back(Kept {
+            version: node.version,
+            inode: node.inode,
+            length,
+            sector,
+            place,
+        })?;
+        place += length;
+    }
+    Ok(())
 }
 
 /// Reads a sector from its start, record by record, as long as they are closed and lawful.
-pub(crate) fn read_sector(alloc: Global, sector: &[u8]) -> Result<SectorRead, NoMemory> {
-    let record_max = (sector.len() / 4).min(RECORD_MAX) as u32;
+/// `NoMemory` where a growth was refused.
+pub(crate) fn read_sector(alloc: Global, number: u32, sector: &[u8]) -> Result<SectorRead, NoMemory>
+    requires { length sector.now < 2 ^ 32 }
+    ensures read { IfOk result (λ s. s ≡ (number, sector_of sector.now)) }
+    ensures spelled { IfOk result (λ s. IsSpelled sector.now) }
+{
+    let record_max = sector.len() as u32 / RECORDS_PER_SECTOR;
     let mut nodes = Vec::new(alloc);
     let mut used = 0u32;
-    for _ in 0..sector.len() {
-        let rest = sector.get(used as usize..).unwrap_or(&[]);
-        match decode(alloc, rest, record_max)? {
+    loop {
+        match decode(alloc, &sector[used as usize..], record_max)? {
             Read::Closed(node, len) => {
                 nodes.push(node)?;
-                used = used.saturating_add(len);
+                used += len;
             }
-            Read::Free => return Ok(ended(nodes, used, Ending::Free, sector)),
-            Read::Torn => return Ok(ended(nodes, used, Ending::Torn, sector)),
-            Read::Bad(why) => return Ok(ended(nodes, used, Ending::Bad(why), sector)),
+            ending => {
+                return Ok(SectorRead {
+                    number,
+                    nodes,
+                    used,
+                    ending,
+                    erased: is_erased(sector),
+                });
+            }
         }
     }
-    Ok(ended(nodes, used, Ending::Torn, sector))
 }
 
-fn ended(nodes: Vec<Node>, used: u32, ending: Ending, sector: &[u8]) -> SectorRead {
-    SectorRead {
-        nodes,
-        used,
-        ending,
-        erased: sector.iter().all(|byte| *byte == ERASED_BYTE),
-    }
+/// Whether all bytes are as an erase left them.
+fn is_erased(bytes: &[u8]) -> bool
+    ensures { result ≡ erased_test bytes.now }
+{
+    bytes.iter().all(|byte| *byte == ERASED_BYTE)
 }

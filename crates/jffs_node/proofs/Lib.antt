@@ -5,3 +5,4 @@ pub mod Names
 pub mod Rules
 pub mod Decoded
 pub mod Pieces
+pub mod Fitting

@@ -1,12 +1,13 @@
 -- The pieces of a text between its slashes, and the answer that they make.
-use Rattle.std.proofs.Common.{◌≡◌, ℕ, ◌+◌, ◌-◌, ◌<◌, ◌≤◌, Bool, cond, not, ◌||◌, eqb, ltb, List, [], ◌∷◌, ◌++◌, length, take, drop, Option, Some, None, Result, Ok, Err, refl, sym, ap, ◌∙◌, ⊎_elim, append_assoc, arith, length-append, length-drop}
-use Rattle.std.specs.List.{slice_split, position, position_or_len, onto_first}
-use Rattle.std.proofs.lemmas.Bool.{cases_Bool, ltb-true, ltb-false}
+use Rattle.std.proofs.Common.{◌≡◌, ℕ, zero, suc, ◌+◌, ◌-◌, ◌<◌, ◌≤◌, Bool, true, false, cond, not, ◌&&◌, ◌||◌, eqb, leb, ltb, IsTrue, List, [], ◌∷◌, ◌++◌, length, take, drop, Option, Some, None, Result, Ok, Err, refl, sym, ap, ◌∙◌, ⊎_elim, append_assoc, arith, length-append, length-drop}
+use Rattle.std.specs.List.{AllByRecursion, list_all, slice_split, position, position_or_len, onto_first}
+use Rattle.std.proofs.lemmas.Bool.{cases_Bool, and_from, le-leb, ltb-true, ltb-false}
 use Rattle.std.proofs.lemmas.List.{take_all}
 use Rattle.std.proofs.lemmas.List.Splits.{slice_split_first, slice_split-cons_no}
 use Rattle.jffs_node.specs.declared.path.PathFault.{PathFault}
-use Rattle.jffs_node.specs.declared.path.PathFault.TheVariants.{Deep}
-use Rattle.jffs_node.specs.Path.{name_fault, names_fault, or_else, unless_fault, answer_after, named, unless_bad}
+use Rattle.jffs_node.specs.declared.path.PathFault.TheVariants.{NameEmpty, NameLong, NameByte, Deep}
+use Rattle.jffs_node.specs.Name.{is_name, is_name_byte}
+use Rattle.jffs_node.specs.Path.{IsPath, name_fault, names_fault, or_else, unless_fault, answer_after, named, unless_bad}
 
 -- where a slash was looked for
 found_some : (k n e : ℕ) → cond (ltb k n) (Some k) None ≡ Some e → (k < n) × (k ≡ e)
@@ -73,3 +74,31 @@ read_of bytes name (Some fault) h = absurd (name_no_fault name fault h)
 
 pub named_read : (bytes name : List ℕ) → Ok name ≡ named bytes → (name_fault bytes ≡ None) × (name ≡ bytes)
 named_read bytes name h = read_of bytes name (name_fault bytes) h
+
+-- Bytes without a fault are a name.
+no_fault : (empty long bytes : Bool) → cond empty (Some NameEmpty) (cond long (Some NameLong) (cond bytes None (Some NameByte))) ≡ None → (empty ≡ false) × (long ≡ false) × (bytes ≡ true)
+no_fault true long bytes h = cc
+no_fault false true bytes h = cc
+no_fault false false true h = (refl, refl, refl)
+no_fault false false false h = cc
+
+not_empty : (n : ℕ) → eqb n 0 ≡ false → 1 ≤ n
+not_empty zero h = cc
+not_empty (suc n) h = omega arith
+
+named_well : (name : List ℕ) → name_fault name ≡ None → is_name name ≡ true
+named_well name h =
+    let tests = no_fault (eqb (length name) 0) (ltb 20 (length name)) (list_all is_name_byte name) h in
+    and_from (leb 1 (length name) && leb (length name) 20) (list_all is_name_byte name)
+    (and_from (leb 1 (length name)) (leb (length name) 20) (le-leb 1 (length name) (not_empty (length name) tests.0)) (le-leb (length name) 20 (ltb-false 20 (length name) tests.1)))
+    tests.2
+
+-- a path of one name more
+pub path_more : (names : List (List ℕ)) (name : List ℕ) → IsPath names → length names < 8 → name_fault name ≡ None → IsPath (names ++ name ∷ [])
+path_more names name is few h =
+    let l = length-append names (name ∷ []) in
+    record { short = omega arith; each = each_more names is.each }
+  where
+    each_more : (xs : List (List ℕ)) → AllByRecursion (λ n. IsTrue (is_name n)) xs → AllByRecursion (λ n. IsTrue (is_name n)) (xs ++ name ∷ [])
+    each_more [] a = (named_well name h, tt)
+    each_more (x ∷ xs) a = (a.0, each_more xs a.1)

@@ -1,9 +1,9 @@
 -- The grammar of paths, and the first fault of a text that is none.
-use Rattle.std.specs.Prelude.{ℕ, ◌+◌, Bool, ◌||◌, ◌==◌, nat_lt, List, [], ◌∷◌, ◌++◌, length, Option, Some, None, Result, Ok, Err, if◌then◌else◌, flat_map}
-use Rattle.std.specs.List.{list_all, slice_split}
+use Rattle.std.specs.Prelude.{ℕ, ◌+◌, ◌≤◌, Bool, ◌||◌, ◌==◌, nat_lt, List, [], ◌∷◌, ◌++◌, length, Option, Some, None, Result, Ok, Err, if◌then◌else◌, flat_map, IsTrue}
+use Rattle.std.specs.List.{AllByRecursion, list_all, slice_split}
 use Rattle.jffs_node.specs.declared.path.PathFault.{PathFault}
 use Rattle.jffs_node.specs.declared.path.PathFault.TheVariants.{NoSlash, NameEmpty, NameLong, NameByte, Deep}
-use Rattle.jffs_node.specs.Name.{is_name_byte}
+use Rattle.jffs_node.specs.Name.{is_name, is_name_byte}
 
 -- what stands between the slashes after the first; `/` alone is the root
 abbrev pub names_in : List ℕ → List (List ℕ)
@@ -31,6 +31,11 @@ unless_fault names (Some fault) = Err fault
 
 abbrev pub checked_names : List (List ℕ) → Result (List (List ℕ)) PathFault
 checked_names names = unless_fault names (or_else (names_fault names) (if nat_lt 8 (length names) then Some Deep else None))
+
+-- at most eight names
+pub record IsPath (names : List (List ℕ)) : Type 0 where
+  pub short : length names ≤ 8
+  pub each : AllByRecursion (λ name. IsTrue (is_name name)) names
 
 -- the names of a path, or its first fault
 abbrev pub path_of : List ℕ → Result (List (List ℕ)) PathFault

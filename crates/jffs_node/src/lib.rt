@@ -7,6 +7,7 @@
 mod bytes;
 mod decoding;
 mod header;
+mod lawful;
 mod layout;
 mod name;
 mod node;
@@ -21,6 +22,7 @@ ghost use Rattle.jffs_node.specs.Laws.{RecordsAreFound, FoundAreRecords};
 
 pub use bytes::Bytes;
 pub use decoding::decode;
+pub use lawful::is_lawful;
 pub use layout::{ERASED, GATE_AT, GATE_CLOSED, GATE_OPEN, HEADER_LEN, RECORD_ALIGN};
 pub use name::{NAME_MAX, Name};
 pub use node::{FILE_MAX, FIRST_INODE, Kind, Node, ROOT_INODE};

@@ -33,7 +33,7 @@ pub(crate) fn check_numbers(
 }
 
 /// Whether a node's numbers suit each other and the amount of its data, which need not be there yet.
-fn numbers_hold(node: &Node, amount: u32) -> bool
+pub(crate) fn numbers_hold(node: &Node, amount: u32) -> bool
     ensures { result ≡ numbers_test node.now amount }
 {
     node.version >= 1

@@ -2,7 +2,7 @@
 
 ghost use Rattle.std.specs.Prelude.{◌≡◌, ◌≢◌, ◌<◌, ◌==◌, ◌∷◌, Err, Some, position};
 ghost use Rattle.std.specs.Option.{option_copied};
-ghost use Rattle.jffs_node.specs.Path.{path_of, named, pieces_of, left_len};
+ghost use Rattle.jffs_node.specs.Path.{IsPath, path_of, named, pieces_of, left_len};
 
 use crate::name::{NAME_MAX, Name};
 use std::alloc::{AllocError, AllocFailed, Global};
@@ -26,7 +26,11 @@ impl Model for Path {
 
     ghost Value = { List (List ℕ) };
 
+    ghost use Rattle.jffs_node.specs.Path.{IsPath};
+
     ghost view = { λ a. a.names.items };
+
+    ghost invariant = { λ a. IsPath a.names.items };
 }
 
 /// Why a text is no path. Where it has several faults, this is the first in this order: no slash at its start, then
@@ -96,7 +100,8 @@ impl Path {
 
     /// The names from the root on.
     pub fn names(&self) -> &[Name]
-        ensures { result.now ≡ self.now }
+        ensures value { result.now ≡ self.now }
+        ensures lawful { IsPath self.now }
     {
         self.names.as_slice()
     }

@@ -1,5 +1,5 @@
--- What a call of `apply` leaves is the tree of the nodes and that one.
-use Rattle.std.proofs.Common.{◌≡◌, ℕ, ◌+◌, ◌≤◌, Bool, true, false, cond, not, ◌&&◌, eqb, leb, T, List, ◌∷◌, Option, Some, None, refl, sym, ap, subst, ◌∙◌, arith}
+-- What a call of `apply` leaves is the tree after the node.
+use Rattle.std.proofs.Common.{◌≡◌, ℕ, ◌+◌, ◌≤◌, Bool, true, false, cond, not, ◌&&◌, eqb, leb, List, ◌∷◌, Option, Some, None, refl, sym, ap, ◌∙◌, arith}
 use Rattle.std.specs.Option.{option_map_or, unwrap_or}
 use Rattle.std.proofs.lemmas.Bool.{and_parts, leb-true, eqb-true}
 use Rattle.jffs_node.specs.declared.node.Node.{Node}
@@ -7,8 +7,8 @@ use Rattle.jffs_node.specs.declared.node.Kind.TheVariants.{File, Directory, Unmo
 use Rattle.jffs_node.specs.Name.{is_name}
 use Rattle.jffs_node.specs.Record.{dsize, file_max, is_unmount, is_lawful, fits_fields, suits_kind, numbers_hold, kind_numbers, has_no_range}
 use Rattle.jffs_tree.specs.Origin.{Tree, tree_of}
-use Rattle.jffs_tree.specs.After.{held_in, held_after, found_after, IsSmall, IsWritten, IsRemoved}
-use Rattle.jffs_tree.proofs.Grown.{grown_tree, sorted-tree}
+use Rattle.jffs_tree.specs.After.{without_inode, put_node, tree_after, IsSmall}
+use Rattle.jffs_tree.proofs.Grown.{tree_steps}
 
 -- What a lawful node keeps.
 suits : (n : Node) → is_lawful n ≡ true → suits_kind n ≡ true
@@ -61,20 +61,22 @@ small n h = record {
   size = no_size n n.size (and_parts _ _ (and_parts (fits_fields n && suits_kind n) (numbers_hold n (dsize n)) h).1).1;
 }
 
-module _ (n : Node) (past : List Node) (tree : Tree) (is : tree ≡ tree_of past) where
-  pub unmounted : is_unmount n.kind ≡ true → tree ≡ tree_of (n ∷ past)
-  unmounted u = is ∙ grown_tree n past (tree_of past) (sorted-tree past)
-      (λ i. sym (ap (λ b. cond (not b && eqb n.inode i) (cond n.deleted None (Some (held_after n (held_in (tree_of past) i)))) (held_in (tree_of past) i)) u))
+-- By what the node is, the tree after it.
+module _ (n : Node) (tree : Tree) where
+  pub unmounted : is_unmount n.kind ≡ true → tree ≡ tree_after tree n
+  unmounted u = sym (ap (λ b. cond b tree (cond n.deleted (without_inode tree n.inode) (put_node tree n))) u)
 
-  shown : (i : ℕ) (d : Bool) → is_unmount n.kind ≡ false → n.deleted ≡ d
-      → found_after (tree_of past) n i ≡ cond (eqb n.inode i) (cond d None (Some (held_after n (held_in tree i)))) (held_in tree i)
-  shown i d u e =
-      ap (λ b. cond (not b && eqb n.inode i) (cond n.deleted None (Some (held_after n (held_in (tree_of past) i)))) (held_in (tree_of past) i)) u
-      ∙ ap (λ b. cond (eqb n.inode i) (cond b None (Some (held_after n (held_in (tree_of past) i)))) (held_in (tree_of past) i)) e
-      ∙ ap (λ t. cond (eqb n.inode i) (cond d None (Some (held_after n (held_in t i)))) (held_in t i)) (sym is)
+  stands : is_unmount n.kind ≡ false → (d : Bool) → n.deleted ≡ d → cond d (without_inode tree n.inode) (put_node tree n) ≡ tree_after tree n
+  stands u d e = sym (
+      ap (λ b. cond b tree (cond n.deleted (without_inode tree n.inode) (put_node tree n))) u
+      ∙ ap (λ b. cond b (without_inode tree n.inode) (put_node tree n)) e)
 
-  pub grown : (new : Tree) → is_unmount n.kind ≡ false → n.deleted ≡ false → IsWritten tree new n → new ≡ tree_of (n ∷ past)
-  grown new u d w = grown_tree n past new (subst T (sym w.ordered) tt) (λ i. w.found i ∙ sym (shown i false u d))
+  pub removed : is_unmount n.kind ≡ false → n.deleted ≡ true → without_inode tree n.inode ≡ tree_after tree n
+  removed u d = stands u true d
 
-  pub removed : (new : Tree) → is_unmount n.kind ≡ false → n.deleted ≡ true → IsRemoved tree new n.inode → new ≡ tree_of (n ∷ past)
-  removed new u d w = grown_tree n past new (subst T (sym w.ordered) tt) (λ i. w.found i ∙ sym (shown i true u d))
+  pub grown : is_unmount n.kind ≡ false → n.deleted ≡ false → put_node tree n ≡ tree_after tree n
+  grown u d = stands u false d
+
+-- A tree of nodes is then the tree of the nodes and that one.
+pub stepped : (n : Node) (old new : Tree) → new ≡ tree_after old n → (past : List Node) → old ≡ tree_of past → new ≡ tree_of (n ∷ past)
+stepped n old new after past is = after ∙ ap (λ t. tree_after t n) is ∙ tree_steps past n

@@ -16,7 +16,7 @@ use Rattle.jffs_tree.specs.Decide.{plain, write_node, truncate_node, copy_node, 
 use Rattle.jffs_tree.specs.Deciding.{IsLawfulPast, AreNumbers, IsNewInode}
 use Rattle.jffs_tree.proofs.Pointwise.{at-state}
 use Rattle.jffs_tree.proofs.Steps.{entry-other}
-use Rattle.jffs_tree.proofs.Tested.{small_bytes}
+use Rattle.jffs_node.proofs.Fitting.{small_bytes}
 use Rattle.jffs_tree.proofs.States.{none_at}
 use Rattle.jffs_tree.proofs.Kept.{IsOrderly, directory_there, which_directory, one_less}
 use Rattle.jffs_tree.proofs.Resolving.{no_child}

@@ -19,9 +19,10 @@ use Rattle.jffs_tree.specs.State.{Entry, at, resolve, is_directory_in, state_of_
 use Rattle.jffs_tree.specs.Origin.{Held, entry, holder, tree_of}
 use Rattle.jffs_tree.specs.Check.{each_fits, check}
 use Rattle.jffs_tree.specs.Decide.{unless, is_root, last_name, parent_in, has_parent, is_there, inode_at, is_empty, nobody, entry_of, plain, write_node, truncate_node, copy_node, unmount_node, is_current, held_entry, held_inode, decide_copy, decide_new, decide, with}
-use Rattle.jffs_tree.specs.Deciding.{IsLawfulPast, AreNumbers, IsNewInode, AreLimitsOf, IsPath, IsWish, DecidedNodesKeepRules, CleaningCopiesKeepRules}
+use Rattle.jffs_node.specs.Path.{IsPath}
+use Rattle.jffs_tree.specs.Deciding.{IsLawfulPast, AreNumbers, IsNewInode, AreLimitsOf, IsWish, DecidedNodesKeepRules, CleaningCopiesKeepRules}
 use Rattle.jffs_tree.proofs.Pointwise.{at-state, sorted-state}
-use Rattle.jffs_tree.proofs.Tested.{small_bytes}
+use Rattle.jffs_node.proofs.Fitting.{small_bytes}
 use Rattle.jffs_tree.proofs.There.{resolved_there}
 use Rattle.jffs_tree.proofs.Copies.{not_true, same_bytes, the_holder, holder_is_there, same_front, low_min}
 use Rattle.jffs_tree.proofs.Resolving.{led_within, led_to_last, the_parent, the_inode, nothing_there}
@@ -122,11 +123,11 @@ module _ (past : List Node) (limits : Limits) (version writer seq : ℕ) (before
       let p = the_parent (state_of_past past) path parent in
       let some : length path ≡ 0 → ⊥ = eqb-false (length path) 0 root in
       let cut = length-take (length path - 1) path in
-      let most = names.0 in
+      let most = names.short in
       record {
         directory = p.1;
         within = led_within (state_of_past past) (sorted-state past) (take (length path - 1) path) 0 7 1 (unwrap_or (parent_in (state_of_past past) path) 0) (omega arith) refl p.0;
-        lawful = last_of path (length path - 1) (omega arith) names.1;
+        lawful = last_of path (length path - 1) (omega arith) names.each;
         free = sym (led_to_last (state_of_past past) path (unwrap_or (parent_in (state_of_past past) path) 0) root p.0) ∙ nothing_there (state_of_past past) path free;
       }
 

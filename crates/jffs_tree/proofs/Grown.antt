@@ -10,13 +10,17 @@ use Rattle.std.proofs.lemmas.Bool.{cases_lt, cases_Bool, eqb-true}
 use Rattle.std.proofs.lemmas.List.{ext_get_or, get_or_past, length-replicate, get_or-replicate}
 use Rattle.std.proofs.lemmas.List.FromFn.{length-map-range_with_len, get_or-map-range_with_len}
 use Rattle.jffs_node.specs.declared.node.Node.{Node}
-use Rattle.jffs_node.specs.Record.{dsize}
+use Rattle.jffs_node.specs.Record.{dsize, is_unmount}
 use Rattle.jffs_tree.specs.State.{Entry, State, at, written, bytes_of, state_of_past}
 use Rattle.jffs_tree.specs.Origin.{Held, Tree, concerns, entry, size_in, place_before, origin, held, writers_of, version_of, has_size, tree_of}
-use Rattle.jffs_tree.specs.After.{spliced_with, held_in, writers_after, held_after, found_after}
-use Rattle.jffs_tree.proofs.Pointwise.{at-state, sorted-state}
+use Rattle.jffs_tree.specs.After.{spliced_with, held_in, writers_after, held_after, tree_after}
+use Rattle.jffs_tree.proofs.Pointwise.{find-step, sorted-step, at-state, sorted-state}
 use Rattle.jffs_tree.proofs.Steps.{entry-other, entry-deleted, entry-written, newest-other, newest-written, origin-other, origin-written, origin-moved, origin-padding, where_is, Inside, Outside, rewritten}
 use Rattle.jffs_tree.proofs.Places.{same_length, read_sized, read_before, read_written, read_after}
+
+-- what is held of an inode, after the node
+abbrev found_after : Tree → Node → ℕ → Option Held
+found_after tree n i = cond (concerns i n) (cond n.deleted None (Some (held_after n (held_in tree i)))) (held_in tree i)
 
 -- what a tree holds at an inode
 abbrev pub held_at : List Node → ℕ → Entry → Held
@@ -127,7 +131,7 @@ module _ (i : ℕ) (n : Node) (past : List Node) (c : concerns i n ≡ false) wh
   held_same e = let w = same_writers in let m = newest-other i n past c in λ j. record { entry = e; writers = w j; newest = version_of (m j); states_size = has_size (m j) }
 
 -- what the tree of one more node has at an inode
-pub tree_grows : (n : Node) (past : List Node) (i : ℕ) → held_in (tree_of (n ∷ past)) i ≡ found_after (tree_of past) n i
+tree_grows : (n : Node) (past : List Node) (i : ℕ) → held_in (tree_of (n ∷ past)) i ≡ found_after (tree_of past) n i
 tree_grows n past i = at-tree (n ∷ past) i ∙ ⊎_elim
     (λ c. ⊎_elim
     (λ d. ap (λ o. option_map (λ e. held_at (n ∷ past) i e) o) (entry-deleted i n past c d) ∙ sym (shown c ∙ ap (λ t. cond t None (Some (held_after n (held_in (tree_of past) i)))) d))
@@ -157,8 +161,8 @@ sorted_held past (x ∷ s) = let b = below_held past x.0 s in let later = sorted
 pub sorted-tree : (past : List Node) → T (entries.is_sorted nat_cmp (tree_of past))
 sorted-tree past = subst T (sym (sorted_held past (state_of_past past))) (sorted-state past)
 
-pub grown_tree : (n : Node) (past : List Node) (tree : Tree) → T (entries.is_sorted nat_cmp tree)
-    → ((i : ℕ) → held_in tree i ≡ found_after (tree_of past) n i) → tree ≡ tree_of (n ∷ past)
-grown_tree n past tree sorted same =
-    entries.same_entries nat_cmp nat_cmp_total nat_cmp-IsAntisymmetric tree (tree_of (n ∷ past)) sorted (sorted-tree (n ∷ past))
-    (λ i. same i ∙ sym (tree_grows n past i))
+pub tree_steps : (past : List Node) (n : Node) → tree_after (tree_of past) n ≡ tree_of (n ∷ past)
+tree_steps past n =
+    entries.same_entries nat_cmp nat_cmp_total nat_cmp-IsAntisymmetric (tree_after (tree_of past) n) (tree_of (n ∷ past))
+    (sorted-step (is_unmount n.kind) n.deleted (λ o. held_after n o) n.inode (tree_of past) (sorted-tree past)) (sorted-tree (n ∷ past))
+    (λ i. find-step (is_unmount n.kind) n.deleted (λ o. held_after n o) n.inode (tree_of past) i ∙ sym (tree_grows n past i))

@@ -16,6 +16,9 @@ pub mod There
 pub mod WholeTree
 pub mod PlaceOrder
 pub mod Indexed
+pub mod Listed
+pub mod Members
+pub mod Directories
 pub mod Standing
 pub mod Differ
 pub mod Reindexed

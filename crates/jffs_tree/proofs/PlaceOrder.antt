@@ -24,7 +24,7 @@ then_low Less b h = refl
 then_low Equal b h = refl
 then_low Greater b h = cc
 
-then_tied : (a b : Ordering) → ordering_then a b ≡ Equal → (a ≡ Equal) × (b ≡ Equal)
+pub then_tied : (a b : Ordering) → ordering_then a b ≡ Equal → (a ≡ Equal) × (b ≡ Equal)
 then_tied Less b h = cc
 then_tied Equal b h = (refl, h)
 then_tied Greater b h = cc
@@ -39,10 +39,10 @@ level Equal Equal e h k = refl
 level Equal Greater e h k = cc
 level Greater b e h k = cc
 
-nat_tied : (a b : ℕ) → nat_cmp a b ≡ Equal → a ≡ b
+pub nat_tied : (a b : ℕ) → nat_cmp a b ≡ Equal → a ≡ b
 nat_tied a b h = eqb-true a b (sym (unsigned_tied a b) ∙ ap is_eq h)
 
-name_tied : (a b : Option (List ℕ)) → option_cmp (slice_cmp nat_cmp) a b ≡ Equal → a ≡ b
+pub name_tied : (a b : Option (List ℕ)) → option_cmp (slice_cmp nat_cmp) a b ≡ Equal → a ≡ b
 name_tied None None h = refl
 name_tied None (Some y) h = cc
 name_tied (Some x) None h = cc

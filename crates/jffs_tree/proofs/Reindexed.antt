@@ -7,11 +7,12 @@ use Rattle.std.proofs.lemmas.Bool.{cases_Bool, and_parts, and_from, eqb-true, eq
 use Rattle.std.proofs.lemmas.Slice.Eq.{bytes_eq-Decides}
 use Rattle.jffs_node.specs.declared.node.Node.{Node}
 use Rattle.jffs_tree.specs.Origin.{Held, Tree}
-use Rattle.jffs_tree.specs.After.{held_in, held_after, IsWritten}
+use Rattle.jffs_tree.specs.After.{held_in, held_after, without_inode, IsWritten}
 use Rattle.jffs_tree.specs.Look.{parent_name_in}
 use Rattle.jffs_tree.specs.Index.{Place, place_cmp, has_place, is_named, stands_at, IsIndexOf}
 use Rattle.jffs_tree.proofs.PlaceOrder.{same_place, own_place}
 use Rattle.jffs_tree.proofs.Indexed.{named_by, names}
+use Rattle.jffs_tree.proofs.Pointwise.{find_without}
 
 abbrev pub tied : Place → Place → Bool
 tied a q = is_at (place_cmp a) q
@@ -142,8 +143,8 @@ stayed p name o same =
 
 -- An inode that is taken away.
 pub removed_index : (old new : Tree) (i : ℕ) (o : ℕ × List ℕ) (before after : List Place) → IsIndexOf old before → parent_name_in old i ≡ Some o
-    → ((j : ℕ) → held_in new j ≡ cond (eqb i j) None (held_in old j)) → ((q : Place) → has_place after q ≡ cond (tied (o.0, Some o.1, i) q) false (has_place before q)) → IsIndexOf new after
-removed_index old new i o before after index was found left q = ⊎_elim
+    → new ≡ without_inode old i → ((q : Place) → has_place after q ≡ cond (tied (o.0, Some o.1, i) q) false (has_place before q)) → IsIndexOf new after
+removed_index old new i o before after index was is left q = ⊎_elim
     (λ yes.
     let at = eqb-true i q.2 yes in
     left q ∙ ap (λ b. cond (tied (o.0, Some o.1, i) q) false b) (index q ∙ stands_there old i q at ∙ ap (λ x. stood x i q) was)
@@ -153,3 +154,6 @@ removed_index old new i o before after index was found left q = ⊎_elim
     left q ∙ ap (λ b. cond b false (has_place before q)) (apart (o.0, Some o.1, i) q other) ∙ index q
     ∙ sym (ap (λ x. option_map_or (λ h. (eqb h.entry.parent q.0) && is_named h.entry.name q.1) x false) (found q.2 ∙ ap (λ b. cond b None (held_in old q.2)) other)))
     (cases_Bool (eqb i q.2))
+  where
+    found : (j : ℕ) → held_in new j ≡ cond (eqb i j) None (held_in old j)
+    found j = ap (λ (t : Tree). held_in t j) is ∙ find_without i old j

@@ -29,7 +29,7 @@ behind z tree j h sorted is =
     let low = above z.0 tree j h (subst T (sym parts.0) tt) is in
     (low, ap (λ t. cond t (Some z.1) (held_in tree j)) (unsigned_tied j z.0 ∙ ne_eqb j z.0 (λ e. omega arith)) ∙ is)
 
-rest_sorted : (z : ℕ × Held) (tree : Tree) → T (entries.is_sorted nat_cmp (z ∷ tree)) → T (entries.is_sorted nat_cmp tree)
+pub rest_sorted : (z : ℕ × Held) (tree : Tree) → T (entries.is_sorted nat_cmp (z ∷ tree)) → T (entries.is_sorted nat_cmp tree)
 rest_sorted z tree sorted = subst T (sym (and_parts (entries.below_all nat_cmp z.0 tree) (entries.is_sorted nat_cmp tree) (t_true _ sorted)).1) tt
 
 first_held : (z : ℕ × Held) (tree : Tree) → held_in (z ∷ tree) z.0 ≡ Some z.1

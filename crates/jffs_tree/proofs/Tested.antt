@@ -1,8 +1,7 @@
 -- A tree tests a node as its nodes do.
-use Rattle.std.proofs.Common.{◌≡◌, ℕ, suc, ◌+◌, ◌<◌, ◌^◌, Bool, true, false, not, ◌&&◌, ◌||◌, eqb, leb, ltb, List, [], ◌∷◌, length, get_or, arith, ⊎_elim, option_map, Option, Some, None, refl, sym, ap, ◌∙◌}
+use Rattle.std.proofs.Common.{◌≡◌, ◌+◌, true, not, ◌&&◌, ◌||◌, eqb, leb, List, [], length, option_map, Option, Some, None, refl, sym, ap, ◌∙◌}
 use Rattle.std.specs.Option.{option_map_or, unwrap_or}
-use Rattle.std.proofs.lemmas.Bool.{and_parts, and_from, eqb-true, eq-eqb, lt-ltb, le-ltb, le-leb, lt-leb, cases_lt}
-use Rattle.std.specs.List.{list_all}
+use Rattle.std.proofs.lemmas.Bool.{and_parts, eqb-true, eq-eqb}
 use Rattle.jffs_node.specs.declared.node.Node.{Node}
 use Rattle.jffs_node.specs.declared.node.Kind.TheVariants.{File, Directory, Unmount}
 use Rattle.jffs_node.specs.Record.{dsize, is_file, kind_byte, is_lawful, fits_fields, suits_kind, numbers_hold, kind_numbers, has_no_range}
@@ -12,25 +11,6 @@ use Rattle.jffs_tree.specs.Check.{keeps_kind, keeps_places}
 use Rattle.jffs_tree.specs.After.{keeps_kind_in, keeps_places_in}
 use Rattle.jffs_tree.specs.Laws.{TreesTestAsNodes}
 use Rattle.jffs_tree.proofs.Grown.{at-tree, held_at}
-
--- Tests that types give.
-pub small_bytes : (xs : List ℕ) → ((k : ℕ) → get_or xs k 0 < 256) → list_all (λ b. ltb b 256) xs ≡ true
-small_bytes [] h = refl
-small_bytes (x ∷ xs) h = and_from (ltb x 256) (list_all (λ b. ltb b 256) xs) (lt-ltb x 256 (h 0)) (small_bytes xs (λ k. h (suc k)))
-
-pub same_limit : (n : ℕ) → leb n 4294967295 ≡ ltb n (2 ^ 32)
-same_limit n = ⊎_elim
-    (λ less. le-leb n 4294967295 (omega arith) ∙ sym (lt-ltb n (2 ^ 32) less))
-    (λ more. lt-leb n 4294967295 (omega arith) ∙ sym (le-ltb n (2 ^ 32) more))
-    (cases_lt n (2 ^ 32))
-
-pub all_but : {a b c d e f g s l : Bool} → a ≡ true → b ≡ true → c ≡ true → d ≡ true → e ≡ true → f ≡ true → g ≡ true → (x : Bool) → s ≡ true → l ≡ true
-    → x ≡ (a && b && c && d && e && f && g && x && s && l)
-all_but a b c d e f g x s l = alone x ∙ sym (λ i. a i && b i && c i && d i && e i && f i && g i && x && s i && l i)
-  where
-    alone : (x : Bool) → x ≡ (x && true && true)
-    alone true = refl
-    alone false = refl
 
 kind_same : (past : List Node) (n : Node) → keeps_kind_in (tree_of past) n ≡ keeps_kind past n
 kind_same past n =

@@ -1,6 +1,8 @@
 -- One node more, in a tree that is a map of inodes.
-use Rattle.std.proofs.Common.{◌≡◌, ℕ, ◌+◌, ◌≤◌, ◌≢◌, Bool, true, false, cond, ◌||◌, eqb, T, map, option_map, [], length, ⊎_elim, Option, Some, None, Result, Ok, Err, refl, sym, ap, subst, ◌∙◌, nat_cmp}
-use Rattle.std.specs.Cmp.{unsigned_tied}
+use Rattle.std.proofs.Common.{◌≡◌, ℕ, ◌+◌, ◌≤◌, ◌≢◌, Bool, true, false, cond, not, ◌||◌, eqb, T, IsTrue, map, option_map, [], length, ⊎_elim, Option, Some, None, Result, Ok, Err, refl, sym, ap, subst, ◌∙◌, nat_cmp}
+use Rattle.std.specs.Cmp.{nat_cmp_total, unsigned_tied}
+use Rattle.std.specs.FinMap.{nat_cmp-IsAntisymmetric}
+use Rattle.std.specs.FinMap.Entries as entries
 use Rattle.std.specs.List.Sorted.{IsStrictlySortedBy}
 use Rattle.std.specs.Option.{unwrap_or}
 use Rattle.std.specs.Result.{OnErr}
@@ -10,8 +12,9 @@ use Rattle.std.proofs.lemmas.Bool.{cases_Bool, eqb-true, leb-true}
 use Rattle.jffs_node.specs.declared.node.Node.{Node}
 use Rattle.jffs_node.specs.Record.{dsize}
 use Rattle.jffs_tree.specs.Origin.{Held, Tree}
-use Rattle.jffs_tree.specs.After.{held_in, held_after, keeps_places_in, IsWritten, IsRemoved}
+use Rattle.jffs_tree.specs.After.{held_in, held_after, keeps_places_in, without_inode, put_node, IsWritten}
 use Rattle.jffs_tree.proofs.Maps.{found_get, sorted_map}
+use Rattle.jffs_tree.proofs.Pointwise.{find_without, find_rewritten}
 
 pub t_true : (b : Bool) → T b → b ≡ true
 t_true true h = refl
@@ -62,13 +65,22 @@ pub at_error : {A E P : Type 0} (r : Result A E) → P → OnErr r P
 at_error (Ok x) p = tt
 at_error (Err e) p = p
 
+-- That is the tree with the node put in.
+pub put_there : (old seen new : Tree) (n : Node) → old ≡ seen → IsTrue (entries.is_sorted nat_cmp old) → IsWritten old new n → new ≡ put_node seen n
+put_there old seen new n is ordered w =
+    entries.same_entries nat_cmp nat_cmp_total nat_cmp-IsAntisymmetric new (put_node old n)
+    (subst T (sym w.ordered) tt) (entries.is_sorted-put nat_cmp nat_cmp_total n.inode (held_after n (held_in old n.inode)) old (subst T (sym ordered) tt))
+    (λ i. w.found i ∙ sym (find_rewritten (λ o. held_after n o) n.inode old i))
+    ∙ ap (λ t. put_node t n) is
+
 -- the map of inodes with one of them away
-pub map_removed : (old new : Tree) (i : ℕ) → IsStrictlySortedBy nat_cmp (map (λ e. e.0) new)
-    → ((q : ℕ) → lookup (is_at (nat_cmp q)) new ≡ cond (is_at (nat_cmp i) q) None (lookup (is_at (nat_cmp q)) old)) → IsRemoved old new i
-map_removed old new i ordered updates = record {
-  ordered = t_true _ (sorted_map new ordered);
-  found = λ j.
-      sym (found_get j new) ∙ updates j
-      ∙ ap (λ b. cond b None (lookup (is_at (nat_cmp j)) old)) (unsigned_tied i j)
-      ∙ ap (λ o. cond (eqb i j) None o) (found_get j old);
-}
+pub map_removed : (old new : Tree) (i : ℕ) → IsTrue (entries.is_sorted nat_cmp old) → IsStrictlySortedBy nat_cmp (map (λ e. e.0) new)
+    → ((q : ℕ) → lookup (is_at (nat_cmp q)) new ≡ cond (is_at (nat_cmp i) q) None (lookup (is_at (nat_cmp q)) old)) → new ≡ without_inode old i
+map_removed old new i was ordered updates =
+    entries.same_entries nat_cmp nat_cmp_total nat_cmp-IsAntisymmetric new (without_inode old i)
+    (sorted_map new ordered) (entries.is_sorted-where_key nat_cmp (λ j. not (eqb i j)) old (subst T (sym was) tt))
+    (λ j.
+    sym (found_get j new) ∙ updates j
+    ∙ ap (λ b. cond b None (lookup (is_at (nat_cmp j)) old)) (unsigned_tied i j)
+    ∙ ap (λ o. cond (eqb i j) None o) (found_get j old)
+    ∙ sym (find_without i old j))

@@ -1,12 +1,12 @@
--- What one more node makes of a tree, inode by inode.
-use Rattle.std.specs.Prelude.{◌≡◌, ◌≤◌, ℕ, Bool, IsTrue, true, ◌&&◌, ◌||◌, ◌==◌, nat_le, ◌+◌, ◌-◌, List, [], ◌++◌, length, take, drop, replicate, Option, Some, None, option_map, unwrap_or, is_some, if◌then◌else◌}
+-- What one more node makes of a tree.
+use Rattle.std.specs.Prelude.{◌≡◌, ◌≤◌, ℕ, Bool, IsTrue, true, not, ◌&&◌, ◌||◌, ◌==◌, nat_le, ◌+◌, ◌-◌, List, [], ◌++◌, length, take, drop, replicate, Option, Some, None, option_map, unwrap_or, is_some, if◌then◌else◌}
 use Rattle.std.specs.FinMap.Entries as entries
 use Rattle.std.specs.Ordering.{nat_cmp}
 use Rattle.jffs_node.specs.declared.node.Node.{Node}
 use Rattle.std.specs.Option.{option_map_or}
-use Rattle.jffs_node.specs.Record.{dsize, file_max, kind_byte, is_lawful}
+use Rattle.jffs_node.specs.Record.{dsize, file_max, kind_byte, is_lawful, is_unmount}
 use Rattle.jffs_tree.specs.State.{written}
-use Rattle.jffs_tree.specs.Origin.{Held, Tree, concerns}
+use Rattle.jffs_tree.specs.Origin.{Held, Tree}
 
 -- Padding, splicing and sizing of any list, d standing where nothing stood. Of bytes they are `padded`, `splice` and `sized`, with 0.
 abbrev pub padded_with : {A : Type 0} → A → ℕ → List A → List A
@@ -35,9 +35,17 @@ held_after n old = record {
   states_size = is_some n.size;
 }
 
--- what is held of an inode, after the node
-abbrev pub found_after : Tree → Node → ℕ → Option Held
-found_after tree n i = if concerns i n then (if n.deleted then None else Some (held_after n (held_in tree i))) else held_in tree i
+-- the tree without an inode
+abbrev pub without_inode : Tree → ℕ → Tree
+without_inode tree i = entries.where_key nat_cmp (λ j. not (i == j)) tree
+
+-- the tree with a node written over its inode, present or not
+abbrev pub put_node : Tree → Node → Tree
+put_node tree n = entries.put nat_cmp n.inode (held_after n (held_in tree n.inode)) tree
+
+-- the tree after the node
+abbrev pub tree_after : Tree → Node → Tree
+tree_after tree n = if is_unmount n.kind then tree else (if n.deleted then without_inode tree n.inode else put_node tree n)
 
 -- The node leaves no bytes behind its range, unless it keeps their places.
 abbrev pub keeps_places_in : Tree → Node → Bool
@@ -55,11 +63,6 @@ can_apply tree n = is_lawful n && keeps_kind_in tree n && keeps_places_in tree n
 pub record IsWritten (old new : Tree) (n : Node) : Type 0 where
   pub ordered : IsTrue (entries.is_sorted nat_cmp new)
   pub found : (i : ℕ) → held_in new i ≡ (if n.inode == i then Some (held_after n (held_in old i)) else held_in old i)
-
--- The inodes stand in order, and all are as they were but one, which is away.
-pub record IsRemoved (old new : Tree) (i : ℕ) : Type 0 where
-  pub ordered : IsTrue (entries.is_sorted nat_cmp new)
-  pub found : (j : ℕ) → held_in new j ≡ (if i == j then None else held_in old j)
 
 -- It makes no file too long.
 pub record IsSmall (n : Node) : Type 0 where

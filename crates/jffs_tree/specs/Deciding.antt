@@ -2,7 +2,7 @@
 use Rattle.std.specs.Prelude.{◌≡◌, ◌≤◌, ◌<◌, ◌^◌, ℕ, true, List, ◌∷◌, length, get_or, Some, Ok, IsTrue}
 use Rattle.std.specs.List.{AllByRecursion}
 use Rattle.jffs_node.specs.declared.node.Node.{Node}
-use Rattle.jffs_node.specs.Name.{is_name}
+use Rattle.jffs_node.specs.Path.{IsPath}
 use Rattle.jffs_node.specs.Record.{dsize, is_lawful}
 use Rattle.jffs_tree.specs.declared.wish.Limits.{Limits}
 use Rattle.jffs_tree.specs.declared.wish.NewNode.{NewNode}
@@ -26,10 +26,6 @@ pub record IsNewInode (past : List Node) (inode : ℕ) : Type 0 where
 
 abbrev pub AreLimitsOf : List Node → Limits → Type 0
 AreLimitsOf past limits = (inode : ℕ) → limits.next_inode ≡ Some inode → IsNewInode past inode
-
--- at most eight names
-abbrev pub IsPath : List (List ℕ) → Type 0
-IsPath path = (length path ≤ 8) × AllByRecursion (λ name. IsTrue (is_name name)) path
 
 -- What the types of a wish give: each new path is a path, and data are bytes.
 abbrev pub IsWish : Wish → Type 0

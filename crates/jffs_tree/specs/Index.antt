@@ -1,7 +1,7 @@
 -- The index of children: for each inode where it stands, in the order of directory, name and inode.
-use Rattle.std.specs.Prelude.{◌≡◌, ℕ, Bool, false, ◌&&◌, ◌==◌, List, Option, Some, None, bytes_eq}
+use Rattle.std.specs.Prelude.{◌≡◌, ℕ, Bool, false, ◌&&◌, ◌==◌, List, [], flat_map, Option, Some, None, option_map, bytes_eq, if◌then◌else◌}
 use Rattle.std.specs.List.{list_any}
-use Rattle.std.specs.Option.{option_map_or, option_cmp}
+use Rattle.std.specs.Option.{option_map_or, option_to_list, option_cmp}
 use Rattle.std.specs.Ordering.{ordering_then, nat_cmp}
 use Rattle.std.specs.Cmp.Lexicographic.{slice_cmp}
 use Rattle.std.specs.BTreeMap.{is_at}
@@ -31,3 +31,11 @@ stands_at tree q = option_map_or (λ h. (h.entry.parent == q.0) && is_named h.en
 -- The index has just the places where the inodes of the tree stand.
 abbrev pub IsIndexOf : Tree → List Place → Type 0
 IsIndexOf tree places = (q : Place) → has_place places q ≡ stands_at tree q
+
+-- what a place says of a directory: a name with its inode, or nothing
+abbrev pub name_under : ℕ → Place → List (List ℕ × ℕ)
+name_under p q = if q.0 == p then option_to_list (option_map (λ name. (name, q.2)) q.1) else []
+
+-- the names that an index has in a directory
+abbrev pub names_under : ℕ → List Place → List (List ℕ × ℕ)
+names_under p places = flat_map (name_under p) places

@@ -9,7 +9,7 @@ use Rattle.jffs_tree.specs.declared.wish.NewNode.{NewNode}
 use Rattle.jffs_tree.specs.declared.wish.Wish.{Wish}
 use Rattle.jffs_tree.specs.declared.wish.Wish.TheVariants.{Copy}
 use Rattle.jffs_tree.specs.Check.{keeps_kind, keeps_places, makes_tree}
-use Rattle.jffs_tree.specs.After.{keeps_kind_in, keeps_places_in}
+use Rattle.jffs_tree.specs.After.{keeps_kind_in, keeps_places_in, tree_after}
 use Rattle.jffs_tree.specs.Decide.{decide, decide_on, with, cleaning_copy}
 use Rattle.jffs_tree.specs.State.{Entry, at, bytes_of, state_of_past}
 use Rattle.jffs_tree.specs.Origin.{IsTrueCopy, is_live, newest, size_in, origin, origin_place, tree_of, entry}
@@ -42,6 +42,10 @@ ErasingKeepsOrigins = (recent oldest : List Node) → NoneLive (recent ++ oldest
 abbrev pub BytesComeFromOrigins : Type 0
 BytesComeFromOrigins = (past : List Node) (i p : ℕ) → p < size_in past i
     → get_or (bytes_of (at (state_of_past past) i)) p 0 ≡ option_map_or (λ n. get_or n.bytes (origin_place past i p) 0) (origin past i p) 0
+
+-- The tree of one node more is the tree after that node.
+abbrev pub TreesStepByNodes : Type 0
+TreesStepByNodes = (past : List Node) (n : Node) → tree_after (tree_of past) n ≡ tree_of (n ∷ past)
 
 -- A tree tests a lawful node, before it is applied, as its nodes do.
 abbrev pub TreesTestAsNodes : Type 0

@@ -1,9 +1,12 @@
 //! The index of children, by which a name is found without a walk over all inodes.
 
-ghost use Rattle.std.specs.Prelude.{◌≡◌, ◌==◌, ◌&&◌, ◌≤◌, ℕ, true, false, Some, None, List, Option, IfSome, IfNone};
-ghost use Rattle.jffs_tree.specs.Index.{Place, has_place, is_named};
+ghost use Rattle.std.specs.Prelude.{◌≡◌, ◌==◌, ◌&&◌, ◌≤◌, ℕ, true, false, Some, None, List, Option, IfSome, IfNone, IfOk};
+ghost use Rattle.std.specs.List.Sorted.{IsStrictlySortedBy};
+ghost use Rattle.jffs_tree.specs.Index.{Place, has_place, is_named, names_under};
+ghost use Rattle.jffs_tree.specs.Look.{name_cmp};
 
 use jffs_node::Name;
+use std::alloc::{AllocError, Global};
 use std::collections::BTreeSet;
 
 /// A directory, a name in it and the inode that stands there. A place without a name is before
@@ -37,6 +40,28 @@ pub(crate) fn any_named(places: &BTreeSet<Place>, parent: u32) -> bool
         Some(first) => first.0 == parent,
         None => false,
     }
+}
+
+/// The names in a directory, each with its inode, in the order of their places.
+pub(crate) fn names_of(
+    alloc: Global,
+    places: &BTreeSet<Place>,
+    parent: u32,
+) -> Result<Vec<(Name, u32)>, AllocError>
+    ensures all { IfOk result (λ names. names.items ≡ names_under parent places.now.keys) }
+    ensures rising { IfOk result (λ names. IsStrictlySortedBy name_cmp names.items) }
+{
+    let mut names = Vec::new(alloc);
+    for place in places.range((parent, None, 0)..) {
+        let (directory, name, inode) = *place;
+        if directory != parent {
+            break;
+        }
+        if let Some(name) = name {
+            names.push((name, inode))?;
+        }
+    }
+    Ok(names)
 }
 
 /// Whether the place is one of that name in that directory.

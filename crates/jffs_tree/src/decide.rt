@@ -1,11 +1,13 @@
 //! The decision on a wish.
 
-ghost use Rattle.std.specs.Prelude.{◌≡◌, ◌≢◌, not, false, length, Some, Err, IsSome, IsOk, option_map};
+ghost use Rattle.std.specs.Prelude.{◌≡◌, ◌≢◌, ℕ, ◌<◌, slice_index, not, false, length, Some, Err, IsSome, IsOk, option_map};
 ghost use Rattle.jffs_tree.specs.declared.wish.Cause.TheVariants.{Memory};
 ghost use Rattle.jffs_tree.specs.declared.wish.Wish.TheVariants.{Write, Truncate, Rename, Remove, Copy, Unmount};
 ghost use Rattle.jffs_tree.specs.State.{is_directory_in};
 ghost use Rattle.jffs_tree.specs.Origin.{holder, state_in};
 ghost use Rattle.jffs_tree.specs.After.{held_in};
+ghost use Rattle.jffs_node.specs.Path.{IsPath};
+ghost use Rattle.jffs_tree.specs.Deciding.{IsWish};
 ghost use Rattle.jffs_tree.specs.Decide.{decide_on, decide_new, parent_in, is_empty, plain, entry_of, carries_bytes};
 
 use crate::children::any_named;
@@ -17,7 +19,7 @@ use std::alloc::Global;
 
 impl Inode {
     /// A node that only says what the inode is.
-    fn plain(&self, alloc: Global, inode: u32) -> NewNode
+    pub(crate) fn plain(&self, alloc: Global, inode: u32) -> NewNode
         ensures { result ≡ plain inode self.now.entry }
     {
         NewNode {
@@ -62,7 +64,8 @@ impl Tree {
 
     /// A node for a new file or directory.
     fn decide_new(&self, limits: Limits, kind: Kind, path: &Path) -> Result<NewNode, Cause>
-        ensures { result ≡ decide_new (state_in self.now) limits kind path.now }
+        ensures decided { result ≡ decide_new (state_in self.now) limits kind path.now }
+        ensures path { IsPath path.now }
     {
         let names = path.names();
         let Some(name) = names.last() else {
@@ -98,7 +101,7 @@ impl Tree {
     }
 
     /// An inode that is there.
-    fn present(&self, inode: u32) -> &Inode
+    pub(crate) fn present(&self, inode: u32) -> &Inode
         requires { IsSome (held_in self.now inode) }
         ensures held { held_in self.now inode ≡ Some result.now }
         ensures entry { entry_of (state_in self.now) inode ≡ result.now.entry }
@@ -131,6 +134,7 @@ impl Tree {
         ensures decided { result ≢ Err Memory → result ≡ decide_on self.now limits (Write path.now offset bytes.now) }
         ensures bare { length bytes.now ≡ 0 → result ≡ decide_on self.now limits (Write path.now offset bytes.now) }
         ensures last { result ≡ Err Memory → IsOk (decide_on self.now limits (Write path.now offset bytes.now)) }
+        ensures small { (k : ℕ) → slice_index bytes.now k < 256 }
     {
         let Some(inode) = self.resolve(path) else {
             return Err(Cause::NotFound);
@@ -187,7 +191,8 @@ impl Tree {
     }
 
     fn decide_rename(&self, limits: Limits, from: &Path, to: &Path) -> Result<NewNode, Cause>
-        ensures { result ≡ decide_on self.now limits (Rename from.now to.now) }
+        ensures decided { result ≡ decide_on self.now limits (Rename from.now to.now) }
+        ensures path { IsPath to.now }
     {
         let Some(name) = to.names().last() else {
             return Err(Cause::RootFixed);
@@ -278,11 +283,13 @@ impl Tree {
 
     /// The node of a wish, or the first cause against it, of the first twelve. `Memory` comes
     /// only where the node carries bytes, for which a growth was refused, and nothing stands
-    /// against the wish.
+    /// against the wish. Of every wish it is true that a new path is a path and that data are
+    /// bytes, as `decided_nodes_keep_rules` asks.
     pub fn decide(&self, limits: Limits, wish: &Wish) -> Result<NewNode, Cause>
         ensures decided { result ≢ Err Memory → result ≡ decide_on self.now limits wish.now }
         ensures bare { carries_bytes wish.now ≡ false → result ≡ decide_on self.now limits wish.now }
         ensures last { result ≡ Err Memory → IsOk (decide_on self.now limits wish.now) }
+        ensures wish { IsWish wish.now }
     {
         match wish {
             Wish::MakeDir(path) => self.decide_new(limits, Kind::Directory, path),

@@ -2,7 +2,7 @@
 
 ghost use Rattle.std.specs.Prelude.{◌≡◌, []};
 ghost use Rattle.jffs_tree.specs.Origin.{tree_of};
-ghost use Rattle.jffs_tree.specs.Laws.{TrueCopiesKeepState, ErasingKeepsState, ErasingKeepsTree, ErasingKeepsOrigins, RulesGiveOrigins, ErasingKeepsRules, BytesComeFromOrigins, TreesTestAsNodes, DecidesByTree, AcceptedCopiesAreTrue, CleaningCopiesAreTrue};
+ghost use Rattle.jffs_tree.specs.Laws.{TrueCopiesKeepState, ErasingKeepsState, ErasingKeepsTree, ErasingKeepsOrigins, RulesGiveOrigins, ErasingKeepsRules, BytesComeFromOrigins, TreesStepByNodes, TreesTestAsNodes, DecidesByTree, AcceptedCopiesAreTrue, CleaningCopiesAreTrue};
 ghost use Rattle.jffs_tree.specs.Examples.{Overwriting, Truncating, Copying};
 
 /// Without nodes the tree is empty.
@@ -34,6 +34,11 @@ pub fn erasing_keeps_tree()
 /// The byte at each place is the byte of its origin, or 0 where it has none.
 pub fn bytes_come_from_origins()
     ensures { BytesComeFromOrigins }
+{}
+
+/// The tree of one node more is the tree after that node, so a tree is a fold over its nodes.
+pub fn trees_step_by_nodes()
+    ensures { TreesStepByNodes }
 {}
 
 /// The test of a node on a tree is the test of the node on the tree's nodes.

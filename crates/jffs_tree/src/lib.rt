@@ -10,6 +10,7 @@
 mod cells;
 mod check;
 mod children;
+mod cleaning;
 mod copy;
 mod decide;
 mod deciding;
@@ -26,7 +27,7 @@ mod wish;
 pub use deciding::decided_nodes_keep_rules;
 pub use laws::{
     bytes_come_from_origins, decisions_hold, erasing_keeps_tree, examples_are_decided,
-    tree_of_none, trees_test_as_nodes, true_copies_keep_state,
+    tree_of_none, trees_step_by_nodes, trees_test_as_nodes, true_copies_keep_state,
 };
 pub use tree::Tree;
 pub use wish::{Cause, Limits, NewNode, Outcome, Wish};

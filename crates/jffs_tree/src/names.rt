@@ -4,6 +4,7 @@ ghost use Rattle.std.specs.Prelude.{IfOk};
 ghost use Rattle.std.specs.List.Sorted.{IsPermutation, IsSorted};
 ghost use Rattle.jffs_tree.specs.Look.{names_in, name_cmp};
 
+use crate::children::names_of;
 use crate::tree::Tree;
 use jffs_node::{Name, NoMemory};
 use std::alloc::AllocError;
@@ -22,16 +23,10 @@ impl Tree {
         ensures all { IfOk result (λ names. IsPermutation (names_in self.now inode) names.items) }
         ensures ordered { IfOk result (λ names. IsSorted name_cmp names.items) }
     {
-        let mut names = Vec::new(self.alloc);
-        if !self.is_directory(inode) {
-            return Ok(names);
+        if self.is_directory(inode) {
+            names_of(self.alloc, &self.children, inode)
+        } else {
+            Ok(Vec::new(self.alloc))
         }
-        for (child, found) in self.inodes.iter() {
-            if found.parent == inode {
-                names.push((found.name, *child))?;
-            }
-        }
-        names.sort()?;
-        Ok(names)
     }
 }

@@ -1,8 +1,10 @@
 use crate::{Cause, Limits, Tree, Wish};
-use jffs_node::{Bytes, Kind, Name, Node, Path};
+use jffs_node::{Bytes, Kind, Name, Node, Path, PathFault};
 use std::alloc::Global;
 use std::process::Abort;
 use std::test::Fail;
+
+mod look_ups;
 
 /// A tree with the numbers that come next. Nothing but memory is ever missing.
 #[derive(Drop)]
@@ -31,8 +33,13 @@ impl Session {
         }
     }
 
+    /// Where a growth is refused the wish is decided again.
     fn decide(&self, wish: &Wish) -> Result<Node, Cause> {
-        let decided = self.tree.decide(self.limits(), wish)?;
+        let decided = match self.tree.decide(self.limits(), wish) {
+            Err(Cause::Memory) => self.tree.decide(self.limits(), wish)?,
+            Err(cause) => return Err(cause),
+            Ok(decided) => decided,
+        };
         Ok(decided.with(self.next_version, 1, self.next_version))
     }
 
@@ -62,62 +69,91 @@ impl Session {
 /// again.
 fn apply(rt: &impl Abort, tree: &mut Tree, node: &Node) -> Result<(), Fail> {
     assert!(rt; tree.can_apply(node));
-    let newest = tree.newest(node.inode);
-    let size = tree.size(node.inode);
-    let place = tree.parent_name(node.inode);
+    let before = copied(tree)?;
     if let Err(cause) = tree.apply(node) {
         assert_eq!(rt; cause, Cause::Memory);
-        assert_eq!(rt; tree.newest(node.inode), newest);
-        assert_eq!(rt; tree.size(node.inode), size);
-        assert!(rt; tree.parent_name(node.inode) == place);
+        look_ups::are_the_same(rt, tree, &before)?;
         assert!(rt; tree.can_apply(node));
         tree.apply(node)?;
     }
     Ok(())
 }
 
-fn make_dir(alloc: Global, path: &str) -> Result<Wish, Fail> {
-    Ok(Wish::MakeDir(Path::parse(alloc, path)?))
+/// A path; where a growth is refused it is read again.
+fn path(alloc: Global, text: &str) -> Result<Path, Fail> {
+    match Path::parse(alloc, text) {
+        Err(PathFault::Memory) => Ok(Path::parse(alloc, text)?),
+        Err(fault) => Err(fault.into()),
+        Ok(path) => Ok(path),
+    }
 }
 
-fn create(alloc: Global, path: &str) -> Result<Wish, Fail> {
-    Ok(Wish::Create(Path::parse(alloc, path)?))
+/// Bytes; where a growth is refused they are copied again.
+fn bytes(alloc: Global, bytes: &[u8]) -> Result<Bytes, Fail> {
+    if let Ok(copied) = Bytes::from_slice(alloc, bytes) {
+        return Ok(copied);
+    }
+    Ok(Bytes::from_slice(alloc, bytes)?)
 }
 
-fn write(alloc: Global, path: &str, offset: u32, bytes: &[u8]) -> Result<Wish, Fail> {
+/// The names in a directory; where a growth is refused they are listed again.
+fn names(tree: &Tree, inode: u32) -> Result<Vec<(Name, u32)>, Fail> {
+    if let Ok(listed) = tree.names(inode) {
+        return Ok(listed);
+    }
+    Ok(tree.names(inode)?)
+}
+
+/// A copy of a tree; where a growth is refused it is copied again.
+fn copied(tree: &Tree) -> Result<Tree, Fail> {
+    if let Ok(copied) = tree.copy_tree() {
+        return Ok(copied);
+    }
+    Ok(tree.copy_tree()?)
+}
+
+fn make_dir(alloc: Global, text: &str) -> Result<Wish, Fail> {
+    Ok(Wish::MakeDir(path(alloc, text)?))
+}
+
+fn create(alloc: Global, text: &str) -> Result<Wish, Fail> {
+    Ok(Wish::Create(path(alloc, text)?))
+}
+
+fn write(alloc: Global, text: &str, offset: u32, data: &[u8]) -> Result<Wish, Fail> {
     Ok(Wish::Write {
-        path: Path::parse(alloc, path)?,
+        path: path(alloc, text)?,
         offset,
-        bytes: Bytes::from_slice(alloc, bytes)?,
+        bytes: bytes(alloc, data)?,
     })
 }
 
-fn truncate(alloc: Global, path: &str, size: u32) -> Result<Wish, Fail> {
+fn truncate(alloc: Global, text: &str, size: u32) -> Result<Wish, Fail> {
     Ok(Wish::Truncate {
-        path: Path::parse(alloc, path)?,
+        path: path(alloc, text)?,
         size,
     })
 }
 
 fn rename(alloc: Global, from: &str, to: &str) -> Result<Wish, Fail> {
     Ok(Wish::Rename {
-        from: Path::parse(alloc, from)?,
-        to: Path::parse(alloc, to)?,
+        from: path(alloc, from)?,
+        to: path(alloc, to)?,
     })
 }
 
-fn remove(alloc: Global, path: &str) -> Result<Wish, Fail> {
-    Ok(Wish::Remove(Path::parse(alloc, path)?))
+fn remove(alloc: Global, text: &str) -> Result<Wish, Fail> {
+    Ok(Wish::Remove(path(alloc, text)?))
 }
 
 /// A copy into the root's directory from offset 0.
-fn copy(alloc: Global, source: u32, name: &[u8], bytes: &[u8]) -> Result<Wish, Fail> {
+fn copy(alloc: Global, source: u32, name: &[u8], data: &[u8]) -> Result<Wish, Fail> {
     Ok(Wish::Copy {
         source,
         parent: 1,
         name: Name::from_bytes(name).ok_or("no name")?,
         offset: 0,
-        bytes: Bytes::from_slice(alloc, bytes)?,
+        bytes: bytes(alloc, data)?,
     })
 }
 
@@ -228,18 +264,18 @@ fn moved(rt: &impl Abort, alloc: Global) -> Result<Session, Fail> {
 
 fn stands_moved(rt: &impl Abort, alloc: Global, tree: &Tree) -> Result<(), Fail> {
     assert!(rt; tree.check());
-    assert_eq!(rt; tree.resolve(&Path::parse(alloc, "/")?), Some(1));
-    assert_eq!(rt; tree.resolve(&Path::parse(alloc, "/c")?), Some(4));
-    assert_eq!(rt; tree.resolve(&Path::parse(alloc, "/c/f")?), Some(3));
-    assert_eq!(rt; tree.resolve(&Path::parse(alloc, "/b")?), None);
+    assert_eq!(rt; tree.resolve(&path(alloc, "/")?), Some(1));
+    assert_eq!(rt; tree.resolve(&path(alloc, "/c")?), Some(4));
+    assert_eq!(rt; tree.resolve(&path(alloc, "/c/f")?), Some(3));
+    assert_eq!(rt; tree.resolve(&path(alloc, "/b")?), None);
     assert_eq!(rt; tree.kind(4), Some(Kind::Directory));
     assert_eq!(rt; tree.kind(2), None);
     assert_eq!(rt; tree.size(3), Some(0));
-    let names = tree.names(1)?;
-    assert_eq!(rt; names.len(), 1);
-    assert_eq!(rt; names[0].0.bytes(), b"c".as_slice());
-    assert_eq!(rt; names[0].1, 4);
-    assert_eq!(rt; tree.names(3)?.len(), 0);
+    let listed = names(tree, 1)?;
+    assert_eq!(rt; listed.len(), 1);
+    assert_eq!(rt; listed[0].0.bytes(), b"c".as_slice());
+    assert_eq!(rt; listed[0].1, 4);
+    assert_eq!(rt; names(tree, 3)?.len(), 0);
     Ok(())
 }
 
@@ -254,7 +290,7 @@ fn every_refusal_of_a_path(rt: HostRuntime) -> Result<(), Fail> {
 fn a_copied_tree_is_its_source(rt: HostRuntime) -> Result<(), Fail> {
     let alloc = rt.alloc();
     let mut session = moved(&rt, alloc)?;
-    let copied = session.tree.copy_tree()?;
+    let copied = copied(&session.tree)?;
     session.grant(&rt, remove(alloc, "/c/f")?)?;
     stands_moved(&rt, alloc, &copied)
 }

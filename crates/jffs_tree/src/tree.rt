@@ -4,7 +4,7 @@ ghost use Rattle.std.specs.Prelude.{◌≡◌, ◌∷◌, [], List, Some, IsTrue
 ghost use Rattle.jffs_node.specs.declared.node.Node.{Node};
 ghost use Rattle.jffs_node.specs.Record.{is_lawful};
 ghost use Rattle.jffs_tree.specs.Origin.{tree_of};
-ghost use Rattle.jffs_tree.specs.After.{keeps_places_in, IsSmall, IsWritten, IsRemoved};
+ghost use Rattle.jffs_tree.specs.After.{keeps_places_in, tree_after, without_inode, put_node, IsSmall, IsWritten};
 
 use crate::children::{Place, bears};
 use crate::inode::Inode;
@@ -54,6 +54,7 @@ impl Tree {
     pub fn apply(&mut self, node: &Node) -> Result<(), Cause>
         requires lawful { IsTrue (is_lawful node.now) }
         requires places { IsTrue (keeps_places_in self.old node.now) }
+        ensures after { OnOk result (self.new ≡ tree_after self.old node.now) }
         ensures ok { OnOk result ((past : List Node) → self.old ≡ tree_of past → self.new ≡ tree_of (node.now ∷ past)) }
         ensures err { OnErr result (self.new ≡ self.old) }
         ensures cause { IfErr result (λ cause. cause ≡ Cause.Memory) }
@@ -71,7 +72,7 @@ impl Tree {
 
     /// Takes an inode away, where it is present.
     fn remove(&mut self, inode: u32)
-        ensures { IsRemoved self.old self.new inode }
+        ensures { self.new ≡ without_inode self.old inode }
     {
         if let Some(old) = self.inodes.remove(&inode) {
             self.children.remove(&(old.parent, Some(old.name), inode));
@@ -84,7 +85,7 @@ impl Tree {
         requires named { node.now.name ≡ Some name }
         requires small { IsSmall node.now }
         requires places { IsTrue (keeps_places_in self.old node.now) }
-        ensures ok { OnOk result (IsWritten self.old self.new node.now) }
+        ensures ok { OnOk result (self.new ≡ put_node self.old node.now) }
         ensures err { OnErr result (self.new ≡ self.old) }
     {
         let old = self.parent_name(node.inode);

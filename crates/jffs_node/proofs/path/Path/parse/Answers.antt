@@ -1,7 +1,7 @@
-use Rattle.std.proofs.Common.{◌≡◌, ℕ, ◌+◌, ◌<◌, List, [], ◌∷◌, ◌++◌, length, sym, ap, ◌∙◌, arith, length-append}
+use Rattle.std.proofs.Common.{◌≡◌, ℕ, ◌+◌, ◌<◌, List, [], ◌∷◌, ◌++◌, length, sym, ap, subst, ◌∙◌, arith, length-append}
 use Rattle.std.specs.Option.{option_copied}
-use Rattle.jffs_node.specs.Path.{pieces_of, answer_after}
-use Rattle.jffs_node.proofs.Pieces.{answer_name, named_read}
+use Rattle.jffs_node.specs.Path.{IsPath, pieces_of, answer_after}
+use Rattle.jffs_node.proofs.Pieces.{answer_name, named_read, path_more}
 use Rattle.jffs_node.proofs.path.Path.parse.Goals as goal
 
 pub loop-left-preserved-in_ok-push : goal.loop-left-preserved-in_ok-push
@@ -21,6 +21,6 @@ loop-left-preserved-in_ok-push c =
           ∙ ap (λ (xs : List (List ℕ)). answer_after names c.loop-left.deep xs) c.split_first_name.ensures.pieces
           ∙ answer_name names c.loop-left.deep piece pieces read.0
           ∙ ap (λ (xs : List (List ℕ)). answer_after xs c.loop-left.deep pieces) (sym items);
-      few = omega arith;
+      lawful = subst (λ (ns : List (List ℕ)). IsPath ns) (sym items) (path_more names piece was.lawful short read.0);
       full = λ d. let f = was.full d in omega arith;
     }

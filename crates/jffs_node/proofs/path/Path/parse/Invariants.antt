@@ -1,13 +1,13 @@
 use Rattle.std.proofs.Common.{◌≡◌, ◌≤◌, true, length}
 use Rattle.std.specs.Option.{option_copied}
-use Rattle.jffs_node.specs.Path.{path_of, pieces_of, left_len, answer_after}
+use Rattle.jffs_node.specs.Path.{IsPath, path_of, pieces_of, left_len, answer_after}
 use Rattle.jffs_node.proofs.path.Path.parse.Given as goal
 
 -- what is left decides, after the names that were read
 abbrev pub invariant-loop-left : goal.invariant-loop-left
 invariant-loop-left l = record {
   same : path_of l.fn.text ≡ answer_after l.names.items l.deep (pieces_of (option_copied l.left));
-  few : length l.names.items ≤ 8;
+  lawful : IsPath l.names.items;
   full : l.deep ≡ true → 8 ≤ length l.names.items;
 }
 

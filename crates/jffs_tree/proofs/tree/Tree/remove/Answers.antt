@@ -1,26 +1,32 @@
-use Rattle.std.proofs.Common.{◌≡◌, ℕ, List, Option, Some, option_map, ap, subst, sym, ◌∙◌}
+use Rattle.std.proofs.Common.{◌≡◌, ℕ, List, Option, Some, option_map, ap, sym, ◌∙◌}
 use Rattle.jffs_tree.specs.Origin.{Held}
-use Rattle.jffs_tree.specs.After.{IsRemoved}
+use Rattle.jffs_tree.specs.After.{without_inode}
 use Rattle.jffs_tree.specs.Look.{parent_name_in}
-use Rattle.jffs_tree.proofs.Maps.{found_get}
-use Rattle.jffs_tree.proofs.Written.{map_removed}
+use Rattle.jffs_tree.proofs.Maps.{found_get, sorted_map}
+use Rattle.jffs_tree.proofs.Written.{t_true, map_removed}
 use Rattle.jffs_tree.proofs.Reindexed.{removed_index}
 use Rattle.jffs_tree.proofs.tree.Tree.remove.Goals as goal
 
 pub invariant_of-self : goal.invariant_of-self
 invariant_of-self c =
     let old = c.self.inside.inodes.entries in
-    let removed = map_removed old c.remove.new.self.entries c.args.inode c.in-Some.ensures.ordered c.in-Some.ensures.updates.0 in
     let was : parent_name_in old c.args.inode ≡ Some (c.old.inside.parent, c.old.inside.name) =
     ap (λ (o : Option Held). option_map (λ h. (h.entry.parent, h.entry.name)) o)
     (sym (found_get c.args.inode old) ∙ sym c.in-Some.ensures.value ∙ ap (λ (h : Held). Some h) (sym c.old.view_is)) in
     record {
-      ordered = removed.ordered;
+      ordered = t_true _ (sorted_map c.remove.new.self.entries c.in-Some.ensures.ordered);
       indexed = removed_index old c.remove.new.self.entries c.args.inode (c.old.inside.parent, c.old.inside.name) c.self.inside.children.keys c.remove-in-Some.new.self.keys
-          c.self.invariant.indexed was removed.found c.remove-in-Some.ensures.updates.0;
+          c.self.invariant.indexed was
+          (map_removed old c.remove.new.self.entries c.args.inode c.self.invariant.ordered c.in-Some.ensures.ordered c.in-Some.ensures.updates.0)
+          c.remove-in-Some.ensures.updates.0;
     }
 
 pub returns-in-Some : goal.returns-in-Some
 returns-in-Some c =
-    subst (λ (t : List (ℕ × Held)). IsRemoved t c.remove.new.self.entries c.args.inode) c.self.view_is
-    (map_removed c.self.inside.inodes.entries c.remove.new.self.entries c.args.inode c.in-Some.ensures.ordered c.in-Some.ensures.updates.0)
+    map_removed c.self.inside.inodes.entries c.remove.new.self.entries c.args.inode c.self.invariant.ordered c.in-Some.ensures.ordered c.in-Some.ensures.updates.0
+    ∙ ap (λ (t : List (ℕ × Held)). without_inode t c.args.inode) c.self.view_is
+
+pub returns-in_default : goal.returns-in_default
+returns-in_default c =
+    map_removed c.self.inside.inodes.entries c.remove.new.self.entries c.args.inode c.self.invariant.ordered c.in_default.ensures.ordered c.in_default.ensures.updates.0
+    ∙ ap (λ (t : List (ℕ × Held)). without_inode t c.args.inode) c.self.view_is

@@ -3,6 +3,7 @@ use Rattle.std.specs.FinMap.Entries as entries
 use Rattle.jffs_tree.specs.Origin.{Held}
 use Rattle.jffs_tree.specs.Look.{parent_name_in}
 use Rattle.jffs_tree.specs.Index.{Place, has_place, is_named, IsIndexOf}
+use Rattle.jffs_tree.proofs.Written.{put_there}
 use Rattle.jffs_tree.proofs.Reindexed.{tied, by_place, restored, parted, stayed}
 use Rattle.jffs_tree.proofs.tree.Tree.write.Goals as goal
 
@@ -65,3 +66,15 @@ invariant_of-self-else-not-bears c =
           (ap (λ (t : List (ℕ × Held)). parent_name_in t c.args.node.now.inode) c.self.view_is ∙ sym was)
           (inr (c.in_ok-is_new.ensures.updates.0, stayed c.args.node.now.parent c.args.name (c.in-Some.parent, c.in-Some.left) same));
     }
+
+pub returns-in_default-old-clause-ok : goal.returns-in_default-old-clause-ok
+returns-in_default-old-clause-ok c =
+    put_there c.self.inside.inodes.entries c.args.self.now c.write_inode.new.inodes.entries c.args.node.now c.self.view_is c.self.invariant.ordered c.in_default.ensures.ok
+
+pub returns-then-not-bears-clause-ok : goal.returns-then-not-bears-clause-ok
+returns-then-not-bears-clause-ok c =
+    put_there c.self.inside.inodes.entries c.args.self.now c.write_inode.new.inodes.entries c.args.node.now c.self.view_is c.self.invariant.ordered c.in_default.ensures.ok
+
+pub returns-else-not-bears-clause-ok : goal.returns-else-not-bears-clause-ok
+returns-else-not-bears-clause-ok c =
+    put_there c.self.inside.inodes.entries c.args.self.now c.write_inode.new.inodes.entries c.args.node.now c.self.view_is c.self.invariant.ordered c.in_default.ensures.ok

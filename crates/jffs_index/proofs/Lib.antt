@@ -1,0 +1,4 @@
+pub mod Adding
+pub mod Entered
+pub mod Fronts
+pub mod Kept

@@ -1,0 +1,170 @@
+//! What a reader looks at: a tree, and how requests were answered.
+ghost use Rattle.std.specs.Prelude.{◌≡◌, ◌-◌, ◌++◌, min, length, take, drop, MatchResult, OnOk, OnErr, IfOk};
+ghost use Rattle.std.specs.List.Sorted.{IsPermutation, IsSorted};
+ghost use Rattle.jffs_tree.specs.State.{resolve};
+ghost use Rattle.jffs_tree.specs.Origin.{state_in};
+ghost use Rattle.jffs_tree.specs.Look.{kind_in, size_of, bytes_in, parent_name_in, holds_version, names_in, name_cmp};
+ghost use Rattle.jffs_index.specs.Outcomes.{outcome_at, with_outcome};
+ghost use Rattle.jffs_index.specs.Shown.{tree_tested};
+
+use crate::outcomes::Outcomes;
+use crate::step::Step;
+use jffs_node::{Kind, Name, NoMemory, Node, Path};
+use jffs_tree::{Outcome, Tree};
+use std::alloc::{AllocError, Global};
+use std::marker::Model;
+
+/// The tree and the answers after a number of published steps. All of its calls but `names` take
+/// no memory.
+#[derive(Drop)]
+pub struct View {
+    tree: Tree,
+    outcomes: Outcomes,
+    answered: u64,
+    closed: bool,
+}
+
+impl Model for View {
+    ghost use Rattle.jffs_index.specs.Shown.{Shown};
+
+    ghost Value = { Shown };
+
+    ghost view = { λ v. record { tree = v.tree; outcomes = v.outcomes; answered = v.answered; closed = v.closed } };
+}
+
+impl View {
+    ghost use Rattle.jffs_index.specs.Shown.{opened, after_tested};
+
+    pub(crate) fn new(alloc: Global, tree: Tree) -> View
+        ensures { result ≡ opened tree }
+    {
+        View {
+            tree,
+            outcomes: Outcomes::none(alloc),
+            answered: 0,
+            closed: false,
+        }
+    }
+
+    /// The inode at a path.
+    pub fn resolve(&self, path: &Path) -> Option<u32>
+        ensures { result ≡ resolve (state_in self.now.tree) path.now }
+    {
+        self.tree.resolve(path)
+    }
+
+    /// The names in a directory, each with its inode, by their bytes, equal names by inode.
+    /// None for what isn't a present directory. `NoMemory` where a growth was refused.
+    pub fn names(&self, inode: u32) -> Result<Vec<(Name, u32)>, NoMemory>
+        ensures all { IfOk result (λ names. IsPermutation (names_in self.now.tree inode) names.items) }
+        ensures ordered { IfOk result (λ names. IsSorted name_cmp names.items) }
+    {
+        self.tree.names(inode)
+    }
+
+    /// Reads bytes from a place on, as many as there are and as the slice takes.
+    pub fn read(&self, inode: u32, offset: u32, out: &mut [u8]) -> usize
+        ensures count { result ≡ min (length out.old) (length (bytes_in self.now.tree inode) - offset) }
+        ensures read { out.new ≡ take result (drop offset (bytes_in self.now.tree inode)) ++ drop result out.old }
+    {
+        self.tree.read(inode, offset, out)
+    }
+
+    /// How many bytes it has; a directory has none.
+    pub fn size(&self, inode: u32) -> Option<u32>
+        ensures { result ≡ size_of self.now.tree inode }
+    {
+        self.tree.size(inode)
+    }
+
+    /// What the inode is, where it is present.
+    pub fn kind(&self, inode: u32) -> Option<Kind>
+        ensures { result ≡ kind_in self.now.tree inode }
+    {
+        self.tree.kind(inode)
+    }
+
+    /// Where it stands, and under which name; the root has neither.
+    pub fn parent_name(&self, inode: u32) -> Option<(u32, Name)>
+        ensures { result ≡ parent_name_in self.now.tree inode }
+    {
+        self.tree.parent_name(inode)
+    }
+
+    /// Whether the inode is there and this version of it is live. A source that the log side
+    /// copied beside a request may still count, since such a copy is no step.
+    pub fn live(&self, inode: u32, version: u32) -> bool
+        ensures { result ≡ holds_version self.now.tree inode version }
+    {
+        self.tree.live(inode, version)
+    }
+
+    /// How the latest request of that sender and number was answered.
+    pub fn answer(&self, writer: u16, seq: u32) -> Option<Outcome>
+        ensures { result ≡ outcome_at self.now.outcomes writer seq }
+    {
+        self.outcomes.get(writer, seq)
+    }
+
+    /// How many requests were answered.
+    pub fn answered(&self) -> u64
+        ensures { result ≡ self.now.answered }
+    {
+        self.answered
+    }
+
+    /// Whether an Unmount was answered Closed.
+    pub fn closed(&self) -> bool
+        ensures { result ≡ self.now.closed }
+    {
+        self.closed
+    }
+
+    /// Takes in a step. One whose node doesn't fit leaves the tree. Refused memory changes nothing,
+    /// and so does the step behind the last that can be counted.
+    pub(crate) fn take_in(&mut self, step: &Step) -> Result<(), AllocError>
+        ensures { MatchResult result (λ _. self.new ≡ after_tested self.old step.now) (λ _. self.new ≡ self.old) }
+    {
+        let answered = self.answered.checked_add(1).ok_or(AllocError)?;
+        self.enter(step)?;
+        self.answered = answered;
+        self.closed |= matches!(step.outcome, Outcome::Closed);
+        Ok(())
+    }
+
+    #[tactic(auto, using(crate::proofs::Entered::taken_back))]
+    /// Enters a step's outcome and applies its node. The one that may be refused memory comes
+    /// first, or is taken back.
+    fn enter(&mut self, step: &Step) -> Result<(), AllocError>
+        ensures entered { OnOk result (self.new ≡ record self.old { tree = tree_tested self.old.tree step.now.node; outcomes = with_outcome self.old.outcomes step.now.writer step.now.seq step.now.outcome }) }
+        ensures refused { OnErr result (self.new ≡ self.old) }
+    {
+        let Step {
+            writer,
+            seq,
+            outcome,
+            node,
+        } = step;
+        if self.outcomes.get(*writer, *seq).is_some() {
+            apply_fitting(&mut self.tree, node)?;
+            return self.outcomes.enter(*writer, *seq, *outcome);
+        }
+        self.outcomes.enter(*writer, *seq, *outcome)?;
+        if let Err(refused) = apply_fitting(&mut self.tree, node) {
+            self.outcomes.leave(*writer, *seq);
+            return Err(refused);
+        }
+        Ok(())
+    }
+}
+
+/// Applies a node where it fits.
+pub(crate) fn apply_fitting(tree: &mut Tree, node: &Option<Node>) -> Result<(), AllocError>
+    ensures applied { OnOk result (tree.new ≡ tree_tested tree.old node.now) }
+    ensures refused { OnErr result (tree.new ≡ tree.old) }
+{
+    match node {
+        Some(node) if tree.can_apply(node) => tree.apply(node).map_err(|_| AllocError),
+        _ => Ok(()),
+    }
+}

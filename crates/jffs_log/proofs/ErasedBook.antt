@@ -1,0 +1,59 @@
+-- The book after the oldest sector was erased.
+use Rattle.std.proofs.Common.{◌≡◌, inl, inr, ℕ, ◌+◌, ◌-◌, ◌*◌, ◌<◌, ◌≤◌, List, ◌++◌, length, flat_map, sym, ap, subst, ◌∙◌, arith}
+use Rattle.jffs_flash.specs.Image.{erased}
+use Rattle.jffs_log.specs.declared.book.Kept.{Kept}
+use Rattle.jffs_log.specs.Image.{records_in, records_in_first, log_sectors}
+use Rattle.jffs_log.specs.Volume.{sectors_in}
+use Rattle.jffs_log.specs.Ring.{IsAt, IsNext}
+use Rattle.jffs_log.specs.Live.{live_log}
+use Rattle.jffs_log.specs.Cleaning.{layout_of, erase_oldest}
+use Rattle.jffs_log.specs.Book.{IsKept, from_other}
+use Rattle.jffs_log.proofs.Ring.{Numbered}
+use Rattle.jffs_log.proofs.Appended.{kept_inside, image_small}
+use Rattle.jffs_log.proofs.Erased.{IsErasedOldest, oldest_erased, placed_go, sector_fits}
+use Rattle.jffs_log.proofs.Layouts.{layout_erased}
+
+next_is : (first count next : ℕ) → first < count → IsAt first count 1 next → IsNext first count next
+next_is first count next inside (inl at) = let e = at.0 in inl (omega arith, at.1)
+next_is first count next inside (inr at) = let e = at.0 in let l = at.1 in inr (omega arith, omega arith)
+
+pub record IsBookErased (count len : ℕ) (old new : List ℕ) (next left tail used free : ℕ) (rest : List Kept) : Type 0 where
+  pub book : IsKept count len new next left tail used free rest
+  pub gone : live_log count len old ≡ records_in_first (log_sectors (sectors_in count len old)) ++ live_log count len new
+  pub layout : layout_of len (sectors_in count len new) ≡ erase_oldest (layout_of len (sectors_in count len old))
+
+pub book_erased : (count len : ℕ) (old new : List ℕ) (first many tail used free next : ℕ) (records rest : List Kept) → IsKept count len old first many tail used free records → 2 ≤ many → IsAt first count 1 next
+    → new ≡ erased len first old → rest ≡ from_other first records → IsBookErased count len old new next (many - 1) tail used free rest
+book_erased count len old new first many tail used free next records rest h several at changed left =
+    subst (λ (xs : List ℕ). IsBookErased count len old xs next (many - 1) tail used free rest) (sym changed) on_erased
+  where
+    inside : first < count
+    inside = (kept_inside count len old first many tail used free records h).0
+
+    e : IsErasedOldest count len old (erased len first old) first next (many - 1) tail used free records
+    e = oldest_erased count len old first many tail used free next records h several (next_is first count next inside at)
+
+    others : rest ≡ e.others
+    others =
+        left
+        ∙ ap (λ k. from_other k records) (sym e.number)
+        ∙ ap (from_other e.oldest.0) e.listed
+        ∙ placed_go e.oldest.0 0 e.oldest.1.reading.nodes e.others
+        ∙ e.forgets
+
+    on_erased : IsBookErased count len old (erased len first old) next (many - 1) tail used free rest
+    on_erased = record {
+      book = subst (λ (rs : List Kept). IsKept count len (erased len first old) next (many - 1) tail used free rs) (sym others) e.book;
+      gone =
+          ap (flat_map records_in) e.sectors
+          ∙ ap (λ (xs : List Numbered). records_in_first xs ++ live_log count len (erased len first old)) (sym e.sectors);
+      layout = layout_erased count len old (erased len first old) first next many tail used free records e.others e.oldest h e.book several e.sectors;
+    }
+
+-- The oldest sector lies inside the image.
+pub oldest_inside : (count len : ℕ) (image : List ℕ) (first many tail used free : ℕ) (records : List Kept) → IsKept count len image first many tail used free records
+    → (first * len + len ≤ length image) × (length image ≤ 1048576)
+oldest_inside count len image first many tail used free records h =
+    let fits = sector_fits count len first (kept_inside count len image first many tail used free records h).0 in
+    let whole = h.whole in
+    (omega arith, image_small count len image h.sizes h.whole)

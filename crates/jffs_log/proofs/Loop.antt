@@ -1,0 +1,48 @@
+-- The records of the oldest sector, one after another.
+use Rattle.std.proofs.Common.{◌≡◌, ℕ, ◌≤◌, Bool, true, false, cond, ◌&&◌, List, [], ◌∷◌, ◌++◌, length, ⊎_elim, refl, ap, subst, sym, ◌∙◌, arith}
+use Rattle.std.proofs.lemmas.Bool.{cases_Bool}
+use Rattle.jffs_node.specs.declared.node.Node.{Node}
+use Rattle.jffs_tree.specs.Origin.{is_live}
+use Rattle.jffs_log.specs.declared.room.Room.TheVariants.{Copy}
+use Rattle.jffs_log.specs.Cleaning.{Session, in_last, copied, with_copy, handled, handled_each, copy_has_room, copies_have_room, oldest_records}
+use Rattle.jffs_log.specs.RoomLaws.{HandledInParts, OldestStays}
+use Rattle.jffs_log.proofs.Sectors.{length_in_last, length_in_next}
+use Rattle.jffs_log.proofs.Puts.{put_by}
+
+and_in_parts : (a b c : Bool) → (a && (b && c)) ≡ ((a && b) && c)
+and_in_parts true b c = refl
+and_in_parts false b c = refl
+
+pub handled_in_parts : HandledInParts
+handled_in_parts z [] rest s = (refl, refl)
+handled_in_parts z (n ∷ done) rest s =
+    let later = handled_in_parts z done rest (handled z n s) in (
+      later.0,
+      ap (λ b. copy_has_room n s && b) later.1 ∙ and_in_parts (copy_has_room n s) (copies_have_room z done (handled z n s)) (copies_have_room z rest (handled_each z done (handled z n s))),
+    )
+
+abbrev Stays : List (List Node) → List (List Node) → Type 0
+Stays before after = (oldest_records after ≡ oldest_records before) × (2 ≤ length after)
+
+stays_in_last : (n : Node) (sectors : List (List Node)) → 2 ≤ length sectors → Stays sectors (in_last n sectors)
+stays_in_last n [] h = absurd (omega arith)
+stays_in_last n (s ∷ []) h = absurd (omega arith)
+stays_in_last n (s ∷ t ∷ sectors) h = (refl, (let e = length_in_last n s (t ∷ sectors) in omega arith))
+
+stays_in_next : (n : Node) (sectors : List (List Node)) → 2 ≤ length sectors → Stays sectors (sectors ++ (n ∷ []) ∷ [])
+stays_in_next n [] h = absurd (omega arith)
+stays_in_next n (s ∷ sectors) h = (refl, (let e = length_in_next n (s ∷ sectors) in omega arith))
+
+stays_one : (z : ℕ) (n : Node) (s : Session) → 2 ≤ length s.log.sectors → Stays s.log.sectors (handled z n s).log.sectors
+stays_one z n s h = ⊎_elim
+    (λ live. subst (λ t. Stays s.log.sectors (cond t (with_copy z n s) s).log.sectors) (sym live)
+    (put_by (λ l. Stays s.log.sectors l.sectors) z Copy (copied s.past n) s.log (λ fits. stays_in_last (copied s.past n) s.log.sectors h) (λ less. stays_in_next (copied s.past n) s.log.sectors h)))
+    (λ off. subst (λ t. Stays s.log.sectors (cond t (with_copy z n s) s).log.sectors) (sym off) (refl, h))
+    (cases_Bool (is_live s.past n.version))
+
+pub oldest_stays : OldestStays
+oldest_stays z [] s h = (refl, h)
+oldest_stays z (n ∷ nodes) s h =
+    let one = stays_one z n s h in
+    let later = oldest_stays z nodes (handled z n s) one.1 in
+    (later.0 ∙ one.0, later.1)

@@ -1,0 +1,22 @@
+-- What holds where a call answered Ok or Err.
+use Rattle.std.proofs.Common.{Result, Ok, Err, OnOk, IfErr, MatchResult}
+
+pub if_err : {A E : Type 0} (r : Result A E) (P : Type 0) → P → IfErr r (λ _. P)
+if_err (Ok x) P h = tt
+if_err (Err e) P h = h
+
+pub on_ok : {A E : Type 0} (r : Result A E) (P Q : Type 0) → (P → Q) → OnOk r P → OnOk r Q
+on_ok (Ok x) P Q f h = f h
+on_ok (Err e) P Q f h = tt
+
+pub on_err : {A E : Type 0} (r : Result A E) (P Q : Type 0) → (P → Q) → IfErr r (λ _. P) → IfErr r (λ _. Q)
+on_err (Ok x) P Q f h = tt
+on_err (Err e) P Q f h = f h
+
+pub on_both : {A E : Type 0} (r : Result A E) (P Q R : Type 0) → (P → Q → R) → OnOk r P → OnOk r Q → OnOk r R
+on_both (Ok x) P Q R f h k = f h k
+on_both (Err e) P Q R f h k = tt
+
+pub on_each : {A E : Type 0} (r : Result A E) (B L C P Q : Type 0) → (B → L → P) → (C → Q) → OnOk r B → OnOk r L → IfErr r (λ _. C) → MatchResult r (λ _. P) (λ _. Q)
+on_each (Ok x) B L C P Q f g h k c = f h k
+on_each (Err e) B L C P Q f g h k c = g c

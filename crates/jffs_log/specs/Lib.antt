@@ -1,0 +1,17 @@
+pub mod Image
+pub mod Sector
+pub mod Volume
+pub mod Live
+pub mod Gate
+pub mod Book
+pub mod Ring
+pub mod Scan
+pub mod Room
+pub mod Cleaning
+pub mod Laws
+pub mod RoomLaws
+pub mod Rows
+pub mod RoomRows
+pub mod History
+pub mod ScanRead
+pub mod ScanFound

@@ -1,0 +1,54 @@
+-- What a scan answers: the book and the numbers that come next, or the cause of its refusal.
+use Rattle.std.specs.Prelude.{◌≡◌, ℕ, ◌+◌, ◌-◌, ◌/◌, ◌<◌, Bool, not, ◌||◌, max, nat_lt, List, [], ◌∷◌, Option, Some, None, is_some, Result, Ok, Err, if◌then◌else◌}
+use Rattle.jffs_node.specs.declared.node.Node.{Node}
+use Rattle.jffs_node.specs.Record.{is_file}
+use Rattle.jffs_tree.specs.declared.wish.Limits.{Limits}
+use Rattle.jffs_tree.specs.Origin.{Tree}
+use Rattle.jffs_log.specs.declared.book.Book.{Book}
+use Rattle.jffs_log.specs.declared.scanning.ScanWhy.{ScanWhy}
+use Rattle.jffs_log.specs.declared.scanning.ScanWhy.TheVariants.{Device, Memory}
+use Rattle.jffs_log.specs.Image.{nodes_of}
+use Rattle.jffs_log.specs.Volume.{split}
+use Rattle.jffs_log.specs.Book.{IsBook, HasSizes, log_in}
+use Rattle.jffs_log.specs.Scan.{Scanned, scan}
+
+-- the version of the last node, 0 where there is none
+abbrev pub last_version : List Node → ℕ
+last_version [] = 0
+last_version (n ∷ []) = n.version
+last_version (n ∷ m ∷ nodes) = last_version (m ∷ nodes)
+
+-- the greatest inode of any node, at least that of the root
+abbrev pub greatest_inode : List Node → ℕ
+greatest_inode [] = 1
+greatest_inode (n ∷ nodes) = max n.inode (greatest_inode nodes)
+
+-- the number after this one, where it fits 32 bits
+abbrev pub next_number : ℕ → Option ℕ
+next_number k = if nat_lt k 4294967295 then Some (k + 1) else None
+
+-- the longest data of a node in sectors of so many bytes, and the numbers after those of the log
+abbrev pub limits_of : ℕ → List Node → Limits
+limits_of len nodes = record {
+  data_max = len / 4 - 64;
+  next_inode = next_number (greatest_inode nodes);
+  next_version = next_number (last_version nodes);
+}
+
+-- a file's node of the first form comes before all nodes of the second
+abbrev pub keeps_form_after : Bool → Node → Bool
+keeps_form_after has_sizes n = not (is_file n.kind) || n.deleted || is_some n.size || not has_sizes
+
+-- the scan of the image, with the book that tells of it
+pub record IsFound (count len : ℕ) (image : List ℕ) (found : Book) (tree : Tree) (clean : Bool) (limits : Limits) : Type 0 where
+  pub answer : scan len (split count len image) ≡ Ok (record { log = log_in image found; tree = tree; clean = clean })
+  pub book : IsBook image found
+  pub sizes : HasSizes count len found
+  pub erases : found.erases ≡ 0
+  pub limits_are : limits ≡ limits_of len (nodes_of (log_in image found))
+
+-- why the scan was refused: the device, memory, or the definition's answer
+abbrev pub IsCause : ScanWhy → ℕ → ℕ → Result Scanned ScanWhy → Type 0
+IsCause Device before after answer = before < after
+IsCause Memory before after answer = after ≡ before
+IsCause why before after answer = (answer ≡ Err why) × (after ≡ before)

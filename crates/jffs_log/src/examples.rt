@@ -1,0 +1,17 @@
+//! What the definitions give on examples. The functions do nothing: their contracts say it.
+
+ghost use Rattle.jffs_log.specs.Rows.{Refusals, MixedForms, FirstScan, Turning};
+ghost use Rattle.jffs_log.specs.RoomRows.{FullVolume};
+
+/// Images are refused, or read, as on these examples.
+pub fn examples_are_scanned()
+    ensures refused { Refusals }
+    ensures mixed { MixedForms }
+    ensures first { FirstScan }
+    ensures turning { Turning }
+{}
+
+/// A full volume is cleaned as on this example.
+pub fn example_is_cleaned()
+    ensures { FullVolume }
+{}

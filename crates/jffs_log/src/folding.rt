@@ -1,0 +1,106 @@
+//! What the nodes of a log make: the numbers that come next, and the tree.
+
+ghost use Rattle.std.specs.Prelude.{◌≡◌, ◌⊎◌, ◌&&◌, ◌-◌, ◌/◌, true, false, reverse, IsTrue, IfOk, IfErr, if◌then◌else◌};
+ghost use Rattle.std.specs.List.{AllByRecursion, list_any};
+ghost use Rattle.jffs_node.specs.Record.{is_lawful};
+ghost use Rattle.jffs_tree.specs.Origin.{tree_of};
+ghost use Rattle.jffs_tree.specs.Check.{makes_tree};
+ghost use Rattle.jffs_tree.specs.After.{can_apply, keeps_places_in};
+ghost use Rattle.jffs_log.specs.Scan.{versions_rise};
+ghost use Rattle.jffs_log.specs.ScanFound.{last_version, greatest_inode, next_number, keeps_form_after};
+
+use crate::scanning::ScanWhy;
+use crate::sector::RECORDS_PER_SECTOR;
+use jffs_node::{HEADER_LEN, Kind, Node, ROOT_INODE};
+use jffs_tree::{Limits, Tree};
+use std::alloc::Global;
+
+/// The greatest numbers of a log.
+#[derive(Clone, Copy)]
+pub(crate) struct Numbers {
+    /// The last version, 0 where the log is empty.
+    version: u32,
+    /// The greatest inode, at least that of the root.
+    inode: u32,
+}
+
+impl Numbers {
+    /// The greatest numbers of the nodes; `BadOrder` where their versions don't rise.
+    pub(crate) fn of(nodes: &[Node]) -> Result<Numbers, ScanWhy>
+        requires { AllByRecursion (λ n. IsTrue (is_lawful n)) nodes.now }
+        ensures rise { IfOk result (λ _. versions_rise nodes.now ≡ true) }
+        ensures version { IfOk result (λ numbers. numbers.version ≡ last_version nodes.now) }
+        ensures inode { IfOk result (λ numbers. numbers.inode ≡ greatest_inode nodes.now) }
+        ensures refused { IfErr result (λ why. (why ≡ ScanWhy.BadOrder) × (versions_rise nodes.now ≡ false)) }
+    {
+        let mut numbers = Numbers {
+            version: 0,
+            inode: ROOT_INODE,
+        };
+        for node in nodes {
+            if node.version <= numbers.version {
+                return Err(ScanWhy::BadOrder);
+            }
+            numbers.version = node.version;
+            numbers.inode = numbers.inode.max(node.inode);
+        }
+        Ok(numbers)
+    }
+
+    /// The longest data of a node, and the numbers that come next; none where they are used up.
+    pub(crate) fn limits(self, sector_size: u32) -> Limits
+        ensures data_max { result.data_max ≡ sector_size / 4 - 64 }
+        ensures inode { result.next_inode ≡ next_number self.inode }
+        ensures version { result.next_version ≡ next_number self.version }
+    {
+        Limits {
+            data_max: (sector_size / RECORDS_PER_SECTOR).saturating_sub(HEADER_LEN as u32),
+            next_inode: self.inode.checked_add(1),
+            next_version: self.version.checked_add(1),
+        }
+    }
+}
+
+/// The tree of all nodes, copies included. `BadTree` where they make none, `Memory` where a
+/// growth was refused.
+pub(crate) fn tree_of_log(alloc: Global, nodes: &[Node]) -> Result<Tree, ScanWhy>
+    requires { AllByRecursion (λ n. IsTrue (is_lawful n)) nodes.now }
+    ensures value { IfOk result (λ tree. tree ≡ tree_of (reverse nodes.now)) }
+    ensures lawful { IfOk result (λ _. makes_tree (reverse nodes.now) ≡ true) }
+    ensures refused { IfErr result (λ why.
+        (why ≡ ScanWhy.Memory) ⊎ ((why ≡ ScanWhy.BadTree) × (makes_tree (reverse nodes.now) ≡ false))) }
+{
+    let mut tree = Tree::new(alloc);
+    let mut has_sizes = false;
+    for node in nodes {
+        if !fits(&tree, node, has_sizes) {
+            return Err(ScanWhy::BadTree);
+        }
+        match tree.apply(node) {
+            Ok(()) => has_sizes = has_sizes || node.size.is_some(),
+            // Nothing but memory was wanting.
+            Err(_) => return Err(ScanWhy::Memory),
+        }
+    }
+    if tree.check() {
+        Ok(tree)
+    } else {
+        Err(ScanWhy::BadTree)
+    }
+}
+
+/// Whether the node may come next in a log of this tree, which has nodes of the second form or has none.
+fn fits(tree: &Tree, node: &Node, has_sizes: bool) -> bool
+    ensures value { result ≡ (keeps_form_after has_sizes node.now && can_apply tree.now node.now) }
+    ensures lawful { result ≡ true → IsTrue (is_lawful node.now) }
+    ensures places { result ≡ true → IsTrue (keeps_places_in tree.now node.now) }
+{
+    keeps_form(node, has_sizes) && tree.can_apply(node)
+}
+
+/// A file's node of the first form comes before all nodes of the second.
+fn keeps_form(node: &Node, has_sizes: bool) -> bool
+    ensures { result ≡ keeps_form_after has_sizes node.now }
+{
+    !matches!(node.kind, Kind::File) || node.deleted || node.size.is_some() || !has_sizes
+}

@@ -1,0 +1,67 @@
+//! Laws over the definitions. The functions do nothing: their contracts are the laws.
+
+ghost use Rattle.jffs_log.specs.Laws.{ErasingKeepsWeight};
+ghost use Rattle.jffs_log.specs.RoomLaws.{CopiesTakeOver, UnmountNodesAreDead, CopiesKeepSound, HandledAreDead};
+ghost use Rattle.jffs_log.specs.RoomLaws.{PutsKeepErased, FreshKeepsTwo, PutsKeepSound, ErasingKeepsSound, UnmountHasRoom};
+ghost use Rattle.jffs_log.specs.RoomLaws.{CleaningHasRoom, CleaningMayStop, HandledInParts, OldestStays, MakingRoomKeepsSound, CleaningsAreFew};
+ghost use Rattle.jffs_log.specs.RoomLaws.{FullLogsAreHeavy, FullLogsFill, LogsWeighLess, PutsAreNewest, ErasedAreOldest, VersionsFollow};
+ghost use Rattle.jffs_log.specs.RoomLaws.{MountsAreSound};
+ghost use Rattle.jffs_log.specs.History.{MountsAreHistories, HistoriesAreScanned, AppendsKeepHistory, CutsKeepHistory, ErasingKeepsHistory};
+
+/// What is erased without live nodes weighed nothing.
+pub fn weight_is_kept()
+    ensures { ErasingKeepsWeight }
+{}
+
+/// The copy that cleaning makes of a live node takes over from it, and no other node comes to life.
+pub fn copies_take_over()
+    ensures copies { CopiesTakeOver }
+    ensures unmounts { UnmountNodesAreDead }
+    ensures sound { CopiesKeepSound }
+    ensures dead { HandledAreDead }
+{}
+
+/// A record that has room leaves a sector erased, and the log lawful.
+pub fn puts_keep_room()
+    ensures one { PutsKeepErased }
+    ensures two { FreshKeepsTwo }
+    ensures sound { PutsKeepSound }
+    ensures erased { ErasingKeepsSound }
+    ensures unmount { UnmountHasRoom }
+{}
+
+/// Cleaning opens at most one sector, so its copies have room, and a turn of it erases each sector once at most.
+pub fn cleaning_keeps_room()
+    ensures one { CleaningHasRoom }
+    ensures stopped { CleaningMayStop }
+    ensures parts { HandledInParts }
+    ensures oldest { OldestStays }
+    ensures turn { MakingRoomKeepsSound }
+    ensures few { CleaningsAreFew }
+{}
+
+/// Where a fresh node has no room after a whole turn of cleaning, what was live weighed much.
+pub fn full_logs_are_heavy()
+    ensures heavy { FullLogsAreHeavy }
+    ensures filled { FullLogsFill }
+    ensures part { LogsWeighLess }
+    ensures newest { PutsAreNewest }
+    ensures oldest { ErasedAreOldest }
+    ensures versions { VersionsFollow }
+{}
+
+/// A mounted image has a lawful log.
+pub fn mounts_are_sound()
+    ensures { MountsAreSound }
+{}
+
+/// The history of a log stays lawful where lawful nodes are appended and records that aren't live are erased, and a
+/// scan finds its log and the tree of the whole of it: so no chain of appends and erases makes a volume that can't
+/// be mounted, or that is mounted as another.
+pub fn histories_stay_lawful()
+    ensures mounted { MountsAreHistories }
+    ensures scanned { HistoriesAreScanned }
+    ensures appended { AppendsKeepHistory }
+    ensures cut { CutsKeepHistory }
+    ensures erased { ErasingKeepsHistory }
+{}

@@ -1,0 +1,39 @@
+//! What the live records of the log weigh.
+
+ghost use Rattle.std.specs.Prelude.{◌≡◌, ◌<◌, ◌^◌, List, length, map, filter, sum};
+ghost use Rattle.jffs_tree.specs.Look.{holds_version};
+
+use crate::book::Kept;
+use crate::log::Log;
+use jffs_flash::Flash;
+use jffs_tree::Tree;
+use std::collections::VecDeque;
+
+impl<F: Flash> Log<F> {
+    ghost use Rattle.jffs_node.specs.declared.node.Node.{Node};
+    ghost use Rattle.jffs_tree.specs.Origin.{tree_of};
+    ghost use Rattle.jffs_log.specs.Book.{IsBook, log_in, weight_in};
+    ghost use Rattle.jffs_log.specs.History.{IsHistory};
+    ghost use Rattle.jffs_log.specs.Room.{weight};
+
+    /// The sum of the record lengths, in bytes, of those records that live in the tree of all nodes. Takes no memory.
+    pub fn live_weight(&self, tree: &Tree) -> u64
+        requires book { IsBook (F.image self.now.flash) self.now.book }
+        ensures whole { (past : List Node) → tree.now ≡ tree_of past → IsHistory (F.image self.now.flash) self.now.book past → result ≡ weight past }
+        ensures weighed { result ≡ weight_in tree.now (log_in (F.image self.now.flash) self.now.book) }
+    {
+        weight_of(&self.book.records, tree)
+    }
+}
+
+/// The sum of the lengths of those records that live in the tree.
+fn weight_of(records: &VecDeque<Kept>, tree: &Tree) -> u64
+    requires { length records.now.items < 2 ^ 32 }
+    ensures { result ≡ sum (map (λ k. k.length) (filter (λ k. holds_version tree.now k.inode k.version) records.now.items)) }
+{
+    records
+        .iter()
+        .filter(|kept| tree.live(kept.inode, kept.version))
+        .map(|kept| u64::from(kept.length))
+        .sum()
+}

@@ -1,0 +1,5 @@
+use Rattle.jffs_tree.proofs.Grown.{tree_steps}
+use Rattle.jffs_tree.proofs.laws.trees_step_by_nodes.Goals as goal
+
+pub returns : goal.returns
+returns c = tree_steps

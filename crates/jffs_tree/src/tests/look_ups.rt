@@ -1,0 +1,108 @@
+//! Two trees are the same where every look-up answers the same.
+
+use super::*;
+
+/// More inodes than the tests make.
+const INODES: u32 = 16;
+
+/// More bytes than the files here have.
+const PLACES: usize = 16;
+
+/// Eight names deep.
+const DEEP: &str = "/a/b/c/d/e/f/g/h";
+
+/// Every path of the deep tree, and some that lead nowhere.
+const PATHS: [&str; 13] = [
+    "/",
+    "/a",
+    "/a/b",
+    "/a/b/c",
+    "/a/b/c/d",
+    "/a/b/c/d/e",
+    "/a/b/c/d/e/f",
+    "/a/b/c/d/e/f/g",
+    DEEP,
+    "/a/b/n",
+    "/gone",
+    "/a/a",
+    "/a/b/n/x",
+];
+
+/// A file eight names deep with two holes, another beside its path, and one that is gone.
+fn deep(rt: &impl Abort, alloc: Global) -> Result<Session, Fail> {
+    let mut session = Session::new(alloc);
+    for text in &PATHS[1..8] {
+        session.grant(rt, make_dir(alloc, text)?)?;
+    }
+    session.grant(rt, create(alloc, DEEP)?)?;
+    session.grant(rt, write(alloc, DEEP, 3, b"xyz")?)?;
+    session.grant(rt, truncate(alloc, DEEP, 9)?)?;
+    session.grant(rt, write(alloc, DEEP, 12, b"q")?)?;
+    session.grant(rt, create(alloc, "/a/b/n")?)?;
+    session.grant(rt, write(alloc, "/a/b/n", 0, b"beside")?)?;
+    session.grant(rt, create(alloc, "/gone")?)?;
+    session.grant(rt, remove(alloc, "/gone")?)?;
+    Ok(session)
+}
+
+/// Each look-up of each inode.
+pub(super) fn are_the_same(rt: &impl Abort, tree: &Tree, other: &Tree) -> Result<(), Fail> {
+    assert_eq!(rt; tree.check(), other.check());
+    for inode in 0..INODES {
+        assert_eq!(rt; tree.kind(inode), other.kind(inode));
+        assert_eq!(rt; tree.size(inode), other.size(inode));
+        assert!(rt; tree.parent_name(inode) == other.parent_name(inode));
+        assert_eq!(rt; tree.newest(inode), other.newest(inode));
+        have_the_same_bytes(rt, tree, other, inode);
+        have_the_same_names(rt, tree, other, inode)?;
+    }
+    Ok(())
+}
+
+fn have_the_same_bytes(rt: &impl Abort, tree: &Tree, other: &Tree, inode: u32) {
+    let mut read = [0xFFu8; PLACES];
+    let mut also_read = [0xFFu8; PLACES];
+    let count = tree.read(inode, 0, &mut read);
+    assert_eq!(rt; other.read(inode, 0, &mut also_read), count);
+    assert_eq!(rt; read.as_slice(), also_read.as_slice());
+    for number in 0..PLACES as u32 {
+        assert_eq!(rt;
+            tree.last_writer(inode, number),
+            other.last_writer(inode, number)
+        );
+        assert_eq!(rt; tree.live(inode, number), other.live(inode, number));
+    }
+}
+
+fn have_the_same_names(rt: &impl Abort, tree: &Tree, other: &Tree, inode: u32) -> Result<(), Fail> {
+    let listed = names(tree, inode)?;
+    let also_listed = names(other, inode)?;
+    assert_eq!(rt; listed.len(), also_listed.len());
+    for (name, also) in listed.iter().zip(also_listed.iter()) {
+        assert_eq!(rt; name.0.bytes(), also.0.bytes());
+        assert_eq!(rt; name.1, also.1);
+    }
+    Ok(())
+}
+
+#[test]
+fn a_deep_tree_is_copied_look_up_by_look_up(rt: HostRuntime) -> Result<(), Fail> {
+    let alloc = rt.alloc();
+    let mut session = deep(&rt, alloc)?;
+    let copied = copied(&session.tree)?;
+    are_the_same(&rt, &session.tree, &copied)?;
+    for text in &PATHS {
+        let path = path(alloc, text)?;
+        assert_eq!(rt;
+            session.tree.resolve(&path),
+            copied.resolve(&path),
+            "at {text}"
+        );
+    }
+    assert_eq!(rt; copied.resolve(&path(alloc, DEEP)?), Some(9));
+    assert_eq!(rt; copied.size(9), Some(13));
+    session.contents(&rt, 9, b"\0\0\0xyz\0\0\0\0\0\0q");
+    session.grant(&rt, remove(alloc, DEEP)?)?;
+    assert_eq!(rt; copied.kind(9), Some(Kind::File));
+    Ok(())
+}

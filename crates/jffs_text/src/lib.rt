@@ -8,6 +8,8 @@ mod dumping;
 mod fault;
 mod keyword;
 mod script;
+#[cfg(test)]
+mod tests;
 mod word;
 
 pub use command::{Command, FILL_MAX};

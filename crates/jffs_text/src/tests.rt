@@ -1,0 +1,55 @@
+//! Trees that are dumped.
+
+use crate::dumping::dump;
+use crate::script::Script;
+use jffs_tree::{Limits, Tree};
+use std::alloc::Global;
+use std::process::Abort;
+use std::test::Fail;
+
+/// The tree that a script's first writer makes, where nothing stands against a wish.
+fn grown(rt: &impl Abort, alloc: Global, script: &str) -> Result<Tree, Fail> {
+    let script = Script::parse(alloc, script.as_bytes())?;
+    let writer = script.writers.first().ok_or("no writer")?;
+    let mut tree = Tree::new(alloc);
+    let mut next_inode = 2u32;
+    let mut version = 1u32;
+    for command in &writer.commands {
+        let limits = Limits {
+            data_max: 192,
+            next_inode: Some(next_inode),
+            next_version: Some(version),
+        };
+        let wish = command.wish(alloc)?;
+        let node = tree.decide(limits, &wish)?.with(version, 1, version);
+        assert!(rt; tree.can_apply(&node));
+        tree.apply(&node)?;
+        next_inode = next_inode.max(node.inode.saturating_add(1));
+        version = version.saturating_add(1);
+    }
+    Ok(tree)
+}
+
+fn dumped(alloc: Global, tree: &Tree) -> Result<Vec<u8>, Fail> {
+    let mut out = Vec::new(alloc);
+    dump(alloc, tree, &mut out)?;
+    Ok(out)
+}
+
+#[test]
+fn a_copied_tree_is_dumped_to_the_same_text(rt: HostRuntime) -> Result<(), Fail> {
+    let alloc = rt.alloc();
+    let tree = grown(
+        &rt,
+        alloc,
+        "volume 8 1024\nwriter\nmkdir /a\ncreate /a/f\nrename /a /b\nmkdir /c\nrename /b/f /c/f\nwrite /c/f 2 6869\nremove /b",
+    )?;
+    let copied = tree.copy_tree()?;
+    let text = dumped(alloc, &tree)?;
+    assert_eq!(rt;
+        text.as_slice(),
+        b"d /\nd /c\nf /c/f 4 00006869\n".as_slice()
+    );
+    assert!(rt; dumped(alloc, &copied)? == text);
+    Ok(())
+}

@@ -1,1 +1,10 @@
 pub mod Standing
+pub mod History
+pub mod Step
+pub mod Run
+pub mod Past
+pub mod Acting
+pub mod RoomSteps
+pub mod Rows
+pub mod Nodes
+pub mod Jobs

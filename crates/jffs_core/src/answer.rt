@@ -1,5 +1,9 @@
 //! Answers.
 
+ghost use Rattle.std.specs.Prelude.{◌≡◌};
+ghost use Rattle.jffs_core.specs.Nodes.{HasNode, HasNumbers};
+
+use jffs_node::Node;
 use jffs_tree::Outcome;
 
 /// What a sender's request was answered.
@@ -10,4 +14,27 @@ pub struct Answer {
     /// The request's number among those that the sender's line accepted, from 1.
     pub seq: u32,
     pub outcome: Outcome,
+}
+
+/// What a request was answered, and the node that was appended for it. A refused request, and an
+/// Unmount of a clean log, append none.
+#[derive(Drop)]
+pub struct Answered {
+    pub outcome: Outcome,
+    pub node: Option<Node>,
+}
+
+impl Answered {
+    /// What a request was answered for which this node was to be appended.
+    pub(crate) fn of(outcome: Outcome, node: Node) -> Answered
+        requires { HasNumbers outcome node }
+        ensures outcome { result.outcome ≡ outcome }
+        ensures node { HasNode result.outcome result.node }
+    {
+        let node = match outcome {
+            Outcome::Refused(_) => None,
+            _ => Some(node),
+        };
+        Answered { outcome, node }
+    }
 }

@@ -1,18 +1,27 @@
 //! One request, one answer.
 
-ghost use Rattle.std.specs.Prelude.{◌≡◌, ◌<◌, ◌≤◌, ◌++◌, ◌∷◌, [], length, IsTrue, OnOk, IfErr};
-ghost use Rattle.jffs_node.specs.Record.{record_len as length_of, is_unmount};
+ghost use Rattle.std.specs.Prelude.{◌≡◌, ◌<◌, ◌≤◌, ◌+◌, ◌^◌, ◌++◌, ◌∷◌, ◌||◌, ◌&&◌, [], List, length, true, false, OnOk, IfErr, Ok};
+ghost use Rattle.jffs_node.specs.Record.{record_len as length_of};
 ghost use Rattle.jffs_core.specs.Standing.{IsSameButPlaces};
+ghost use Rattle.jffs_core.specs.Step.{is_copy_wish, is_unmount_wish};
+ghost use Rattle.jffs_core.specs.Acting.{is_closed};
+ghost use Rattle.jffs_core.specs.Nodes.{HasNode, HasNumbers};
 
-use crate::answer::Answer;
+use crate::answer::{Answer, Answered};
 use crate::mounted::Core;
 use jffs_flash::Flash;
 use jffs_line::Request;
-use jffs_log::{RECORD_MAX, Room};
-use jffs_node::{HEADER_LEN, Kind, Node, record_len};
+use jffs_log::Room;
+use jffs_node::{Node, record_len};
 use jffs_tree::{Cause, Outcome, Wish};
 
 impl<F: Flash> Core<F> {
+    ghost use Rattle.jffs_node.specs.declared.node.Node.{Node};
+    ghost use Rattle.jffs_log.specs.Book.{HasSizes};
+    ghost use Rattle.jffs_core.specs.Standing.{SameAnswers};
+    ghost use Rattle.jffs_core.specs.Past.{Knows, StandsFor, has_room_for};
+    ghost use Rattle.jffs_core.specs.Acting.{Answers, HasAnswered, IsNodeOf, KeepsAnswer};
+
     /// Makes the place for one answer. Memory: nothing is changed.
     pub fn reserve_answer(&mut self) -> Result<(), Cause>
         ensures same { IsSameButPlaces self.old self.new }
@@ -23,120 +32,228 @@ impl<F: Flash> Core<F> {
         Ok(())
     }
 
-    /// Answers a request and keeps the answer. A place for it is reserved, and no Unmount was
-    /// answered Closed: the caller's conditions.
+    /// Answers a request and keeps the answer, for which a place is reserved: the caller's condition.
+    ///
+    /// The answer is a lawful step from the history before to the one after. Failed: nothing was
+    /// changed, and no call of the device was made. After Device or Failed the core is failed.
     pub fn answer(&mut self, request: Request) -> Outcome
         requires reserved { length self.old.answers < self.old.places }
         ensures kept { self.new.answers ≡ self.old.answers ++ record { writer = request.writer; seq = request.seq; outcome = result } ∷ [] }
+        ensures step { (mounted past : List Node) → StandsFor mounted past self.old → Answers mounted past self.old self.new request result }
+        ensures closed { self.new.closed ≡ self.old.closed || is_closed result }
+        ensures sizes { HasSizes self.old.book.sectors self.old.book.sector_size self.new.book }
+        ensures erases { self.new.book.erases ≤ self.old.book.erases + self.old.book.held }
     {
-        let writer = request.writer;
-        let seq = request.seq;
-        let outcome = match self.outcome(request) {
-            Ok(outcome) => outcome,
-            Err(cause) => Outcome::Refused(cause),
+        self.answer_with_node(request).outcome
+    }
+
+    /// Answers a request as `answer` does, and gives the node that was appended for it too.
+    pub fn answer_with_node(&mut self, request: Request) -> Answered
+        requires reserved { length self.old.answers < self.old.places }
+        ensures kept { self.new.answers ≡ self.old.answers ++ record { writer = request.writer; seq = request.seq; outcome = result.outcome } ∷ [] }
+        ensures step { (mounted past : List Node) → StandsFor mounted past self.old → Answers mounted past self.old self.new request result.outcome }
+        ensures node { HasNode result.outcome result.node }
+        ensures closed { self.new.closed ≡ self.old.closed || is_closed result.outcome }
+        ensures sizes { HasSizes self.old.book.sectors self.old.book.sector_size self.new.book }
+        ensures erases { self.new.book.erases ≤ self.old.book.erases + self.old.book.held }
+    {
+        let answered = if self.failed {
+            Answered {
+                outcome: Outcome::Refused(Cause::Failed),
+                node: None,
+            }
+        } else {
+            self.act(&request)
         };
-        self.closed |= outcome == Outcome::Closed;
+        self.keep_answer(request.writer, request.seq, answered.outcome);
+        answered
+    }
+
+    /// Keeps an answer in its place.
+    fn keep_answer(&mut self, writer: u16, seq: u32, outcome: Outcome)
+        requires reserved { length self.old.answers < self.old.places }
+        ensures { KeepsAnswer writer seq outcome self.old self.new }
+    {
+        self.closed = self.closed || closes(outcome);
         self.answers.push_reserved(Answer {
             writer,
             seq,
             outcome,
         });
-        outcome
     }
 
-    /// Decides, makes room, and acts.
-    fn outcome(&mut self, request: Request) -> Result<Outcome, Cause>
-        ensures answers { (self.new.answers ≡ self.old.answers) × (self.new.places ≡ self.old.places) }
+    /// Answers a request on a core whose device works.
+    fn act(&mut self, request: &Request) -> Answered
+        requires working { self.old.failed ≡ false }
+        ensures acted { (past : List Node) → Knows past self.old → HasAnswered past self.old self.new request.now result.outcome }
+        ensures node { HasNode result.outcome result.node }
+        ensures same { SameAnswers self.old self.new }
+        ensures sizes { HasSizes self.old.book.sectors self.old.book.sector_size self.new.book }
+        ensures erases { self.new.book.erases ≤ self.old.book.erases + self.old.book.held }
     {
-        if self.failed {
-            return Err(Cause::Failed);
+        if unmounts(&request.wish) && self.clean {
+            return Answered {
+                outcome: Outcome::Closed,
+                node: None,
+            };
         }
-        let unmounts = matches!(&request.wish, Wish::Unmount);
-        if unmounts && self.clean {
-            return Ok(Outcome::Closed);
-        }
-        let new = self.tree.decide(self.limits, &request.wish)?;
-        let version = self.limits.next_version.ok_or(Cause::VersionsSpent)?;
+        let new = match self.tree.decide(self.limits, &request.wish) {
+            Ok(new) => new,
+            Err(cause) => return Answered {
+                outcome: Outcome::Refused(cause),
+                node: None,
+            },
+        };
+        let Some(version) = self.limits.next_version else {
+            unreachable!()
+        };
         let node = new.with(version, request.writer, request.seq);
-        if node.kind == Kind::Unmount {
-            self.append(Room::Unmount, &node)?;
-            return Ok(Outcome::Closed);
-        }
-        if node.copy {
-            self.append(Room::Fresh, &node)?;
-            return Ok(Outcome::Copied { version });
-        }
-        self.append_fresh(node)
+        self.take(request, node)
     }
 
-    /// Appends a fresh node. Where it has no room, room is made by cleaning, which takes versions.
-    fn append_fresh(&mut self, node: Node) -> Result<Outcome, Cause>
-        ensures answers { (self.new.answers ≡ self.old.answers) × (self.new.places ≡ self.old.places) }
+    /// Appends the node that was decided on.
+    fn take(&mut self, request: &Request, node: Node) -> Answered
+        requires working { self.old.failed ≡ false }
+        requires decided { IsNodeOf self.old request.now node }
+        ensures acted { (past : List Node) → Knows past self.old → HasAnswered past self.old self.new request.now result.outcome }
+        ensures node { HasNode result.outcome result.node }
+        ensures same { SameAnswers self.old self.new }
+        ensures sizes { HasSizes self.old.book.sectors self.old.book.sector_size self.new.book }
+        ensures erases { self.new.book.erases ≤ self.old.book.erases + self.old.book.held }
     {
+        if unmounts(&request.wish) {
+            let outcome = self.end(request, &node);
+            return Answered::of(outcome, node);
+        }
+        if copies(&request.wish) {
+            let outcome = self.keep_copy(request, &node);
+            return Answered::of(outcome, node);
+        }
+        if !self.has_room(Room::Fresh, record_len(&node)) {
+            return self.clean_for(request, node);
+        }
+        let outcome = self.keep_fresh(request, &node);
+        Answered::of(outcome, node)
+    }
+
+    /// Appends an unmount node.
+    fn end(&mut self, request: &Request, node: &Node) -> Outcome
+        requires working { self.old.failed ≡ false }
+        requires decided { IsNodeOf self.old request.now node.now }
+        requires unmounts { is_unmount_wish request.now.wish ≡ true }
+        ensures acted { (past : List Node) → Knows past self.old → HasAnswered past self.old self.new request.now result }
+        ensures numbers { HasNumbers result node.now }
+        ensures same { SameAnswers self.old self.new }
+        ensures sizes { HasSizes self.old.book.sectors self.old.book.sector_size self.new.book }
+        ensures erases { self.new.book.erases ≤ self.old.book.erases + self.old.book.held }
+    {
+        match self.append(Room::Unmount, node) {
+            Ok(()) => Outcome::Closed,
+            Err(cause) => Outcome::Refused(cause),
+        }
+    }
+
+    /// Appends a copy that a sender handed in.
+    fn keep_copy(&mut self, request: &Request, node: &Node) -> Outcome
+        requires working { self.old.failed ≡ false }
+        requires decided { IsNodeOf self.old request.now node.now }
+        requires copies { is_copy_wish request.now.wish ≡ true }
+        ensures acted { (past : List Node) → Knows past self.old → HasAnswered past self.old self.new request.now result }
+        ensures numbers { HasNumbers result node.now }
+        ensures same { SameAnswers self.old self.new }
+        ensures sizes { HasSizes self.old.book.sectors self.old.book.sector_size self.new.book }
+        ensures erases { self.new.book.erases ≤ self.old.book.erases + self.old.book.held }
+    {
+        match self.append(Room::Fresh, node) {
+            Ok(()) => Outcome::Copied {
+                version: node.version,
+            },
+            Err(cause) => Outcome::Refused(cause),
+        }
+    }
+
+    /// Appends a fresh node that has room.
+    fn keep_fresh(&mut self, request: &Request, node: &Node) -> Outcome
+        requires working { self.old.failed ≡ false }
+        requires decided { IsNodeOf self.old request.now node.now }
+        requires no_copy { is_copy_wish request.now.wish ≡ false }
+        requires no_unmount { is_unmount_wish request.now.wish ≡ false }
+        requires room { has_room_for self.old Room.Fresh (length_of node.now) ≡ true }
+        ensures acted { (past : List Node) → Knows past self.old → HasAnswered past self.old self.new request.now result }
+        ensures numbers { HasNumbers result node.now }
+        ensures same { SameAnswers self.old self.new }
+        ensures sizes { HasSizes self.old.book.sectors self.old.book.sector_size self.new.book }
+        ensures erases { self.new.book.erases ≤ self.old.book.erases + self.old.book.held }
+    {
+        match self.append(Room::Fresh, node) {
+            Ok(()) => Outcome::Appended {
+                inode: node.inode,
+                version: node.version,
+            },
+            Err(cause) => Outcome::Refused(cause),
+        }
+    }
+
+    /// Makes room for a fresh node that has none, and appends it. The copies take versions.
+    fn clean_for(&mut self, request: &Request, node: Node) -> Answered
+        requires working { self.old.failed ≡ false }
+        requires decided { IsNodeOf self.old request.now node }
+        requires no_copy { is_copy_wish request.now.wish ≡ false }
+        requires no_unmount { is_unmount_wish request.now.wish ≡ false }
+        requires no_room { has_room_for self.old Room.Fresh (length_of node) ≡ false }
+        ensures acted { (past : List Node) → Knows past self.old → HasAnswered past self.old self.new request.now result.outcome }
+        ensures node { HasNode result.outcome result.node }
+        ensures same { SameAnswers self.old self.new }
+        ensures sizes { HasSizes self.old.book.sectors self.old.book.sector_size self.new.book }
+        ensures erases { self.new.book.erases ≤ self.old.book.erases + self.old.book.held }
+    {
+        if let Err(cause) = self.make_room(record_len(&node)) {
+            return Answered {
+                outcome: Outcome::Refused(cause),
+                node: None,
+            };
+        }
+        let Some(version) = self.limits.next_version else {
+            return Answered {
+                outcome: Outcome::Refused(Cause::VersionsSpent),
+                node: None,
+            };
+        };
         let mut node = node;
-        if !is_short(&node) {
-            return Err(Cause::NoSpace);
-        }
-        self.make_room(record_len(&node))?;
-        let version = self.limits.next_version.ok_or(Cause::VersionsSpent)?;
         node.version = version;
-        self.append(Room::Fresh, &node)?;
-        Ok(Outcome::Appended {
-            inode: node.inode,
-            version,
-        })
-    }
-
-    /// Appends a node where it has room: the log's place is made, the tree is changed, and the
-    /// record is programmed.
-    pub(crate) fn append(&mut self, room: Room, node: &Node) -> Result<(), Cause>
-        requires unmount { room ≡ Room.Unmount → IsTrue (is_unmount node.now.kind) }
-        ensures answers { (self.new.answers ≡ self.old.answers) × (self.new.places ≡ self.old.places) }
-    {
-        if self.failed {
-            return Err(Cause::Failed);
+        match self.append(Room::Fresh, &node) {
+            Ok(()) => Answered {
+                outcome: Outcome::Appended {
+                    inode: node.inode,
+                    version,
+                },
+                node: Some(node),
+            },
+            Err(cause) => Answered {
+                outcome: Outcome::Refused(cause),
+                node: None,
+            },
         }
-        // That a decided node may be applied, and is no longer than a record, isn't proved yet:
-        // these two tests stand for it.
-        if !self.tree.can_apply(node) || !is_short(node) {
-            return Err(Cause::NoSpace);
-        }
-        let len = record_len(node);
-        if len > self.log.record_max() || !self.log.room(room, len) {
-            return Err(Cause::NoSpace);
-        }
-        self.log.reserve()?;
-        self.tree.apply(node)?;
-        if let Err(cause) = self.log.append(room, node) {
-            self.failed = true;
-            return Err(cause);
-        }
-        self.count(node);
-        Ok(())
-    }
-
-    /// The numbers that come after a node.
-    fn count(&mut self, node: &Node)
-        ensures answers { (self.new.answers ≡ self.old.answers) × (self.new.places ≡ self.old.places) }
-    {
-        self.limits.next_version = node.version.checked_add(1);
-        if self
-            .limits
-            .next_inode
-            .is_some_and(|next| node.inode >= next)
-        {
-            self.limits.next_inode = node.inode.checked_add(1);
-        }
-        self.clean = node.kind == Kind::Unmount;
     }
 }
 
-/// The most data of a record in the largest sector, in bytes.
-const DATA_MAX: usize = RECORD_MAX - HEADER_LEN;
-
-/// Whether a node has no more data than the longest record.
-fn is_short(node: &Node) -> bool
-    ensures { IsTrue result → length_of node.now ≤ 4096 }
+/// Whether an answer closes the session.
+fn closes(outcome: Outcome) -> bool
+    ensures { result ≡ is_closed outcome }
 {
-    node.bytes.as_slice().len() <= DATA_MAX
+    matches!(outcome, Outcome::Closed)
+}
+
+/// Whether a wish is the end of the session.
+fn unmounts(wish: &Wish) -> bool
+    ensures { result ≡ is_unmount_wish wish.now }
+{
+    matches!(wish, Wish::Unmount)
+}
+
+/// Whether a wish is a copy.
+fn copies(wish: &Wish) -> bool
+    ensures { result ≡ is_copy_wish wish.now }
+{
+    matches!(wish, Wish::Copy { .. })
 }

@@ -1,6 +1,8 @@
 //! Cleaning: what lives in the oldest sector is copied to the tail, and the sector is erased.
 
-ghost use Rattle.std.specs.Prelude.{◌≡◌, ◌≤◌, true, false};
+ghost use Rattle.std.specs.Prelude.{◌≡◌, ◌≤◌, ◌<◌, ◌+◌, ◌/◌, ◌^◌, List, ℕ, true, false, map, length, if◌then◌else◌, ◌↔◌, IsTrue, OnOk, IfOk, IfErr};
+ghost use Rattle.std.specs.List.{AllByRecursion};
+ghost use Rattle.jffs_node.specs.Record.{record_len as length_of};
 ghost use Rattle.jffs_tree.specs.Look.{holds_version};
 
 use crate::mounted::Core;
@@ -19,111 +21,257 @@ pub enum Cleaned {
 }
 
 impl<F: Flash> Core<F> {
+    ghost use Rattle.jffs_node.specs.declared.node.Node.{Node};
+    ghost use Rattle.jffs_log.specs.Book.{HasSizes, layout_in, lives_in, oldest_in};
+    ghost use Rattle.jffs_log.specs.Cleaning.{oldest_records, erase_oldest as erase_layout};
+    ghost use Rattle.jffs_log.specs.RoomLaws.{Among};
+    ghost use Rattle.jffs_core.specs.Standing.{SameAnswers};
+    ghost use Rattle.jffs_core.specs.Past.{Knows, StandsFor};
+    ghost use Rattle.jffs_core.specs.Acting.{Cleans, Stops, StopIs, ErasesDead, HasErasedDead, IsDeadOldest, DidClean, RefusedAt, HasHandled, CopyStopped, HasCopied, HasCleaned, HasErased, HasMadeRoom, CleaningStopped};
+
     /// Copies each record of the oldest sector that is live at its turn, and erases the sector.
+    ///
     /// Refusals: VersionsSpent and NoSpace where a copy has no version or no room, Memory, Device,
-    /// and Failed after it. The copies that were made stay.
+    /// and Failed on a core that failed before. The copies that were made stay. NoSpace comes only
+    /// where fewer than two sectors were erased.
     pub fn clean_oldest(&mut self) -> Result<Cleaned, Cause>
-        ensures answers { (self.new.answers ≡ self.old.answers) × (self.new.places ≡ self.old.places) }
+        ensures cleaned { IfOk result (λ done. (mounted past : List Node) → StandsFor mounted past self.old → Cleans mounted past done self.old self.new) }
+        ensures stopped { IfErr result (λ cause. (mounted past : List Node) → StandsFor mounted past self.old → Stops mounted past cause self.old self.new) }
+        ensures same { SameAnswers self.old self.new }
+        ensures sizes { HasSizes self.old.book.sectors self.old.book.sector_size self.new.book }
+        ensures erases { self.new.book.erases ≤ self.old.book.erases + 1 }
     {
         if self.failed {
             return Err(Cause::Failed);
         }
-        if self.log.held() < 2 {
-            return Ok(Cleaned::OneSector);
-        }
-        let sector = self.log.oldest();
-        let nodes = self.oldest_nodes()?;
-        let mut copies = 0u32;
-        for node in &nodes {
-            if self.tree.live(node.inode, node.version) {
-                self.copy(node)?;
-                copies = copies.saturating_add(1);
-            }
-        }
-        if !self.erase_oldest()? {
-            return Err(Cause::NoSpace);
-        }
-        Ok(Cleaned::Erased { sector, copies })
+        self.clean_one()
     }
 
     /// Erases the oldest sector, again and again, while it isn't the tail and holds no live
-    /// record; answers how many were erased. Device or Failed; takes no memory.
+    /// record; answers how many were erased. Device, or Failed on a core that failed before.
+    /// Takes no memory.
     pub fn erase_dead(&mut self) -> Result<u32, Cause>
-        ensures answers { (self.new.answers ≡ self.old.answers) × (self.new.places ≡ self.old.places) }
+        ensures erased { IfOk result (λ count. (mounted past : List Node) → StandsFor mounted past self.old → ErasesDead mounted past count self.old self.new) }
+        ensures stopped { IfErr result (λ cause. (mounted past : List Node) → StandsFor mounted past self.old → StandsFor mounted past self.new × StopIs cause past self.old self.new) }
+        ensures same { SameAnswers self.old self.new }
+        ensures sizes { HasSizes self.old.book.sectors self.old.book.sector_size self.new.book }
     {
         if self.failed {
             return Err(Cause::Failed);
         }
+        self.erase_while_dead()
+    }
+
+    /// Erases the oldest sector of a core whose device works, while that may be.
+    fn erase_while_dead(&mut self) -> Result<u32, Cause>
+        requires working { self.old.failed ≡ false }
+        requires few { length (layout_in self.old.image self.old.book).sectors < 2 ^ 32 }
+        ensures erased { IfOk result (λ count. (past : List Node) → Knows past self.old → HasErasedDead count past self.old self.new) }
+        ensures stopped { IfErr result (λ cause. (past : List Node) → Knows past self.old → RefusedAt cause past self.old self.new) }
+        ensures device { IfErr result (λ cause. cause ≡ Cause.Device) }
+        ensures same { SameAnswers self.old self.new }
+        ensures sizes { HasSizes self.old.book.sectors self.old.book.sector_size self.new.book }
+    {
         let mut erased = 0u32;
-        for _ in 0..self.log.held() {
-            if !self.erase_oldest()? {
-                break;
+        while self.is_dead_oldest() {
+            match self.erase_oldest() {
+                Ok(()) => erased += 1,
+                Err(cause) => return Err(cause),
             }
-            erased = erased.saturating_add(1);
         }
         Ok(erased)
+    }
+
+    /// Whether the oldest sector isn't the tail and holds no live record. Takes no memory.
+    fn is_dead_oldest(&self) -> bool
+        requires working { self.now.failed ≡ false }
+        ensures { IsTrue result ↔ IsDeadOldest self.now }
+    {
+        self.log.oldest_dead(&self.tree)
     }
 
     /// Makes room for a fresh record of so many bytes: cleans the oldest sector, until there is
     /// room, or each sector that held the log was cleaned.
     pub(crate) fn make_room(&mut self, len: u32) -> Result<(), Cause>
-        ensures answers { (self.new.answers ≡ self.old.answers) × (self.new.places ≡ self.old.places) }
+        requires working { self.old.failed ≡ false }
+        ensures made { OnOk result ((past : List Node) → Knows past self.old → (after : List Node) × HasMadeRoom len past after self.old self.new) }
+        ensures refused { IfErr result (λ cause. (past : List Node) → Knows past self.old → (after : List Node) × CleaningStopped cause past after self.old self.new) }
+        ensures works { OnOk result (self.new.failed ≡ false) }
+        ensures same { SameAnswers self.old self.new }
+        ensures sizes { HasSizes self.old.book.sectors self.old.book.sector_size self.new.book }
+        ensures erases { self.new.book.erases ≤ self.old.book.erases + self.old.book.held }
     {
-        if self.failed {
-            return Err(Cause::Failed);
-        }
-        for _ in 0..self.log.held() {
-            if self.failed || self.log.room(Room::Fresh, len) {
+        for turn in 0..self.log.held() {
+            if self.has_room(Room::Fresh, len) {
                 return Ok(());
             }
-            if self.clean_oldest()? == Cleaned::OneSector {
-                return Ok(());
+            match self.clean_one() {
+                Ok(Cleaned::Erased { .. }) => {}
+                Ok(Cleaned::OneSector) => return Ok(()),
+                Err(cause) => return Err(cause),
             }
         }
         Ok(())
     }
 
+    /// Cleans the oldest sector of a core whose device works.
+    fn clean_one(&mut self) -> Result<Cleaned, Cause>
+        requires working { self.old.failed ≡ false }
+        ensures cleaned { IfOk result (λ done. (past : List Node) → Knows past self.old → DidClean done past self.old self.new) }
+        ensures stopped { IfErr result (λ cause. (past : List Node) → Knows past self.old → (after : List Node) × CleaningStopped cause past after self.old self.new) }
+        ensures works { OnOk result (self.new.failed ≡ false) }
+        ensures same { SameAnswers self.old self.new }
+        ensures sizes { HasSizes self.old.book.sectors self.old.book.sector_size self.new.book }
+        ensures erases { self.new.book.erases ≤ self.old.book.erases + 1 }
+    {
+        if self.log.held() < 2 {
+            return Ok(Cleaned::OneSector);
+        }
+        match self.oldest_nodes() {
+            Ok(nodes) => self.clean_sector(&nodes),
+            Err(cause) => Err(cause),
+        }
+    }
+
+    /// Copies what lives of these nodes, which are those of the oldest sector, and erases it.
+    fn clean_sector(&mut self, nodes: &[Node]) -> Result<Cleaned, Cause>
+        requires working { self.old.failed ≡ false }
+        requires known { (past : List Node) × Knows past self.old }
+        requires several { 2 ≤ length (layout_in self.old.image self.old.book).sectors }
+        requires oldest { nodes.now ≡ map (λ p. p.node) (oldest_in self.old.image self.old.book) }
+        ensures cleaned { IfOk result (λ done. (past : List Node) → Knows past self.old → DidClean done past self.old self.new) }
+        ensures stopped { IfErr result (λ cause. (past : List Node) → Knows past self.old → (after : List Node) × CleaningStopped cause past after self.old self.new) }
+        ensures works { OnOk result (self.new.failed ≡ false) }
+        ensures same { SameAnswers self.old self.new }
+        ensures sizes { HasSizes self.old.book.sectors self.old.book.sector_size self.new.book }
+        ensures erases { self.new.book.erases ≤ self.old.book.erases + 1 }
+    {
+        let sector = self.log.oldest();
+        match self.copy_each(nodes) {
+            Ok(copies) => match self.erase_oldest() {
+                Ok(()) => Ok(Cleaned::Erased { sector, copies }),
+                Err(cause) => Err(cause),
+            },
+            Err(cause) => Err(cause),
+        }
+    }
+
+    /// Handles each of these nodes, which are those of the oldest sector; answers how many were
+    /// copied.
+    fn copy_each(&mut self, nodes: &[Node]) -> Result<u32, Cause>
+        requires working { self.old.failed ≡ false }
+        requires known { (past : List Node) × Knows past self.old }
+        requires oldest { nodes.now ≡ oldest_records (layout_in self.old.image self.old.book).sectors }
+        requires several { 2 ≤ length (layout_in self.old.image self.old.book).sectors }
+        ensures copied { IfOk result (λ copies. (past : List Node) → Knows past self.old → (after : List Node) × HasCopied nodes.now past after copies self.old self.new) }
+        ensures stopped { IfErr result (λ cause. (past : List Node) → Knows past self.old → (after : List Node) × CleaningStopped cause past after self.old self.new) }
+        ensures works { OnOk result (self.new.failed ≡ false) }
+        ensures same { SameAnswers self.old self.new }
+        ensures sizes { HasSizes self.old.book.sectors self.old.book.sector_size self.new.book }
+        ensures erases { self.new.book.erases ≡ self.old.book.erases }
+    {
+        let mut copies = 0u32;
+        for node in nodes {
+            match self.handle(node) {
+                Ok(copied) => copies += one_if(copied),
+                Err(cause) => return Err(cause),
+            }
+        }
+        Ok(copies)
+    }
+
+    /// Copies a record of the log where it is live; answers whether it is.
+    fn handle(&mut self, source: &Node) -> Result<bool, Cause>
+        requires working { self.old.failed ≡ false }
+        requires known { (past : List Node) × Knows past self.old × Among source.now past }
+        requires short { length_of source.now ≤ self.old.book.sector_size / 4 }
+        ensures handled { IfOk result (λ copied. (past : List Node) → Knows past self.old → Among source.now past → HasHandled past source.now copied self.old self.new) }
+        ensures stopped { IfErr result (λ cause. (past : List Node) → Knows past self.old → Among source.now past → CopyStopped cause past source.now self.old self.new) }
+        ensures works { OnOk result (self.new.failed ≡ false) }
+        ensures same { SameAnswers self.old self.new }
+        ensures sizes { HasSizes self.old.book.sectors self.old.book.sector_size self.new.book }
+        ensures erases { self.new.book.erases ≡ self.old.book.erases }
+    {
+        if !self.tree.live(source.inode, source.version) {
+            return Ok(false);
+        }
+        match self.copy(source) {
+            Ok(()) => Ok(true),
+            Err(cause) => Err(cause),
+        }
+    }
+
     /// Appends the copy of a live record.
     fn copy(&mut self, source: &Node) -> Result<(), Cause>
+        requires working { self.old.failed ≡ false }
+        requires known { (past : List Node) × Knows past self.old × Among source.now past }
         requires live { holds_version self.old.tree source.now.inode source.now.version ≡ true }
-        ensures answers { (self.new.answers ≡ self.old.answers) × (self.new.places ≡ self.old.places) }
+        requires short { length_of source.now ≤ self.old.book.sector_size / 4 }
+        ensures copied { OnOk result ((past : List Node) → Knows past self.old → Among source.now past → HasHandled past source.now true self.old self.new) }
+        ensures stopped { IfErr result (λ cause. (past : List Node) → Knows past self.old → Among source.now past → CopyStopped cause past source.now self.old self.new) }
+        ensures works { OnOk result (self.new.failed ≡ false) }
+        ensures same { SameAnswers self.old self.new }
+        ensures sizes { HasSizes self.old.book.sectors self.old.book.sector_size self.new.book }
+        ensures erases { self.new.book.erases ≡ self.old.book.erases }
     {
-        let version = self.limits.next_version.ok_or(Cause::VersionsSpent)?;
+        let Some(version) = self.limits.next_version else {
+            return Err(Cause::VersionsSpent);
+        };
         match self.tree.cleaning_copy(source) {
             Ok(copied) => self.append(Room::Copy, &copied.with(version, 0, 0)),
             Err(NoMemory) => Err(Cause::Memory),
         }
     }
 
-    /// The nodes of the oldest sector, read from the device.
+    /// The nodes of the oldest sector, read from the device. Memory: nothing is changed.
     fn oldest_nodes(&mut self) -> Result<Vec<Node>, Cause>
-        requires standing { self.old.failed ≡ false }
+        requires working { self.old.failed ≡ false }
         requires some { 1 ≤ self.old.book.held }
-        ensures answers { (self.new.answers ≡ self.old.answers) × (self.new.places ≡ self.old.places) }
+        ensures nodes { IfOk result (λ nodes. nodes.items ≡ map (λ p. p.node) (oldest_in self.old.image self.old.book)) }
+        ensures kept { OnOk result (self.new ≡ self.old) }
+        ensures refused { IfErr result (λ cause. (past : List Node) → Knows past self.old → RefusedAt cause past self.old self.new) }
+        ensures no_room { IfErr result (λ cause. cause ≡ Cause.NoSpace → ⊥) }
+        ensures same { SameAnswers self.old self.new }
+        ensures sizes { HasSizes self.old.book.sectors self.old.book.sector_size self.new.book }
+        ensures erases { self.new.book.erases ≡ self.old.book.erases }
     {
         match self.log.oldest_nodes(self.alloc) {
             Ok(nodes) => Ok(nodes),
+            Err(Cause::Device) => {
+                self.failed = true;
+                Err(Cause::Device)
+            }
+            Err(_) => Err(Cause::Memory),
+        }
+    }
+
+    /// Erases the oldest sector. It isn't the tail and holds no live record: the caller's conditions.
+    fn erase_oldest(&mut self) -> Result<(), Cause>
+        requires working { self.old.failed ≡ false }
+        requires several { 2 ≤ length (layout_in self.old.image self.old.book).sectors }
+        requires dead { AllByRecursion (λ p. lives_in self.old.tree p ≡ false) (oldest_in self.old.image self.old.book) }
+        ensures erased { OnOk result ((past : List Node) → Knows past self.old → HasErased past self.old self.new) }
+        ensures refused { IfErr result (λ cause. (past : List Node) → Knows past self.old → RefusedAt cause past self.old self.new) }
+        ensures log { OnOk result (layout_in self.new.image self.new.book ≡ erase_layout (layout_in self.old.image self.old.book)) }
+        ensures device { IfErr result (λ cause. cause ≡ Cause.Device) }
+        ensures works { OnOk result (self.new.failed ≡ false) }
+        ensures same { SameAnswers self.old self.new }
+        ensures sizes { HasSizes self.old.book.sectors self.old.book.sector_size self.new.book }
+        ensures erases { self.new.book.erases ≤ self.old.book.erases + 1 }
+    {
+        match self.log.erase_oldest(&self.tree) {
+            Ok(()) => Ok(()),
             Err(cause) => {
-                self.failed = cause == Cause::Device;
+                self.failed = true;
                 Err(cause)
             }
         }
     }
+}
 
-    /// Erases the oldest sector, where it isn't the tail and holds no live record.
-    fn erase_oldest(&mut self) -> Result<bool, Cause>
-        ensures answers { (self.new.answers ≡ self.old.answers) × (self.new.places ≡ self.old.places) }
-    {
-        if self.failed {
-            return Err(Cause::Failed);
-        }
-        if !self.log.oldest_dead(&self.tree) {
-            return Ok(false);
-        }
-        if let Err(cause) = self.log.erase_oldest(&self.tree) {
-            self.failed = true;
-            return Err(cause);
-        }
-        Ok(true)
-    }
+/// One where it is so.
+fn one_if(so: bool) -> u32
+    ensures { result ≡ (if so then 1 else 0) }
+{
+    if so { 1 } else { 0 }
 }

@@ -2,15 +2,26 @@
 //!
 //! It stands on `jffs_log` for the device and on `jffs_tree` for decisions. A request is decided
 //! on, room is made for its node by cleaning, and the node is taken in by the tree and appended to
-//! the log. Proved here so far: that each call is safe and returns, that it keeps to the log's
-//! conditions, and that `answer` adds one answer.
+//! the log. What a `Core` stands for is the log that was mounted and the history since
+//! (`specs/Past`); no value of the program holds it, so each contract says that a core which stood
+//! for a history before the call stands for the one after. [`Core::answer`] carries the promise:
+//! its answer is a lawful step (`specs/Step`) from one to the other.
 #![tactic(auto)]
 
 mod answer;
 mod answering;
+mod appending;
 mod cleaning;
+mod jobs;
+mod laws;
 mod mounted;
 
-pub use answer::Answer;
+pub use answer::{Answer, Answered};
 pub use cleaning::Cleaned;
+pub use laws::{
+    cleaning_is_lawful, contents_are_kept, examples_are_stepped, runs_go_on, scans_find_contents,
+};
 pub use mounted::Core;
+
+#[cfg(test)]
+mod tests;

@@ -1,7 +1,7 @@
 //! A mounted device.
 
-ghost use Rattle.std.specs.Prelude.{◌≡◌, false};
-ghost use Rattle.jffs_log.specs.Book.{IsBook};
+ghost use Rattle.std.specs.Prelude.{◌≡◌, false, [], IfOk};
+ghost use Rattle.jffs_log.specs.Book.{IsBook, HasSizes};
 
 use crate::answer::Answer;
 use jffs_flash::Flash;
@@ -27,7 +27,8 @@ pub struct Core<F: Flash> {
 }
 
 impl<F: Flash> Model for Core<F> {
-    ghost use Rattle.jffs_core.specs.Standing.{Standing, HasBook};
+    ghost use Rattle.jffs_core.specs.Standing.{Standing};
+    ghost use Rattle.jffs_core.specs.Past.{HasBook};
     ghost use Rattle.std.specs.Prelude.{vec_capacity};
 
     ghost Value = { Standing };
@@ -35,6 +36,7 @@ impl<F: Flash> Model for Core<F> {
     ghost view = { λ c. record {
       image = F.image c.log.flash;
       faults = F.fault_count c.log.flash;
+      erase_failed = F.erase_failed c.log.flash;
       book = c.log.book;
       tree = c.tree;
       limits = c.limits;
@@ -45,12 +47,19 @@ impl<F: Flash> Model for Core<F> {
       places = vec_capacity c.answers;
     } };
 
-    ghost invariant = { λ c. HasBook c.failed (F.sector_count c.log.flash) (F.sector_len c.log.flash) (F.image c.log.flash) c.log.book };
+    ghost invariant = { λ c. HasBook c.failed (F.sector_count c.log.flash) (F.sector_len c.log.flash) (F.image c.log.flash) c.log.book c.tree c.limits c.clean };
 }
 
 impl<F: Flash> Core<F> {
+    ghost use Rattle.jffs_node.specs.declared.node.Node.{Node};
+    ghost use Rattle.jffs_core.specs.Past.{StandsFor, IsFresh};
+
     /// Mounts a device. A refusal hands it back.
-    pub fn mount(alloc: Global, flash: F) -> Result<Core<F>, ScanFault<F>> {
+    ///
+    /// The core stands for the log that was found, without answers.
+    pub fn mount(alloc: Global, flash: F) -> Result<Core<F>, ScanFault<F>>
+        ensures mounted { IfOk result (λ c. IsFresh (F.sector_count flash) (F.sector_len flash) (F.image flash) (F.fault_count flash) (F.erase_failed flash) c) }
+    {
         let Mounted {
             log,
             tree,
@@ -67,6 +76,13 @@ impl<F: Flash> Core<F> {
             closed: false,
             answers: Vec::new(alloc),
         })
+    }
+
+    /// The longest data of a node, and the numbers that come next.
+    pub fn limits(&self) -> Limits
+        ensures { result ≡ self.now.limits }
+    {
+        self.limits
     }
 
     /// Whether the log ends with an unmount node, and nothing was programmed behind it.
@@ -117,6 +133,8 @@ impl<F: Flash> Core<F> {
     pub fn into_flash(self) -> F
         ensures image { F.image result ≡ self.image }
         ensures faults { F.fault_count result ≡ self.faults }
+        ensures erases { F.erase_failed result ≡ self.erase_failed }
+        ensures sizes { HasSizes (F.sector_count result) (F.sector_len result) self.book }
     {
         let (flash, _) = self.into_parts();
         flash
@@ -126,6 +144,8 @@ impl<F: Flash> Core<F> {
     pub fn into_parts(self) -> (F, Vec<Answer>)
         ensures image { F.image result.0 ≡ self.image }
         ensures faults { F.fault_count result.0 ≡ self.faults }
+        ensures erases { F.erase_failed result.0 ≡ self.erase_failed }
+        ensures sizes { HasSizes (F.sector_count result.0) (F.sector_len result.0) self.book }
         ensures answers { result.1.items ≡ self.answers }
     {
         let Core {

@@ -7,18 +7,20 @@ use Rattle.jffs_flash.specs.declared.fuse.Fail.TheVariants.{Nothing, Half}
 use Rattle.jffs_flash.specs.Device.{Device, with_image}
 use Rattle.jffs_flash.specs.Image.{window, replaced, programmed, erased_byte}
 
--- the device inside, how many fused calls still pass, which calls are fused, what a failing call does, how many failed
+-- the device inside, how many fused calls still pass, which calls are fused, what a failing call does, how many failed,
+-- and whether an erase did
 pub record Fuse : Type 0 where
   pub device : Device
   pub calls_left : ℕ
   pub fused : Fused
   pub fail : Fail
   pub faults : ℕ
+  pub erase_failed : Bool
 
 -- a new fuse over a device
 abbrev pub fuse_of : Device → ℕ → Fused → Fail → Fuse
 fuse_of device calls fused fail =
-    record { device = device; calls_left = calls; fused = fused; fail = fail; faults = 0 }
+    record { device = device; calls_left = calls; fused = fused; fail = fail; faults = 0; erase_failed = false }
 
 -- the last value that the count of faults can have
 abbrev pub last_fault_count : ℕ
@@ -40,6 +42,10 @@ after_pass fuse image = record fuse { device = with_image fuse.device image; cal
 -- after a fused call that failed and left this image
 abbrev pub after_fault : Fuse → List ℕ → Fuse
 after_fault fuse image = record fuse { device = with_image fuse.device image; faults = fuse.faults + 1 }
+
+-- after an erase that failed and left this image
+abbrev pub after_failed_erase : Fuse → List ℕ → Fuse
+after_failed_erase fuse image = record (after_fault fuse image) { erase_failed = true }
 
 -- after a read that passed: it is counted where reads are fused
 abbrev pub after_read : Fused → Fuse → Fuse

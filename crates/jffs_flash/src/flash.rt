@@ -1,6 +1,6 @@
 //! What a flash device promises.
 
-ghost use Rattle.std.specs.Prelude.{◌≡◌, ℕ, ◌+◌, ◌*◌, ◌<◌, ◌≤◌, List, length, MatchResult, OnOk, IfErr};
+ghost use Rattle.std.specs.Prelude.{◌≡◌, ℕ, ◌+◌, ◌*◌, ◌<◌, ◌≤◌, Bool, true, List, length, MatchResult, OnOk, IfErr};
 ghost use Rattle.jffs_flash.specs.Image.{window, programmed, IsHalfProgrammed, erased, IsHalfErased};
 
 use thiserror::Error;
@@ -30,6 +30,9 @@ pub trait Flash {
     // How many calls failed so far.
     ghost fault_count: { Self → ℕ };
 
+    // Whether an erase failed so far. Its sector may then hold any bytes.
+    ghost erase_failed: { Self → Bool };
+
     /// How many sectors the device has. The image is as long as all of them together.
     fn sectors(&self) -> u32
         ensures count { result ≡ sector_count self.now }
@@ -54,7 +57,8 @@ pub trait Flash {
         ensures size { sector_len self.new ≡ sector_len self.old }
         ensures faults { MatchResult result
             (λ _. fault_count self.new ≡ fault_count self.old)
-            (λ _. fault_count self.old < fault_count self.new) };
+            (λ _. fault_count self.old < fault_count self.new) }
+        ensures erase_failed { erase_failed self.new ≡ erase_failed self.old };
 
     /// Programs the bytes from `at` on: each byte `old` of the range becomes `old & new`. The range lies inside the
     /// device: the caller's condition.
@@ -69,7 +73,8 @@ pub trait Flash {
         ensures size { sector_len self.new ≡ sector_len self.old }
         ensures faults { MatchResult result
             (λ _. fault_count self.new ≡ fault_count self.old)
-            (λ _. fault_count self.old < fault_count self.new) };
+            (λ _. fault_count self.old < fault_count self.new) }
+        ensures erase_failed { erase_failed self.new ≡ erase_failed self.old };
 
     /// Erases a sector, counted from 0: each of its bytes becomes [`ERASED_BYTE`]. The device has that sector: the
     /// caller's condition.
@@ -84,5 +89,8 @@ pub trait Flash {
         ensures size { sector_len self.new ≡ sector_len self.old }
         ensures faults { MatchResult result
             (λ _. fault_count self.new ≡ fault_count self.old)
-            (λ _. fault_count self.old < fault_count self.new) };
+            (λ _. fault_count self.old < fault_count self.new) }
+        ensures erase_failed { MatchResult result
+            (λ _. erase_failed self.new ≡ erase_failed self.old)
+            (λ _. erase_failed self.new ≡ true) };
 }

@@ -1,8 +1,8 @@
 //! Flash that fails from a chosen call on.
 
-ghost use Rattle.std.specs.Prelude.{◌≡◌, ◌+◌, ◌*◌, ◌<◌, ◌≤◌, ◌↔◌, ◌&&◌, length, MatchResult, OnOk, OnErr, IfErr, IsErr, IsTrue};
+ghost use Rattle.std.specs.Prelude.{◌≡◌, ◌+◌, ◌*◌, ◌<◌, ◌≤◌, ◌↔◌, ◌&&◌, true, length, MatchResult, OnOk, OnErr, IfErr, IsErr, IsTrue};
 ghost use Rattle.jffs_flash.specs.Image.{window, programmed, IsHalfProgrammed, erased, IsHalfErased};
-ghost use Rattle.jffs_flash.specs.Fuse.{is_blown, fuses_reads, after_pass, after_read, after_fault, program_left, erase_left, read_left, fuse_of};
+ghost use Rattle.jffs_flash.specs.Fuse.{is_blown, fuses_reads, after_pass, after_read, after_fault, after_failed_erase, program_left, erase_left, read_left, fuse_of};
 
 use crate::flash::{Flash, FlashFault};
 use crate::memory::MemoryFlash;
@@ -36,6 +36,7 @@ pub struct FuseFlash {
     fused: Fused,
     fail: Fail,
     faults: u64,
+    erase_failed: bool,
 }
 
 impl Model for FuseFlash {
@@ -43,7 +44,7 @@ impl Model for FuseFlash {
 
     ghost Value = { Fuse };
 
-    ghost view = { λ f. record { device = f.inner; calls_left = f.calls_left; fused = f.fused; fail = f.fail; faults = f.faults } };
+    ghost view = { λ f. record { device = f.inner; calls_left = f.calls_left; fused = f.fused; fail = f.fail; faults = f.faults; erase_failed = f.erase_failed } };
 }
 
 impl FuseFlash {
@@ -59,6 +60,7 @@ impl FuseFlash {
             fused,
             fail,
             faults: 0,
+            erase_failed: false,
         }
     }
 
@@ -67,6 +69,13 @@ impl FuseFlash {
         ensures { result ≡ self.device }
     {
         self.inner
+    }
+
+    /// The flash inside, to be looked at: no call of the device is counted.
+    pub fn inner(&self) -> &MemoryFlash
+        ensures { result.now ≡ self.now.device }
+    {
+        &self.inner
     }
 
     /// Whether a fused call fails now.
@@ -125,7 +134,7 @@ impl FuseFlash {
     fn fail_erase(&mut self, sector: u32)
         requires inside { sector < self.old.device.sectors }
         requires blown { IsTrue (is_blown self.old) }
-        ensures { self.new ≡ after_fault self.old
+        ensures { self.new ≡ after_failed_erase self.old
             (erase_left self.old.fail self.old.device.sector_size sector self.old.device.image) }
     {
         match self.fail {
@@ -135,6 +144,7 @@ impl FuseFlash {
                 self.inner.set_bits(sector, half);
             }
         }
+        self.erase_failed = true;
         self.count_fault();
     }
 }
@@ -147,6 +157,8 @@ impl Flash for FuseFlash {
     ghost sector_len = { λ f. f.device.sector_size };
 
     ghost fault_count = { λ f. f.faults };
+
+    ghost erase_failed = { λ f. f.erase_failed };
 
     fn sectors(&self) -> u32 {
         self.inner.sectors()
@@ -176,6 +188,7 @@ impl Flash for FuseFlash {
         ensures faults { MatchResult result
             (λ _. self.new.faults ≡ self.old.faults)
             (λ _. self.old.faults < self.new.faults) }
+        ensures erase_failed { self.new.erase_failed ≡ self.old.erase_failed }
     {
         if self.fused == Fused::Writes {
             self.inner.copy_out(at, buffer);
@@ -206,6 +219,7 @@ impl Flash for FuseFlash {
         ensures faults { MatchResult result
             (λ _. self.new.faults ≡ self.old.faults)
             (λ _. self.old.faults < self.new.faults) }
+        ensures erase_failed { self.new.erase_failed ≡ self.old.erase_failed }
     {
         if self.is_blown() {
             self.fail_program(at, bytes);
@@ -223,7 +237,7 @@ impl Flash for FuseFlash {
         ensures passed { OnOk result
             (self.new ≡ after_pass self.old (erased self.old.device.sector_size sector self.old.device.image)) }
         ensures failed { OnErr result
-            (self.new ≡ after_fault self.old (erase_left self.old.fail self.old.device.sector_size sector self.old.device.image)) }
+            (self.new ≡ after_failed_erase self.old (erase_left self.old.fail self.old.device.sector_size sector self.old.device.image)) }
 
         // What each device promises.
         ensures done { OnOk result
@@ -235,6 +249,9 @@ impl Flash for FuseFlash {
         ensures faults { MatchResult result
             (λ _. self.new.faults ≡ self.old.faults)
             (λ _. self.old.faults < self.new.faults) }
+        ensures erase_failed { MatchResult result
+            (λ _. self.new.erase_failed ≡ self.old.erase_failed)
+            (λ _. self.new.erase_failed ≡ true) }
     {
         let size = self.inner.sector_size();
         if self.is_blown() {

@@ -132,6 +132,8 @@ impl Flash for MemoryFlash {
 
     ghost fault_count = { λ f. 0 };
 
+    ghost erase_failed = { λ f. false };
+
     fn sectors(&self) -> u32 {
         self.sectors
     }

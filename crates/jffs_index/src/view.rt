@@ -1,21 +1,22 @@
 //! What a reader looks at: a tree, and how requests were answered.
-ghost use Rattle.std.specs.Prelude.{◌≡◌, ◌-◌, ◌++◌, min, length, take, drop, MatchResult, OnOk, OnErr, IfOk};
+ghost use Rattle.std.specs.Prelude.{◌≡◌, true, ◌-◌, ◌++◌, min, length, take, drop, MatchResult, OnOk, OnErr, IfOk};
 ghost use Rattle.std.specs.List.Sorted.{IsPermutation, IsSorted};
 ghost use Rattle.jffs_tree.specs.State.{resolve};
 ghost use Rattle.jffs_tree.specs.Origin.{state_in};
 ghost use Rattle.jffs_tree.specs.Look.{kind_in, size_of, bytes_in, parent_name_in, holds_version, names_in, name_cmp};
+ghost use Rattle.jffs_tree.specs.Decide.{cleaning_copy as copy_for};
 ghost use Rattle.jffs_index.specs.Outcomes.{outcome_at, with_outcome};
-ghost use Rattle.jffs_index.specs.Shown.{tree_tested};
+ghost use Rattle.jffs_index.specs.Shown.{tree_tested, fits_node, fits as step_fits};
 
 use crate::outcomes::Outcomes;
 use crate::step::Step;
 use jffs_node::{Kind, Name, NoMemory, Node, Path};
-use jffs_tree::{Outcome, Tree};
+use jffs_tree::{NewNode, Outcome, Tree};
 use std::alloc::{AllocError, Global};
 use std::marker::Model;
 
-/// The tree and the answers after a number of published steps. All of its calls but `names` take
-/// no memory.
+/// The tree and the answers after a number of published steps. All of its calls but `names` and
+/// `cleaning_copy` take no memory.
 #[derive(Drop)]
 pub struct View {
     tree: Tree,
@@ -99,6 +100,15 @@ impl View {
         self.tree.live(inode, version)
     }
 
+    /// The copy that would take the place of a live node, with its inode's name and the bytes of
+    /// its range as they are here. `NoMemory` where a growth was refused.
+    pub fn cleaning_copy(&self, source: &Node) -> Result<NewNode, NoMemory>
+        requires live { holds_version self.now.tree source.now.inode source.now.version ≡ true }
+        ensures { IfOk result (λ new. new ≡ copy_for (state_in self.now.tree) source.now) }
+    {
+        self.tree.cleaning_copy(source)
+    }
+
     /// How the latest request of that sender and number was answered.
     pub fn answer(&self, writer: u16, seq: u32) -> Option<Outcome>
         ensures { result ≡ outcome_at self.now.outcomes writer seq }
@@ -118,6 +128,13 @@ impl View {
         ensures { result ≡ self.now.closed }
     {
         self.closed
+    }
+
+    /// Whether a step's node, where it has one, may be applied to this tree. Takes no memory.
+    pub fn fits(&self, step: &Step) -> bool
+        ensures { result ≡ step_fits self.now step.now }
+    {
+        node_fits(&self.tree, &step.node)
     }
 
     /// Takes in a step. One whose node doesn't fit leaves the tree. Refused memory changes nothing,
@@ -155,6 +172,16 @@ impl View {
             return Err(refused);
         }
         Ok(())
+    }
+}
+
+/// Whether a node, where there is one, may be applied.
+pub(crate) fn node_fits(tree: &Tree, node: &Option<Node>) -> bool
+    ensures { result ≡ fits_node tree.now node.now }
+{
+    match node {
+        Some(node) => tree.can_apply(node),
+        None => true,
     }
 }
 

@@ -8,7 +8,7 @@ use crate::hand::{Ends, Hand, Settle, Taker};
 use crate::request::{LineFault, NotTaken, Request, Settled, Why};
 use crate::rings::{self, ring_line};
 use crate::shared::{self, shared_line};
-use crate::tests::sessions::session;
+use crate::tests::sessions::{Session, run_session};
 use jffs_node::Path;
 use jffs_tree::Wish;
 use std::alloc::Global;
@@ -187,10 +187,10 @@ fn a_line_without_its_taker_fills(rt: HostRuntime) -> Result<(), Fail> {
     Ok(())
 }
 
-/// The sender's requests are numbered 1, 2, 3, .. in what was taken.
-fn check_order(rt: &impl Abort, taken: &[Request], sender: u16, count: u32) {
+/// The sender's requests are numbered 1, 2, 3, .. in what was taken and then in what waited.
+fn check_order(rt: &impl Abort, session: &Session, sender: u16, count: u32) {
     let mut last = 0u32;
-    for request in taken {
+    for request in session.taken.iter().chain(session.waiting.iter()) {
         if request.writer == sender {
             assert_eq!(rt; last.checked_add(1), Some(request.seq));
             last = request.seq;
@@ -199,18 +199,31 @@ fn check_order(rt: &impl Abort, taken: &[Request], sender: u16, count: u32) {
     assert_eq!(rt; last, count);
 }
 
+/// All wishes that the writers handed in were taken, or waited.
+fn check_session(rt: &impl Abort, session: Option<Session>, taken: usize, waiting: usize) {
+    let Some(session) = session else {
+        return assert!(rt; false);
+    };
+    assert_eq!(rt; session.taken.len(), taken);
+    assert_eq!(rt; session.waiting.len(), waiting);
+    for sender in 1..=8 {
+        check_order(rt, &session, sender, WISHES);
+    }
+}
+
+/// The wishes of each writer.
 const WISHES: u32 = 50;
 
 #[test]
 fn eight_writers_hand_in_beside_a_taker(rt: HostRuntime) -> Result<(), Fail> {
     let alloc = rt.alloc();
-    for capacity in [1, 3] {
-        let shared = session(&rt, alloc, shared_line(&rt, alloc, capacity, 8)?, WISHES);
-        let ringed = session(&rt, alloc, ring_line(alloc, capacity, 8)?, WISHES);
-        for sender in 1..=8 {
-            check_order(&rt, &shared, sender, WISHES);
-            check_order(&rt, &ringed, sender, WISHES);
-        }
+    for (capacity, taken, waiting) in [(1, 400, 0), (3, 400, 0), (256, 200, 200)] {
+        let line = shared_line(&rt, alloc, capacity, 8)?;
+        let session = run_session(&rt, alloc, line, WISHES, taken);
+        check_session(&rt, session, taken, waiting);
+        let line = ring_line(alloc, capacity, 8)?;
+        let session = run_session(&rt, alloc, line, WISHES, taken);
+        check_session(&rt, session, taken, waiting);
     }
     Ok(())
 }

@@ -1,6 +1,7 @@
 -- What the book of a log owes where a record is appended.
 use Rattle.std.proofs.Common.{◌≡◌, ◌≢◌, ◌⊎◌, inl, inr, ℕ, ◌+◌, ◌-◌, ◌*◌, ◌/◌, ◌<◌, ◌≤◌, Bool, true, false, ◌&&◌, ◌||◌, leb, eqb, List, [], ◌∷◌, ◌++◌, length, take, drop, map, flat_map, replicate, get_or, sum_by, refl, sym, ap, subst, ◌∙◌, arith, length-append, None}
 use Rattle.std.specs.List.{last_or, AllByRecursion}
+use Rattle.std.proofs.Math.Bool.{and-true}
 use Rattle.std.proofs.Math.Nat.{mul-le-mul_right}
 use Rattle.std.proofs.Math.Seq.{drop-append_seam}
 use Rattle.jffs_node.specs.declared.read.Read.TheVariants.{Free}
@@ -13,7 +14,7 @@ use Rattle.jffs_node.proofs.Found.{length_spelled}
 use Rattle.jffs_flash.specs.Image.{window, replaced}
 use Rattle.jffs_flash.specs.Sizes.{is_sector_size, is_geometry}
 use Rattle.jffs_log.specs.declared.book.Kept.{Kept}
-use Rattle.jffs_log.specs.Image.{Sector, Placed, sector_of, records_in, log_sectors, free_in, free_of_tail}
+use Rattle.jffs_log.specs.Image.{Sector, Placed, sector_of, records_in, log_sectors, free_in, free_of_tail, ends_with_unmount, is_free, is_clean, is_clean_tail}
 use Rattle.jffs_log.specs.Cleaning.{in_last}
 use Rattle.jffs_log.specs.Sector.{spellings}
 use Rattle.jffs_log.specs.Volume.{sector_bytes, sectors_in}
@@ -107,6 +108,20 @@ free_at_end : (len : ℕ) (older : List Numbered) (last : Numbered) (nodes : Lis
 free_at_end len older last nodes free reads sum =
     ap (free_of_tail len) (last_end None older last) ∙ ap (λ (s : Sector). free_in len s.reading) reads ∙ omega arith
 
+-- whether the last sector ends with an unmount node
+unmount_last : (nodes : List Node) (n : Node) → ends_with_unmount (nodes ++ n ∷ []) ≡ is_unmount n.kind
+unmount_last [] n = refl
+unmount_last (m ∷ []) n = refl
+unmount_last (m ∷ k ∷ nodes) n = unmount_last (k ∷ nodes) n
+
+clean_at_end : (older : List Numbered) (last : Numbered) (nodes : List Node) (n : Node) → last.1 ≡ record { erased = false; reading = record { nodes = nodes ++ n ∷ []; ending = Free } }
+    → is_clean_tail (last_or None (older ++ last ∷ [])) ≡ is_unmount n.kind
+clean_at_end older last nodes n reads =
+    ap is_clean_tail (last_end None older last)
+    ∙ ap (λ (s : Sector). ends_with_unmount s.reading.nodes && is_free s.reading.ending) reads
+    ∙ and-true (ends_with_unmount (nodes ++ n ∷ []))
+    ∙ unmount_last nodes n
+
 pub kept_readable : (count len : ℕ) (image : List ℕ) (first many tail used free : ℕ) (records : List Kept) → IsKept count len image first many tail used free records → IsReadable (sectors_in count len image)
 kept_readable count len image first many tail used free records h = ring_readable first (sectors_in count len image) h.held h.blank h.ring h.sound
 
@@ -134,6 +149,7 @@ Appended count len image first many left records n by_sector k place =
     IsKept count len (replaced (k * len + place) (spelling n) image) first many k (place + record_len n) left (records ++ kept (placed_at k place n) ∷ [])
     × (live_log count len (replaced (k * len + place) (spelling n) image) ≡ live_log count len image ++ placed_at k place n ∷ [])
     × (nodes_by_sector (log_sectors (sectors_in count len (replaced (k * len + place) (spelling n) image))) ≡ by_sector)
+    × (is_clean (sectors_in count len (replaced (k * len + place) (spelling n) image)) ≡ is_unmount n.kind)
 
 -- the nodes of the log by sectors
 abbrev pub logged : ℕ → ℕ → List ℕ → List (List Node)
@@ -196,6 +212,8 @@ tail_appended count len image first many tail used free records n h lawful fits 
           ap (λ (s : Sector). s.reading.nodes) (whole_reads count len image k t.nodes free o n lawful fits)
           ∙ ap (λ (ns : List Node). ns ++ n ∷ []) (sym (tail_nodes first count len image t.older h.blank t.last t.nodes free o old_ring)))
           ∙ ap (λ (xs : List Numbered). in_last n (nodes_by_sector xs)) (sym ((ring_log first (sectors_in count len image) h.held h.blank h.ring).0 ∙ t.end)),
+      ap (λ (xs : List Numbered). is_clean_tail (last_or None xs)) (ring_log first _ (t.older ++ last ∷ []) h.blank new.0).0
+          ∙ clean_at_end t.older last t.nodes n (whole_reads count len image k t.nodes free o n lawful fits),
     ) in
     subst (λ u. Appended count len image first many (free - record_len n) records n (in_last n (logged count len image)) tail u) (sym t.filled)
     (subst (λ j. Appended count len image first many (free - record_len n) records n (in_last n (logged count len image)) j (sum_by record_len t.nodes)) t.number at_end)
@@ -316,6 +334,8 @@ next_appended count len image first many tail used free next records n h room at
           ∙ map-append (λ (s : Numbered). s.1.reading.nodes) h.held (last ∷ [])
           ∙ ap (λ (ns : List Node). nodes_by_sector h.held ++ ns ∷ []) (ap (λ (s : Sector). s.reading.nodes) (whole_reads count len image k [] len o n lawful fits))
           ∙ ap (λ (xs : List Numbered). nodes_by_sector xs ++ (n ∷ []) ∷ []) (sym (ring_log first (sectors_in count len image) h.held h.blank h.ring).0),
+      ap (λ (xs : List Numbered). is_clean_tail (last_or None xs)) (ring_log first _ (h.held ++ last ∷ []) x.others new.0).0
+          ∙ clean_at_end h.held last [] n (whole_reads count len image k [] len o n lawful fits),
     ) in
     subst (λ j. Appended count len image first (many + 1) (len - record_len n) records n (logged count len image ++ (n ∷ []) ∷ []) j 0) x.number at_end
 

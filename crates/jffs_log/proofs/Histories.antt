@@ -35,7 +35,7 @@ all_part : (p : Node → Bool) (xs ys : List Node) → list_all p (xs ++ ys) ≡
 all_part p [] ys h = h
 all_part p (x ∷ xs) ys h = all_part p xs ys (and_parts (p x) (list_all p (xs ++ ys)) h).1
 
-turned_round : (n : Node) (nodes gone : List Node) → reverse (n ∷ nodes) ++ gone ≡ reverse nodes ++ (n ∷ gone)
+pub turned_round : (n : Node) (nodes gone : List Node) → reverse (n ∷ nodes) ++ gone ≡ reverse nodes ++ (n ∷ gone)
 turned_round n nodes gone = ap (λ (xs : List Node). xs ++ gone) (reversed n nodes) ∙ append_assoc (reverse nodes) (n ∷ []) gone
 
 rises : (nodes gone : List Node) → versions_fall (reverse nodes ++ gone) ≡ true → versions_rise nodes ≡ true
@@ -100,7 +100,7 @@ cuts_keep_history b old new past p h rules cut = elim cut.log [
 ]
 
 -- The oldest records are erased.
-own : (past : List Node) (m : Node) → versions_fall past ≡ true → Among m past → IsVersionOf past m.version m.inode
+pub own : (past : List Node) (m : Node) → versions_fall past ≡ true → Among m past → IsVersionOf past m.version m.inode
 own [] m h a = absurd a
 own (n ∷ past) m h (inl same) =
     let parts = and_parts (list_all (λ k. ltb k.version n.version) past) (versions_fall past) h in

@@ -39,7 +39,7 @@ by_kind File n amount h = refl
 by_kind Directory n amount h = no_range n amount (and_parts (leb 2 n.inode && leb 1 n.parent && ltb n.parent n.inode) (has_no_range n amount) h).1
 by_kind Unmount n amount h = no_range n amount (and_parts (eqb n.inode 0 && eqb n.parent 0) (has_no_range n amount) h).1
 
-lawful_keeps : (n : Node) → (fits_fields n && suits_kind n && numbers_hold n (dsize n)) ≡ true → keeps_length n ≡ true
+pub lawful_keeps : (n : Node) → (fits_fields n && suits_kind n && numbers_hold n (dsize n)) ≡ true → keeps_length n ≡ true
 lawful_keeps n h =
     let a = and_parts (fits_fields n && suits_kind n) (numbers_hold n (dsize n)) h in
     let b = and_parts (leb 1 n.version && kind_numbers n.kind n (dsize n) && (not n.deleted || has_no_range n (dsize n)) && (not n.copy || eqb n.rsize (dsize n))) (size_numbers n (dsize n)) a.1 in
@@ -227,7 +227,7 @@ pub placed_nodes : (sector place : ℕ) (nodes : List Node) → nodes_of (placed
 placed_nodes sector place [] = refl
 placed_nodes sector place (n ∷ nodes) = let later = placed_nodes sector (place + record_len n) nodes in λ j. n ∷ later j
 
-log_nodes : (sectors : List (ℕ × Sector)) → nodes_of (flat_map records_in sectors) ≡ flat_map (λ nodes. nodes) (map nodes_in sectors)
+pub log_nodes : (sectors : List (ℕ × Sector)) → nodes_of (flat_map records_in sectors) ≡ flat_map (λ nodes. nodes) (map nodes_in sectors)
 log_nodes [] = refl
 log_nodes (s ∷ sectors) =
     let later = log_nodes sectors in

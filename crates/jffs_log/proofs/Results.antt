@@ -1,5 +1,5 @@
 -- What holds where a call answered Ok or Err.
-use Rattle.std.proofs.Common.{Result, Ok, Err, OnOk, IfErr, MatchResult}
+use Rattle.std.proofs.Common.{◌≡◌, Result, Ok, Err, OnOk, IfErr, IsErrAnd, MatchResult, sym, subst}
 
 pub if_err : {A E : Type 0} (r : Result A E) (P : Type 0) → P → IfErr r (λ _. P)
 if_err (Ok x) P h = tt
@@ -20,3 +20,8 @@ on_both (Err e) P Q R f h k = tt
 pub on_each : {A E : Type 0} (r : Result A E) (B L C P Q : Type 0) → (B → L → P) → (C → Q) → OnOk r B → OnOk r L → IfErr r (λ _. C) → MatchResult r (λ _. P) (λ _. Q)
 on_each (Ok x) B L C P Q f g h k c = f h k
 on_each (Err e) B L C P Q f g h k c = g c
+
+-- what `?` hands on
+pub err_from : {A E : Type 0} (r : Result A E) (x : E) (P : E → Type 0) → IsErrAnd r (λ e. e ≡ x) → P x → IfErr r P
+err_from (Ok a) x P h p = absurd h
+err_from (Err e) x P h p = subst P (sym h) p

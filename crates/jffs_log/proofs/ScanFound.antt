@@ -14,10 +14,12 @@ use Rattle.jffs_log.specs.Image.{Sector, records_in, starts, oldest_of, is_one_r
 use Rattle.jffs_log.specs.Volume.{split, sectors_in}
 use Rattle.jffs_log.specs.Scan.{Scanned, first_bad, versions_rise, or_refuse, unless, scan_sectors, scan}
 use Rattle.jffs_log.specs.ScanRead.{oldest_sector, AreRead, IsReadFault}
-use Rattle.jffs_log.specs.ScanFound.{next_number, greatest_inode, last_version, limits_of, IsCause, IsFound}
+use Rattle.jffs_log.specs.Room.{following, limits as limits_after}
+use Rattle.jffs_log.specs.ScanFound.{greatest_inode, last_version, IsCause, IsFound}
 use Rattle.jffs_log.proofs.Ring.{Numbered, sectors_of, sectors_numbered, ring_lengths}
 use Rattle.jffs_log.proofs.Volume.{length-split}
 use Rattle.jffs_log.proofs.Live.{answer_on, scan_reads}
+use Rattle.jffs_log.proofs.ScanNumbers.{greatest_first, version_first}
 use Rattle.jffs_log.proofs.ScanSectors.{all_sound}
 use Rattle.jffs_log.proofs.ScanBook.{IsLocated, is_held, located, nodes_in}
 use Rattle.jffs_log.proofs.Open.{length-sectors_in}
@@ -171,7 +173,7 @@ held_below count len image first held l =
     omega arith
 
 -- the numbers that come next
-pub limits_are : (len : ℕ) (nodes : List Node) (limits : Limits) (inode version : ℕ) → limits.data_max ≡ len / 4 - 64 → limits.next_inode ≡ next_number inode → limits.next_version ≡ next_number version
-    → inode ≡ greatest_inode nodes → version ≡ last_version nodes → limits ≡ limits_of len nodes
+pub limits_are : (len : ℕ) (nodes : List Node) (limits : Limits) (inode version : ℕ) → limits.data_max ≡ len / 4 - 64 → limits.next_inode ≡ following inode → limits.next_version ≡ following version
+    → inode ≡ greatest_inode nodes → version ≡ last_version nodes → limits ≡ limits_after len (reverse nodes)
 limits_are len nodes limits inode version data_max next_inode next_version inodes versions =
-    λ i. record { data_max = data_max i; next_inode = (next_inode ∙ ap next_number inodes) i; next_version = (next_version ∙ ap next_number versions) i }
+    λ i. record { data_max = data_max i; next_inode = (next_inode ∙ ap following (inodes ∙ greatest_first nodes)) i; next_version = (next_version ∙ ap following versions ∙ version_first nodes) i }

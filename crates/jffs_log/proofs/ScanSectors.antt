@@ -123,6 +123,17 @@ bad_read count k len image found why below h bad =
     let is : count ≡ k + suc more = omega arith in
     first_at len k image (sectors_in count len image) after (parts_in count k more len image is) h.none ∙ ap (λ o. or_later o (first_bad (k + 1) after)) bad
 
+-- What holds of each sector holds of all.
+pub all_split : (P : List ℕ → Type 0) (count len : ℕ) (image : List ℕ) → ((k : ℕ) → k < count → P (sector_bytes len k image)) → AllByRecursion P (split count len image)
+all_split P zero len image h = tt
+all_split P (suc more) len image h =
+    let none : 0 * len ≡ 0 = omega arith in (
+      subst P (ap (λ j. take len (drop j image)) none) (h 0 (omega arith)),
+      all_split P more len (drop len image) (λ k below.
+          let there : len + k * len ≡ suc k * len = omega arith in
+          subst P (ap (take len) (sym (drop-drop (k * len) len image ∙ ap (λ j. drop j image) there))) (h (suc k) (omega arith))),
+    )
+
 -- The same cause, of more sectors and from an earlier count of faults.
 pub fault_read : (why : ScanWhy) (before after start : ℕ) (one all : Option ScanWhy) → before ≡ start → (one ≡ Some why → all ≡ Some why) → IsReadFault why before after one → IsReadFault why start after all
 fault_read Device before after start one all is same h = subst (λ k. k < after) is h
@@ -133,8 +144,3 @@ fault_read NoErased before after start one all is same h = (same h.0, h.1 ∙ is
 fault_read Scattered before after start one all is same h = (same h.0, h.1 ∙ is)
 fault_read BadOrder before after start one all is same h = (same h.0, h.1 ∙ is)
 fault_read BadTree before after start one all is same h = (same h.0, h.1 ∙ is)
-
--- what `?` hands on
-pub err_from : {A E : Type 0} (r : Result A E) (x : E) (P : E → Type 0) → IsErrAnd r (λ e. e ≡ x) → P x → IfErr r P
-err_from (Ok a) x P h p = absurd h
-err_from (Err e) x P h p = subst P (sym h) p

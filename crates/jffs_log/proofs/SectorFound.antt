@@ -1,5 +1,5 @@
 -- The records of a sector are found one after another.
-use Rattle.std.proofs.Common.{◌≡◌, ℕ, ◌+◌, ◌-◌, ◌/◌, ◌≤◌, true, List, [], ◌∷◌, ◌++◌, length, drop, sum_by, refl, sym, ap, subst, ◌∙◌, arith, append_assoc, length-drop}
+use Rattle.std.proofs.Common.{◌≡◌, ℕ, ◌+◌, ◌-◌, ◌/◌, ◌≤◌, ◌<◌, true, List, [], ◌∷◌, ◌++◌, length, drop, get_or, sum_by, refl, sym, ap, subst, ◌∙◌, arith, append_assoc, length-drop}
 use Rattle.std.specs.List.{AllByRecursion}
 use Rattle.std.proofs.lemmas.List.{drop-drop, append-nil}
 use Rattle.std.proofs.lemmas.Grind.{flat_map-append}
@@ -67,10 +67,11 @@ end_found sector nodes used r xs there h is open_end =
     reading_holds sector nodes (drop used sector) h (subst IsEnd same (ends r open_end)) ∙ ap (λ e. record { nodes = nodes; ending = e }) (sym same)
 
 pub spelled_found : (sector : List ℕ) (nodes : List Node) (used : ℕ) (r : Read) (xs : List ℕ) → xs ≡ drop used sector → HoldsNodes sector nodes (drop used sector) → used ≡ sum_by record_len nodes
-    → r ≡ found (length sector / 4) xs → reading sector ≡ record { nodes = nodes; ending = r } → IsSpelled sector
-spelled_found sector nodes used r xs there h filled ending is =
+    → r ≡ found (length sector / 4) xs → reading sector ≡ record { nodes = nodes; ending = r } → ((i : ℕ) → get_or sector i 0 < 256) → IsSpelled sector
+spelled_found sector nodes used r xs there h filled ending is bytes =
     let at : drop used sector ≡ rest_of sector = ap (λ k. drop k sector) (filled ∙ ap (λ (a : Reading). reading_len a) (sym is)) in
     record {
       holds = subst (λ (a : Reading). HoldsNodes sector a.nodes (rest_of sector)) (sym is) (subst (λ (ys : List ℕ). HoldsNodes sector nodes ys) at h);
       ends = ap (λ (a : Reading). a.ending) is ∙ ending ∙ ap (found (length sector / 4)) (there ∙ at);
+      bytes = bytes;
     }

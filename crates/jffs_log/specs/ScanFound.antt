@@ -1,5 +1,6 @@
 -- What a scan answers: the book and the numbers that come next, or the cause of its refusal.
-use Rattle.std.specs.Prelude.{◌≡◌, ℕ, ◌+◌, ◌-◌, ◌/◌, ◌<◌, Bool, not, ◌||◌, max, nat_lt, List, [], ◌∷◌, Option, Some, None, is_some, Result, Ok, Err, if◌then◌else◌}
+use Rattle.std.specs.Prelude.{◌≡◌, ℕ, ◌<◌, Bool, not, ◌||◌, max, List, [], ◌∷◌, get_or, is_some, Result, Ok, Err}
+use Rattle.std.specs.List.{AllByRecursion}
 use Rattle.jffs_node.specs.declared.node.Node.{Node}
 use Rattle.jffs_node.specs.Record.{is_file}
 use Rattle.jffs_tree.specs.declared.wish.Limits.{Limits}
@@ -7,7 +8,8 @@ use Rattle.jffs_tree.specs.Origin.{Tree}
 use Rattle.jffs_log.specs.declared.book.Book.{Book}
 use Rattle.jffs_log.specs.declared.scanning.ScanWhy.{ScanWhy}
 use Rattle.jffs_log.specs.declared.scanning.ScanWhy.TheVariants.{Device, Memory}
-use Rattle.jffs_log.specs.Image.{nodes_of}
+use Rattle.jffs_log.specs.Image.{past_of}
+use Rattle.jffs_log.specs.Room.{limits as limits_after}
 use Rattle.jffs_log.specs.Volume.{split}
 use Rattle.jffs_log.specs.Book.{IsBook, HasSizes, log_in}
 use Rattle.jffs_log.specs.Scan.{Scanned, scan}
@@ -23,29 +25,18 @@ abbrev pub greatest_inode : List Node → ℕ
 greatest_inode [] = 1
 greatest_inode (n ∷ nodes) = max n.inode (greatest_inode nodes)
 
--- the number after this one, where it fits 32 bits
-abbrev pub next_number : ℕ → Option ℕ
-next_number k = if nat_lt k 4294967295 then Some (k + 1) else None
-
--- the longest data of a node in sectors of so many bytes, and the numbers after those of the log
-abbrev pub limits_of : ℕ → List Node → Limits
-limits_of len nodes = record {
-  data_max = len / 4 - 64;
-  next_inode = next_number (greatest_inode nodes);
-  next_version = next_number (last_version nodes);
-}
-
 -- a file's node of the first form comes before all nodes of the second
 abbrev pub keeps_form_after : Bool → Node → Bool
 keeps_form_after has_sizes n = not (is_file n.kind) || n.deleted || is_some n.size || not has_sizes
 
--- the scan of the image, with the book that tells of it
+-- the scan of the image, whose elements are bytes, with the book that tells of it
 pub record IsFound (count len : ℕ) (image : List ℕ) (found : Book) (tree : Tree) (clean : Bool) (limits : Limits) : Type 0 where
   pub answer : scan len (split count len image) ≡ Ok (record { log = log_in image found; tree = tree; clean = clean })
   pub book : IsBook image found
   pub sizes : HasSizes count len found
   pub erases : found.erases ≡ 0
-  pub limits_are : limits ≡ limits_of len (nodes_of (log_in image found))
+  pub limits_are : limits ≡ limits_after len (past_of (log_in image found))
+  pub bytes : AllByRecursion (λ bytes. (i : ℕ) → get_or bytes i 0 < 256) (split count len image)
 
 -- why the scan was refused: the device, memory, or the definition's answer
 abbrev pub IsCause : ScanWhy → ℕ → ℕ → Result Scanned ScanWhy → Type 0

@@ -1,5 +1,5 @@
 -- What a scan reads of the sectors, and where the log begins among them.
-use Rattle.std.specs.Prelude.{◌≡◌, ℕ, ◌/◌, ◌<◌, not, List, length, drop, sum_by, Option, Some, None, Result, Ok, Err, IsTrue, if◌then◌else◌}
+use Rattle.std.specs.Prelude.{◌≡◌, ℕ, ◌/◌, ◌<◌, not, List, length, drop, get_or, sum_by, Option, Some, None, Result, Ok, Err, IsTrue, if◌then◌else◌}
 use Rattle.std.specs.List.{list_any, enumerate_from, AllByRecursion}
 use Rattle.jffs_node.specs.Record.{record_len, is_lawful}
 use Rattle.jffs_node.specs.Reading.{reading, reading_len, found}
@@ -24,10 +24,11 @@ pub record IsRead (s : Inside) : Type 0 where
 abbrev pub rest_of : List ℕ → List ℕ
 rest_of sector = drop (reading_len (reading sector)) sector
 
--- the sector begins with the records of the nodes that it reads as, and its reading ends at what stands behind them
+-- the sector begins with the records of the nodes that it reads as, its reading ends at what stands behind them, and its bytes are bytes
 pub record IsSpelled (sector : List ℕ) : Type 0 where
   pub holds : HoldsNodes sector (reading sector).nodes (rest_of sector)
   pub ends : (reading sector).ending ≡ found (length sector / 4) (rest_of sector)
+  pub bytes : (i : ℕ) → get_or sector i 0 < 256
 
 -- the oldest sector, or why there is none
 abbrev pub oldest_sector : List Sector → Result ℕ ScanWhy

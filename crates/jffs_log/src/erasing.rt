@@ -1,6 +1,6 @@
 //! The oldest sector: its bytes, and how it is erased.
 
-ghost use Rattle.std.specs.Prelude.{◌≡◌, ℕ, ◌+◌, ◌-◌, ◌*◌, ◌<◌, ◌≤◌, ◌^◌, ◌++◌, ◌⊎◌, ◌↔◌, ◌==◌, List, false, not, IsTrue, min, IfOk, OnOk, IfErr, MatchResult};
+ghost use Rattle.std.specs.Prelude.{◌≡◌, ℕ, ◌+◌, ◌-◌, ◌*◌, ◌<◌, ◌≤◌, ◌^◌, ◌++◌, ◌⊎◌, ◌↔◌, ◌==◌, List, true, false, not, IsTrue, min, IfOk, OnOk, IfErr, MatchResult};
 ghost use Rattle.std.specs.List.{AllByRecursion, list_all, take_while};
 ghost use Rattle.jffs_tree.specs.Look.{holds_version};
 ghost use Rattle.jffs_flash.specs.Image.{erased, IsHalfErased};
@@ -16,7 +16,8 @@ use std::collections::VecDeque;
 impl<F: Flash> Log<F> {
     ghost use Rattle.jffs_log.specs.Book.{IsBook, HasSizes, log_in, oldest_in, layout_in, lives_in};
     ghost use Rattle.jffs_log.specs.Cleaning.{erase_oldest};
-    ghost use Rattle.jffs_log.specs.Volume.{sector_bytes};
+    ghost use Rattle.jffs_log.specs.Image.{is_clean};
+    ghost use Rattle.jffs_log.specs.Volume.{sector_bytes, sectors_in};
     ghost use Rattle.jffs_node.specs.declared.node.Node.{Node};
     ghost use Rattle.jffs_tree.specs.Origin.{tree_of};
     ghost use Rattle.jffs_log.specs.History.{IsHistory};
@@ -34,6 +35,7 @@ impl<F: Flash> Log<F> {
         ensures sectors { F.sector_count self.new.flash ≡ F.sector_count self.old.flash }
         ensures size { F.sector_len self.new.flash ≡ F.sector_len self.old.flash }
         ensures faults { OnOk result (F.fault_count self.new.flash ≡ F.fault_count self.old.flash) }
+        ensures erase_failed { F.erase_failed self.new.flash ≡ F.erase_failed self.old.flash }
         ensures memory { IfErr result (λ cause. cause ≡ Cause.Memory → F.fault_count self.new.flash ≡ F.fault_count self.old.flash) }
         ensures device { IfErr result (λ cause. cause ≡ Cause.Device → F.fault_count self.old.flash < F.fault_count self.new.flash) }
     {
@@ -45,9 +47,8 @@ impl<F: Flash> Log<F> {
         }
     }
 
-    /// Whether no record of the sector that was begun first lives in the tree of all nodes: a condition of
-    /// `erase_oldest`. Takes no memory.
-    pub fn oldest_is_dead(&self, tree: &Tree) -> bool
+    /// Whether no record of the sector that was begun first lives in the tree of all nodes.
+    pub(crate) fn oldest_has_no_live(&self, tree: &Tree) -> bool
         requires book { IsBook (F.image self.now.flash) self.now.book }
         ensures { IsTrue result ↔ AllByRecursion (λ p. lives_in tree.now p ≡ false) (oldest_in (F.image self.now.flash) self.now.book) }
     {
@@ -67,6 +68,7 @@ impl<F: Flash> Log<F> {
         ensures book { OnOk result (IsBook (F.image self.new.flash) self.new.book) }
         ensures gone { OnOk result (log_in (F.image self.old.flash) self.old.book ≡ oldest_in (F.image self.old.flash) self.old.book ++ log_in (F.image self.new.flash) self.new.book) }
         ensures layout { OnOk result (layout_in (F.image self.new.flash) self.new.book ≡ erase_oldest (layout_in (F.image self.old.flash) self.old.book)) }
+        ensures clean { OnOk result (is_clean (sectors_in self.new.book.sectors self.new.book.sector_size (F.image self.new.flash)) ≡ is_clean (sectors_in self.old.book.sectors self.old.book.sector_size (F.image self.old.flash))) }
         ensures history { (past : List Node) → tree.now ≡ tree_of past → IsHistory (F.image self.old.flash) self.old.book past → OnOk result (IsHistory (F.image self.new.flash) self.new.book past) }
         ensures done { OnOk result (F.image self.new.flash ≡ erased self.old.book.sector_size self.old.book.first (F.image self.old.flash)) }
         ensures half { IfErr result (λ _. IsHalfErased (self.old.book.first * self.old.book.sector_size) self.old.book.sector_size (F.image self.old.flash) (F.image self.new.flash)) }
@@ -75,6 +77,7 @@ impl<F: Flash> Log<F> {
         ensures book_sizes { HasSizes self.old.book.sectors self.old.book.sector_size self.new.book }
         ensures sizes { HasSizes (F.sector_count self.new.flash) (F.sector_len self.new.flash) self.new.book }
         ensures faults { MatchResult result (λ _. F.fault_count self.new.flash ≡ F.fault_count self.old.flash) (λ _. F.fault_count self.old.flash < F.fault_count self.new.flash) }
+        ensures erase_failed { MatchResult result (λ _. F.erase_failed self.new.flash ≡ F.erase_failed self.old.flash) (λ _. F.erase_failed self.new.flash ≡ true) }
     {
         let book = &mut self.book;
         book.erases = book.erases.saturating_add(1);

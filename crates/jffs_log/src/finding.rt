@@ -33,6 +33,7 @@ pub(crate) fn read_sectors<F: Flash>(
     ensures count { F.sector_count flash.new ≡ F.sector_count flash.old }
     ensures size { F.sector_len flash.new ≡ F.sector_len flash.old }
     ensures faults { IfOk result (λ _. F.fault_count flash.new ≡ F.fault_count flash.old) }
+    ensures erase_failed { F.erase_failed flash.new ≡ F.erase_failed flash.old }
 {
     let mut found = Vec::new(alloc);
     let mut buffer = vec![in alloc; 0u8; sector_size as usize]?;
@@ -61,6 +62,7 @@ fn read_one<F: Flash>(
     ensures count { F.sector_count flash.new ≡ F.sector_count flash.old }
     ensures size { F.sector_len flash.new ≡ F.sector_len flash.old }
     ensures faults { IfOk result (λ _. F.fault_count flash.new ≡ F.fault_count flash.old) }
+    ensures erase_failed { F.erase_failed flash.new ≡ F.erase_failed flash.old }
     ensures length { length buffer.new ≡ length buffer.old }
 {
     let len = buffer.len() as u32;

@@ -7,7 +7,8 @@ ghost use Rattle.jffs_tree.specs.Origin.{tree_of};
 ghost use Rattle.jffs_tree.specs.Check.{makes_tree};
 ghost use Rattle.jffs_tree.specs.After.{can_apply, keeps_places_in};
 ghost use Rattle.jffs_log.specs.Scan.{versions_rise};
-ghost use Rattle.jffs_log.specs.ScanFound.{last_version, greatest_inode, next_number, keeps_form_after};
+ghost use Rattle.jffs_log.specs.Room.{following};
+ghost use Rattle.jffs_log.specs.ScanFound.{last_version, greatest_inode, keeps_form_after};
 
 use crate::scanning::ScanWhy;
 use crate::sector::RECORDS_PER_SECTOR;
@@ -50,8 +51,8 @@ impl Numbers {
     /// The longest data of a node, and the numbers that come next; none where they are used up.
     pub(crate) fn limits(self, sector_size: u32) -> Limits
         ensures data_max { result.data_max ≡ sector_size / 4 - 64 }
-        ensures inode { result.next_inode ≡ next_number self.inode }
-        ensures version { result.next_version ≡ next_number self.version }
+        ensures inode { result.next_inode ≡ following self.inode }
+        ensures version { result.next_version ≡ following self.version }
     {
         Limits {
             data_max: (sector_size / RECORDS_PER_SECTOR).saturating_sub(HEADER_LEN as u32),

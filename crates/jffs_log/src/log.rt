@@ -30,7 +30,7 @@ impl<F: Flash> Log<F> {
     ghost use Rattle.jffs_node.specs.declared.node.Node.{Node};
     ghost use Rattle.jffs_log.specs.Cleaning.{put, in_tail, in_next};
     ghost use Rattle.jffs_log.specs.History.{IsHistory, KeepsRules};
-    ghost use Rattle.jffs_log.specs.Image.{erased_count};
+    ghost use Rattle.jffs_log.specs.Image.{erased_count, is_clean};
     ghost use Rattle.jffs_log.specs.Volume.{sectors_in};
     ghost use Rattle.jffs_log.specs.Room.{tail_need, has_room_in};
 
@@ -98,6 +98,7 @@ impl<F: Flash> Log<F> {
         ensures book { OnOk result (IsBook (F.image self.new.flash) self.new.book) }
         ensures added { OnOk result (log_in (F.image self.new.flash) self.new.book ≡ log_in (F.image self.old.flash) self.old.book ++ placed_at self.new.book.tail (self.new.book.used - length_of node.now) node.now ∷ []) }
         ensures layout { OnOk result (layout_in (F.image self.new.flash) self.new.book ≡ put self.old.book.sector_size room node.now (layout_in (F.image self.old.flash) self.old.book)) }
+        ensures clean { OnOk result (is_clean (sectors_in self.new.book.sectors self.new.book.sector_size (F.image self.new.flash)) ≡ is_unmount node.now.kind) }
         ensures history { (past : List Node) → IsHistory (F.image self.old.flash) self.old.book past → KeepsRules (node.now ∷ past) → MatchResult result
             (λ _. IsHistory (F.image self.new.flash) self.new.book (node.now ∷ past))
             (λ _. IsHistory (F.image self.new.flash) self.new.book past ⊎ IsHistory (F.image self.new.flash) self.new.book (node.now ∷ past)) }
@@ -108,6 +109,7 @@ impl<F: Flash> Log<F> {
         ensures sectors { F.sector_count self.new.flash ≡ F.sector_count self.old.flash }
         ensures size { F.sector_len self.new.flash ≡ F.sector_len self.old.flash }
         ensures faults { MatchResult result (λ _. F.fault_count self.new.flash ≡ F.fault_count self.old.flash) (λ _. F.fault_count self.old.flash < F.fault_count self.new.flash) }
+        ensures erase_failed { F.erase_failed self.new.flash ≡ F.erase_failed self.old.flash }
     {
         if self.fits_tail(room, record_len(node)) {
             self.append_to_tail(node)
@@ -125,6 +127,7 @@ impl<F: Flash> Log<F> {
         ensures book { OnOk result (IsBook (F.image self.new.flash) self.new.book) }
         ensures added { OnOk result (log_in (F.image self.new.flash) self.new.book ≡ log_in (F.image self.old.flash) self.old.book ++ placed_at self.old.book.tail self.old.book.used node.now ∷ []) }
         ensures layout { OnOk result (layout_in (F.image self.new.flash) self.new.book ≡ in_tail node.now (layout_in (F.image self.old.flash) self.old.book)) }
+        ensures clean { OnOk result (is_clean (sectors_in self.new.book.sectors self.new.book.sector_size (F.image self.new.flash)) ≡ is_unmount node.now.kind) }
         ensures tail { OnOk result ((self.new.book.tail ≡ self.old.book.tail) × (self.new.book.used ≡ self.old.book.used + length_of node.now)) }
         ensures cut { IfErr result (λ _. IsCut self.old.book (F.image self.old.flash) (F.image self.new.flash) (placed_at self.old.book.tail self.old.book.used node.now)) }
         ensures device { IfErr result (λ cause. cause ≡ Cause.Device) }
@@ -133,6 +136,7 @@ impl<F: Flash> Log<F> {
         ensures sectors { F.sector_count self.new.flash ≡ F.sector_count self.old.flash }
         ensures size { F.sector_len self.new.flash ≡ F.sector_len self.old.flash }
         ensures faults { MatchResult result (λ _. F.fault_count self.new.flash ≡ F.fault_count self.old.flash) (λ _. F.fault_count self.old.flash < F.fault_count self.new.flash) }
+        ensures erase_failed { F.erase_failed self.new.flash ≡ F.erase_failed self.old.flash }
     {
         let len = record_len(node);
         let book = &mut self.book;
@@ -164,6 +168,7 @@ impl<F: Flash> Log<F> {
         ensures book { OnOk result (IsBook (F.image self.new.flash) self.new.book) }
         ensures added { OnOk result (log_in (F.image self.new.flash) self.new.book ≡ log_in (F.image self.old.flash) self.old.book ++ placed_at self.new.book.tail 0 node.now ∷ []) }
         ensures layout { OnOk result (layout_in (F.image self.new.flash) self.new.book ≡ in_next self.old.book.sector_size node.now (layout_in (F.image self.old.flash) self.old.book)) }
+        ensures clean { OnOk result (is_clean (sectors_in self.new.book.sectors self.new.book.sector_size (F.image self.new.flash)) ≡ is_unmount node.now.kind) }
         ensures used { OnOk result (self.new.book.used ≡ length_of node.now) }
         ensures next { OnOk result (IsAt self.old.book.first self.old.book.sectors self.old.book.held self.new.book.tail) }
         ensures cut { IfErr result (λ _. (k : ℕ) → IsAt self.old.book.first self.old.book.sectors self.old.book.held k → IsCut self.old.book (F.image self.old.flash) (F.image self.new.flash) (placed_at k 0 node.now)) }
@@ -173,6 +178,7 @@ impl<F: Flash> Log<F> {
         ensures sectors { F.sector_count self.new.flash ≡ F.sector_count self.old.flash }
         ensures size { F.sector_len self.new.flash ≡ F.sector_len self.old.flash }
         ensures faults { MatchResult result (λ _. F.fault_count self.new.flash ≡ F.fault_count self.old.flash) (λ _. F.fault_count self.old.flash < F.fault_count self.new.flash) }
+        ensures erase_failed { F.erase_failed self.new.flash ≡ F.erase_failed self.old.flash }
     {
         let len = record_len(node);
         let book = &mut self.book;

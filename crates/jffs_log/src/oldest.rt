@@ -40,7 +40,7 @@ impl<F: Flash> Log<F> {
         requires book { IsBook (F.image self.now.flash) self.now.book }
         ensures { IsTrue result ↔ ((2 ≤ self.now.book.held) × AllByRecursion (λ p. lives_in tree.now p ≡ false) (oldest_in (F.image self.now.flash) self.now.book)) }
     {
-        self.book.held >= 2 && self.oldest_is_dead(tree)
+        self.book.held >= 2 && self.oldest_has_no_live(tree)
     }
 
     /// The nodes of the oldest sector in their order, read from the device. The log has a sector:
@@ -55,6 +55,7 @@ impl<F: Flash> Log<F> {
         ensures sectors { F.sector_count self.new.flash ≡ F.sector_count self.old.flash }
         ensures size { F.sector_len self.new.flash ≡ F.sector_len self.old.flash }
         ensures faults { OnOk result (F.fault_count self.new.flash ≡ F.fault_count self.old.flash) }
+        ensures erase_failed { F.erase_failed self.new.flash ≡ F.erase_failed self.old.flash }
         ensures memory { IfErr result (λ cause. cause ≡ Cause.Memory → F.fault_count self.new.flash ≡ F.fault_count self.old.flash) }
         ensures device { IfErr result (λ cause. cause ≡ Cause.Device → F.fault_count self.old.flash < F.fault_count self.new.flash) }
     {

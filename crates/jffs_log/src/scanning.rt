@@ -121,6 +121,8 @@ pub fn scan<F: Flash>(alloc: Global, mut flash: F) -> Result<Mounted<F>, ScanFau
     ensures size { MatchResult result
         (λ m. F.sector_len m.log.flash ≡ F.sector_len flash) (λ f. F.sector_len f.flash ≡ F.sector_len flash) }
     ensures faults { IfOk result (λ m. F.fault_count m.log.flash ≡ F.fault_count flash) }
+    ensures erase_failed { MatchResult result
+        (λ m. F.erase_failed m.log.flash ≡ F.erase_failed flash) (λ f. F.erase_failed f.flash ≡ F.erase_failed flash) }
 {
     match find(alloc, &mut flash) {
         Ok(found) => Ok(Mounted {
@@ -156,6 +158,7 @@ fn find<F: Flash>(alloc: Global, flash: &mut F) -> Result<Found, ScanWhy>
     ensures sectors { F.sector_count flash.new ≡ F.sector_count flash.old }
     ensures size { F.sector_len flash.new ≡ F.sector_len flash.old }
     ensures faults { IfOk result (λ _. F.fault_count flash.new ≡ F.fault_count flash.old) }
+    ensures erase_failed { F.erase_failed flash.new ≡ F.erase_failed flash.old }
 {
     let sectors = flash.sectors();
     let sector_size = flash.sector_size();

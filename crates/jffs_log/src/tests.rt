@@ -90,7 +90,7 @@ fn each_call_on_its_happy_path(rt: HostRuntime) -> Result<(), TestFail> {
         ..
     } = mount(&rt, blank(&rt));
     assert_eq!(rt; log.erased(), 6);
-    assert!(rt; log.oldest_is_dead(&tree));
+    assert!(rt; !log.oldest_dead(&tree));
     let first = written(rt.alloc(), 1, 5)?;
     append(&rt, &mut log, &tree, &first)?;
     apply(&rt, &mut tree, &first)?;
@@ -101,7 +101,7 @@ fn each_call_on_its_happy_path(rt: HostRuntime) -> Result<(), TestFail> {
     assert_eq!(rt; log.erased(), 5);
     assert_eq!(rt; log.erases(), 0);
     assert_eq!(rt; log.live_weight(&tree), 72);
-    assert!(rt; !log.oldest_is_dead(&tree));
+    assert!(rt; !log.oldest_dead(&tree));
     assert!(rt; log.book.held >= 1);
     let image = log.oldest_image(rt.alloc())?;
     let flash = log.into_flash();
@@ -159,7 +159,7 @@ fn erase<F: Flash>(rt: &impl Abort, log: &mut Log<F>, tree: &Tree) -> Result<(),
     ensures book { OnOk result (IsBook (F.image log.new.flash) log.new.book) }
     ensures sizes { HasSizes (F.sector_count log.new.flash) (F.sector_len log.new.flash) log.new.book }
 {
-    assert!(rt; log.book.held >= 2 && log.oldest_is_dead(tree));
+    assert!(rt; log.oldest_dead(tree));
     log.erase_oldest(tree)
 }
 
@@ -175,7 +175,7 @@ fn a_log_goes_round_the_end_of_the_image(rt: HostRuntime) -> Result<(), TestFail
         let node = written(rt.alloc(), version, 192)?;
         append(&rt, &mut log, &tree, &node)?;
         apply(&rt, &mut tree, &node)?;
-        if log.book.held >= 2 && log.oldest_is_dead(&tree) {
+        if log.oldest_dead(&tree) {
             erase(&rt, &mut log, &tree)?;
             assert_eq!(rt; log.erases(), 1);
         }

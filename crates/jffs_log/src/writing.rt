@@ -25,6 +25,7 @@ pub(crate) fn write_record<F: Flash>(flash: &mut F, at: u32, node: &Node) -> Res
     ensures sectors { F.sector_count flash.new ≡ F.sector_count flash.old }
     ensures size { F.sector_len flash.new ≡ F.sector_len flash.old }
     ensures faults { MatchResult result (λ _. F.fault_count flash.new ≡ F.fault_count flash.old) (λ _. F.fault_count flash.old < F.fault_count flash.new) }
+    ensures erase_failed { F.erase_failed flash.new ≡ F.erase_failed flash.old }
 {
     let mut buffer = [GATE_OPEN; RECORD_MAX];
     let record = &mut buffer[..record_len(node) as usize];
@@ -43,6 +44,7 @@ fn program_erased<F: Flash>(flash: &mut F, at: u32, bytes: &[u8]) -> Result<(), 
     ensures sectors { F.sector_count flash.new ≡ F.sector_count flash.old }
     ensures size { F.sector_len flash.new ≡ F.sector_len flash.old }
     ensures faults { MatchResult result (λ _. F.fault_count flash.new ≡ F.fault_count flash.old) (λ _. F.fault_count flash.old < F.fault_count flash.new) }
+    ensures erase_failed { F.erase_failed flash.new ≡ F.erase_failed flash.old }
 {
     flash.program(at, bytes)?;
     Ok(())

@@ -1,17 +1,38 @@
-//! A run of a script: from its text to the lines that tell what became of it.
+//! A run of a script in threads, from its text to the lines that tell what became of it.
 //!
-//! It stands on `jffs_text` for texts and on `jffs_core` for answers. Proved here so far: that
-//! each call is safe and returns.
+//! `run_threads` starts a thread for the log, one for each writer and each reader, and one for the
+//! cleaner where the script asks for it, and joins them all; `run_program` is the program over a
+//! reader and a writer. It stands on `jffs_text` for texts, on `jffs_line` and `jffs_index` for what
+//! flows between the threads, and on `jffs_serve` for the log's side.
 #![tactic(auto)]
 
+mod cleaner;
+mod crew;
+mod fault;
+mod joining;
+mod laws;
+mod log_thread;
+mod outcome;
 mod printing;
 mod program;
+mod promise;
+mod reader;
 mod reading;
-mod running;
+mod run;
+mod starting;
+mod threads;
+mod wish;
+mod writer;
 
+pub use fault::{RunFault, RunWhy};
+pub use jffs_serve::Served;
 pub use jffs_text::{DumpFault, Script, ScriptFault, ScriptWhy, dump};
+pub use laws::runs_leave_contents;
+pub use outcome::{AcceptedBy, Run};
 pub use program::run_program;
-pub use running::{Run, RunFault, RunWhy, Served, run_one};
+pub use reader::ReaderEnd;
+pub use threads::run_threads;
+pub use writer::{Gate, NoGate};
 
 #[cfg(test)]
 mod tests;

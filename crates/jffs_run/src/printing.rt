@@ -1,7 +1,9 @@
 //! The lines that tell what became of a run.
 
-use crate::running::{Run, Served};
+use crate::reader::ReaderEnd;
 use jffs_core::Answer;
+use jffs_serve::Served;
+use jffs_text::write_hex;
 use jffs_tree::{Cause, Outcome};
 use std::io;
 use std::io::Write;
@@ -11,16 +13,37 @@ use std::io::Write;
 const LAST_WRITER: u16 = 8;
 
 /// `W.N appended` or `W.N refused CAUSE` for each answered request of a writer, by writer and
-/// then by number, and then `closed` or `not closed CAUSE`.
-pub(crate) fn print_run<F, W: Write>(run: &Run<F>, out: &mut W) -> io::Result<()> {
+/// then by number.
+pub(crate) fn print_answers<W: Write>(answers: &[Answer], out: &mut W) -> io::Result<()> {
     for writer in 1..=LAST_WRITER {
-        for answer in run.answers.iter().filter(|answer| answer.writer == writer) {
+        for answer in answers.iter().filter(|answer| answer.writer == writer) {
             print_answer(answer, out)?;
         }
     }
-    match run.served {
+    Ok(())
+}
+
+/// `reader R HEX`, `reader R none` or `reader R not seen` for each reader, counted from 1.
+pub(crate) fn print_readers<W: Write>(readers: &[ReaderEnd], out: &mut W) -> io::Result<()> {
+    for (index, end) in readers.iter().enumerate() {
+        write!(out, "reader {} ", index + 1)?;
+        match end {
+            ReaderEnd::NotSeen => out.write_all(b"not seen")?,
+            ReaderEnd::NoFile => out.write_all(b"none")?,
+            ReaderEnd::Bytes(bytes) if bytes.is_empty() => out.write_all(b"-")?,
+            ReaderEnd::Bytes(bytes) => write_hex(bytes, out)?,
+        }
+        out.write_all(b"\n")?;
+    }
+    Ok(())
+}
+
+/// `closed`, or `not closed CAUSE`; the cause is Ended where nothing answered the Unmount.
+pub(crate) fn print_served<W: Write>(served: Served, out: &mut W) -> io::Result<()> {
+    match served {
         Served::Closed => writeln!(out, "closed"),
         Served::NotClosed(cause) => writeln!(out, "not closed {}", cause_name(cause)),
+        Served::Ended | Served::Memory => writeln!(out, "not closed Ended"),
     }
 }
 

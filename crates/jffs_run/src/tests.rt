@@ -1,39 +1,51 @@
 //! Whole programs: a script in, lines out.
 
-use crate::run_program;
-use crate::running::{Run, run_one};
+mod many;
+mod threads;
+
+use crate::{NoGate, run_program, run_threads};
 use jffs_flash::MemoryFlash;
 use jffs_text::Script;
 use std::io;
 use std::io::{Read, Write};
 use std::process::Abort;
+use std::sync::Wait;
 use std::test::Fail;
+use std::thread::Threads;
 
 /// What the program prints for a script, and its status.
-fn printed(rt: &(impl Abort + AllocGlobal), script: &[u8], status: u8) -> Result<Vec<u8>, Fail> {
+fn printed<Rt: Abort + AllocGlobal + Threads + Wait + Sync>(
+    rt: &Rt,
+    script: &[u8],
+    status: u8,
+) -> Result<Vec<u8>, Fail> {
     let mut input = script;
     let mut out = Vec::new(rt.alloc());
     assert_eq!(rt; run_program(rt, &mut input, &mut out), status);
     Ok(out)
 }
 
-fn prints(rt: &(impl Abort + AllocGlobal), script: &str, wanted: &str) -> Result<(), Fail> {
+fn prints<Rt: Abort + AllocGlobal + Threads + Wait + Sync>(
+    rt: &Rt,
+    script: &str,
+    wanted: &str,
+) -> Result<(), Fail> {
     let out = printed(rt, script.as_bytes(), 0)?;
     assert_eq!(rt; out.as_slice(), wanted.as_bytes(), "of {script}");
     Ok(())
 }
 
 /// The image after a script.
-fn image_after(rt: &(impl Abort + AllocGlobal), script: &str) -> Result<Vec<u8>, Fail> {
+fn image_after<Rt: AllocGlobal + Threads + Wait + Sync>(
+    rt: &Rt,
+    script: &str,
+) -> Result<Vec<u8>, Fail> {
     let alloc = rt.alloc();
     let script = Script::parse(alloc, script.as_bytes())?;
     let flash = MemoryFlash::new(alloc, script.sectors, script.sector_size)?;
-    let Run {
-        answers: _,
-        served: _,
-        flash,
-    } = run_one(alloc, &script, flash).ok().ok_or("no run")?;
-    Ok(flash.bytes().to_vec(alloc)?)
+    let run = run_threads(rt, alloc, &script, flash, &NoGate);
+    let run = run.map_err(|fault| fault.why)?;
+    Ok(run.flash.bytes().to_vec(alloc)?)
 }
 
 #[test]
@@ -226,19 +238,4 @@ fn lines_that_find_no_writer_are_dropped(rt: HostRuntime) {
     assert_eq!(rt; run_program(&rt, &mut input, &mut NoOutput), 1);
     let mut input = b"volume 5 1024".as_slice();
     assert_eq!(rt; run_program(&rt, &mut input, &mut NoOutput), 2);
-}
-
-#[test]
-fn what_needs_threads_is_refused_by_one_line(rt: HostRuntime) -> Result<(), Fail> {
-    for (script, what) in [
-        ("volume 8 1024\nwriter\nwriter", "a second writer"),
-        ("volume 8 1024\nreader 1 1 /f", "a reader"),
-        ("volume 8 1024\ncleaner 1", "a cleaner"),
-        ("volume 8 1024\nline rings 4", "a line of rings"),
-    ] {
-        let out = printed(&rt, script.as_bytes(), 2)?;
-        let line = format!(in rt.alloc(); "not run yet: {what} needs threads\n")?;
-        assert_eq!(rt; out.as_slice(), line.as_bytes(), "of {script}");
-    }
-    Ok(())
 }

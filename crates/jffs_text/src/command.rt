@@ -1,7 +1,7 @@
 //! What a script's writer asks for.
 
 use crate::fault::ScriptWhy;
-use crate::keyword::Edit;
+use crate::keyword::{Edit, Keyword};
 use crate::word::Words;
 use jffs_node::{Bytes, NoMemory, Path};
 use jffs_tree::Wish;
@@ -39,6 +39,15 @@ pub enum Command {
 }
 
 impl Command {
+    /// Reads the words of one command, all that are left: `Command` where they begin with no
+    /// command's word, or are too few or too many, then the first word that is none of its kind.
+    pub fn of_words(alloc: Global, mut words: Words<'_>) -> Result<Command, ScriptWhy> {
+        match Keyword::take(&mut words) {
+            Some(Keyword::Edit(edit)) => Command::parse(alloc, edit, words),
+            _ => Err(ScriptWhy::Command),
+        }
+    }
+
     /// Reads the words behind the command's first one, from left to right.
     pub(crate) fn parse(
         alloc: Global,

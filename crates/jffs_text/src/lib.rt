@@ -17,5 +17,6 @@ pub use dumping::{DumpFault, dump, write_hex};
 pub use fault::{ScriptFault, ScriptWhy};
 pub use script::{
     CAPACITY_MAX, COMMANDS_MAX, LINE_MAX, LineChoice, LineForm, READERS_MAX, ROUNDS_MAX,
-    ReaderStatement, Script, WRITERS_MAX, Writer,
+    ReaderStatement, Script, WRITERS_MAX, Writer, line_text,
 };
+pub use word::Words;

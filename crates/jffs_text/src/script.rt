@@ -206,8 +206,8 @@ fn volume_sizes(keyword: Option<Keyword>, mut words: Words<'_>) -> Result<(u32, 
     }
 }
 
-/// A line as text: printable ASCII, and not too long.
-fn line_text(line: &[u8]) -> Result<&str, ScriptWhy> {
+/// A line as text: printable ASCII, and not too long. Else `Text`.
+pub fn line_text(line: &[u8]) -> Result<&str, ScriptWhy> {
     let printable = line.iter().all(|byte| matches!(byte, b' '..=b'~'));
     if !printable || line.len() > LINE_MAX {
         return Err(ScriptWhy::Text);

@@ -9,17 +9,18 @@ use std::alloc::Global;
 /// The words of a line that are still to come. Words are separated by one space, so two
 /// spaces have an empty word between them.
 #[derive(Clone, Copy)]
-pub(crate) struct Words<'a> {
+pub struct Words<'a> {
     rest: Option<&'a str>,
 }
 
 impl<'a> Words<'a> {
-    pub(crate) fn of(line: &'a str) -> Words<'a> {
+    /// The words of a line.
+    pub fn of(line: &'a str) -> Words<'a> {
         Words { rest: Some(line) }
     }
 
     /// How many words are left.
-    pub(crate) fn count(&self) -> usize {
+    pub fn count(&self) -> usize {
         match self.rest {
             Some(rest) => rest.split(' ').count(),
             None => 0,
@@ -27,7 +28,7 @@ impl<'a> Words<'a> {
     }
 
     /// The next word; an empty one where none is left.
-    pub(crate) fn take(&mut self) -> &'a str {
+    pub fn take(&mut self) -> &'a str {
         let Some(rest) = self.rest else {
             return "";
         };
@@ -44,7 +45,7 @@ impl<'a> Words<'a> {
     }
 
     /// The next word, a number between these two.
-    pub(crate) fn take_number(&mut self, least: u32, most: u32) -> Result<u32, ScriptWhy>
+    pub fn take_number(&mut self, least: u32, most: u32) -> Result<u32, ScriptWhy>
         ensures least { IfOk result (λ n. least ≤ n) }
         ensures most { IfOk result (λ n. n ≤ most) }
     {
@@ -55,7 +56,7 @@ impl<'a> Words<'a> {
     }
 
     /// The next word, a path.
-    pub(crate) fn take_path(&mut self, alloc: Global) -> Result<Path, ScriptWhy> {
+    pub fn take_path(&mut self, alloc: Global) -> Result<Path, ScriptWhy> {
         match Path::parse(alloc, self.take()) {
             Ok(path) => Ok(path),
             Err(PathFault::Memory) => Err(ScriptWhy::Memory),
@@ -64,7 +65,7 @@ impl<'a> Words<'a> {
     }
 
     /// The next word, bytes in hex; `-` stands for none.
-    pub(crate) fn take_bytes(&mut self, alloc: Global) -> Result<Vec<u8>, ScriptWhy> {
+    pub fn take_bytes(&mut self, alloc: Global) -> Result<Vec<u8>, ScriptWhy> {
         let word = self.take();
         if word == "-" {
             return Ok(Vec::new(alloc));
@@ -73,7 +74,7 @@ impl<'a> Words<'a> {
     }
 
     /// The next word, one byte in hex.
-    pub(crate) fn take_byte(&mut self) -> Result<u8, ScriptWhy> {
+    pub fn take_byte(&mut self) -> Result<u8, ScriptWhy> {
         match self.take().as_bytes() {
             [high, low] => hex_byte(*high, *low),
             _ => Err(ScriptWhy::Hex),

@@ -1,5 +1,5 @@
 use crate::{Cause, Limits, Tree, Wish};
-use jffs_node::{Bytes, Kind, Name, Node, Path, PathFault};
+use jffs_node::{Bytes, Kind, Name, NoMemory, Node, Path, PathFault};
 use std::alloc::Global;
 use std::process::Abort;
 use std::test::Fail;
@@ -240,6 +240,40 @@ fn stale_and_needless_copies(rt: HostRuntime) -> Result<(), Fail> {
     session.refused(&rt, copy(alloc, 1, b"f", b"")?, Cause::NotNeeded);
     session.grant(&rt, remove(alloc, "/f")?)?;
     session.refused(&rt, copy(alloc, 4, b"f", b"Jello")?, Cause::NotNeeded);
+    Ok(())
+}
+
+/// The copy that cleaning makes of a node that is live.
+fn cleaned(session: &Session, source: &Node) -> Result<Node, Fail> {
+    if !session.tree.live(source.inode, source.version) {
+        return Err("it isn't live".into());
+    }
+    let copied = match session.tree.cleaning_copy(source) {
+        Ok(copied) => copied,
+        Err(NoMemory) => session.tree.cleaning_copy(source)?,
+    };
+    Ok(copied.with(session.next_version, 0, 0))
+}
+
+#[test]
+fn cleaning_copies_current_names(rt: HostRuntime) -> Result<(), Fail> {
+    let alloc = rt.alloc();
+    let mut session = Session::new(alloc);
+    session.grant(&rt, create(alloc, "/f")?)?;
+    let source = session.decide(&write(alloc, "/f", 0, b"hello")?)?;
+    session.grant(&rt, write(alloc, "/f", 0, b"hello")?)?;
+    session.grant(&rt, rename(alloc, "/f", "/g")?)?;
+    session.grant(&rt, write(alloc, "/g", 1, b"EY")?)?;
+    let copied = cleaned(&session, &source)?;
+    assert!(rt; copied.copy && copied.name == Name::from_bytes(b"g"));
+    assert_eq!(rt; (copied.offset, copied.rsize, copied.size), (0, 5, Some(5)));
+    assert_eq!(rt; copied.bytes.as_slice(), b"hEYlo".as_slice());
+    session.grant(&rt, truncate(alloc, "/g", 3)?)?;
+    let copied = cleaned(&session, &source)?;
+    assert_eq!(rt; copied.bytes.as_slice(), b"hEY".as_slice());
+    apply(&rt, &mut session.tree, &copied)?;
+    assert!(rt; !session.tree.live(2, source.version));
+    session.contents(&rt, 2, b"hEY");
     Ok(())
 }
 

@@ -2,12 +2,10 @@
 ghost use Rattle.std.specs.Prelude.{◌≡◌, IfOk};
 ghost use Rattle.jffs_index.specs.Histories.{view_of};
 ghost use Rattle.jffs_index.specs.Ends.{all_put, publisher_index};
-ghost use Rattle.jffs_index.specs.Shown.{fits_node};
 
 use crate::publisher::Publisher;
 use crate::step::Step;
-use crate::view::apply_fitting;
-use jffs_node::Node;
+use crate::view::{apply_fitting, node_fits};
 use jffs_tree::{Limits, Outcome, Tree, Wish};
 use std::alloc::Global;
 use std::sync::Wait;
@@ -21,15 +19,6 @@ pub(super) struct Source<W: Wait + Drop> {
     pub(super) next_version: u32,
 }
 
-fn fits(tree: &Tree, node: &Option<Node>) -> bool
-    ensures { result ≡ fits_node tree.now node.now }
-{
-    match node {
-        Some(node) => tree.can_apply(node),
-        None => true,
-    }
-}
-
 impl<W: Wait + Drop> Source<W> {
     /// Puts a step. Where memory is refused it is put once more.
     fn put(&mut self, step: Step) -> Result<(), Fail>
@@ -37,7 +26,7 @@ impl<W: Wait + Drop> Source<W> {
         ensures tree { IfOk result (λ _. self.new.tree ≡ (view_of (all_put self.new.publisher)).tree) }
         ensures index { publisher_index self.new.publisher ≡ publisher_index self.old.publisher }
     {
-        if !fits(&self.tree, &step.node) {
+        if !node_fits(&self.tree, &step.node) {
             return Err("a node that doesn't fit".into());
         }
         if apply_fitting(&mut self.tree, &step.node).is_err() {

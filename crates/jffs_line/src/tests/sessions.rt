@@ -1,7 +1,9 @@
-//! Eight writers in threads of their own beside the taker, over either form of the line.
+//! Writers in threads of their own beside the taker, over either form of the line.
+ghost use Rattle.std.specs.Prelude.{◌≡◌, [], ◌∷◌, ◌++◌, map, IfSome};
+ghost use Rattle.jffs_line.specs.Line.{End};
 
 use super::wish;
-use crate::hand::{Ends, Hand, Hands, Taker};
+use crate::hand::{Ends, Hand, Hands, Settle, Taker};
 use crate::request::{NotTaken, Request, Why};
 use crossbeam_utils::Backoff;
 use jffs_tree::Wish;
@@ -11,7 +13,9 @@ use std::thread;
 use std::thread::Threads;
 
 /// Offers so many wishes, each until it is accepted.
-fn hand_in_all<H: Hand, R: Wait>(rt: &R, alloc: Global, hand: H, count: u32) -> H {
+fn hand_in_all<H: Hand, R: Wait>(rt: &R, alloc: Global, hand: H, count: u32) -> H
+    ensures { ◌≡◌ {A = End} (H.sender result, H.line result) (H.sender hand, H.line hand) }
+{
     let mut hand = hand;
     for size in 0..count {
         if let Some(wish) = wish(alloc, size) {
@@ -21,7 +25,9 @@ fn hand_in_all<H: Hand, R: Wait>(rt: &R, alloc: Global, hand: H, count: u32) -> 
     hand
 }
 
-fn insist<H: Hand, R: Wait>(rt: &R, hand: &mut H, wish: Wish) {
+fn insist<H: Hand, R: Wait>(rt: &R, hand: &mut H, wish: Wish)
+    ensures { ◌≡◌ {A = End} (H.sender hand.new, H.line hand.new) (H.sender hand.old, H.line hand.old) }
+{
     let backoff = Backoff::new();
     let mut wish = wish;
     for _ in rt.forever() {
@@ -38,8 +44,45 @@ fn insist<H: Hand, R: Wait>(rt: &R, hand: &mut H, wish: Wish) {
     }
 }
 
+/// The writers' hands, after each handed in so many wishes in a thread of its own.
+fn write_all<H: Hand + Send, R: Threads + Wait + Sync>(
+    rt: &R,
+    alloc: Global,
+    hands: Vec<H>,
+    count: u32,
+) -> Option<Vec<H>>
+    ensures { IfSome result (λ after. map {B = End} (λ h. (H.sender h, H.line h)) after.items ≡ map {B = End} (λ h. (H.sender h, H.line h)) hands.items) }
+{
+    let mut hands = hands;
+    let Some(last) = hands.pop() else {
+        return Some(hands);
+    };
+    let (last, rest) = thread::join(
+        rt,
+        move ||
+            ensures { ◌≡◌ {A = End} (H.sender result, H.line result) (H.sender last, H.line last) }
+        { hand_in_all(rt, alloc, last, count) },
+        move ||
+            ensures { IfSome result (λ after. map {B = End} (λ h. (H.sender h, H.line h)) after.items ≡ map {B = End} (λ h. (H.sender h, H.line h)) hands.items) }
+        { write_all(rt, alloc, hands, count) },
+    );
+    let mut rest = rest?;
+    rest.push(last).ok()?;
+    Some(rest)
+}
+
+/// The taker, and what it took.
+#[derive(Drop)]
+struct Took<T: Taker> {
+    taker: T,
+    requests: Vec<Request>,
+}
+
 /// Takes so many requests.
-fn take_all<T: Taker, R: Wait>(rt: &R, alloc: Global, taker: &mut T, count: u32) -> Vec<Request> {
+fn take_all<T: Taker, R: Wait>(rt: &R, alloc: Global, taker: T, count: usize) -> Took<T>
+    ensures { T.ends result.taker ≡ T.ends taker }
+{
+    let mut taker = taker;
     let mut requests = Vec::new(alloc);
     for _ in 0..count {
         match taker.take(rt) {
@@ -47,29 +90,46 @@ fn take_all<T: Taker, R: Wait>(rt: &R, alloc: Global, taker: &mut T, count: u32)
             _ => break,
         }
     }
-    requests
+    Took { taker, requests }
 }
 
-/// What the taker takes while each writer hands in so many wishes.
-pub(super) fn session<H: Hand + Send, T: Taker + Send, R: Threads + Wait + Sync>(
+/// What the taker took, and what waited when all ends came together again.
+#[derive(Drop)]
+pub(super) struct Session {
+    pub(super) taken: Vec<Request>,
+    pub(super) waiting: Vec<Request>,
+}
+
+/// The taker takes so many requests, while each writer hands in so many wishes.
+pub(super) fn run_session<H: Hand + Send, T: Settle<Of = H> + Send, R: Threads + Wait + Sync>(
     rt: &R,
     alloc: Global,
     line: Ends<H, T>,
-    count: u32,
-) -> Vec<Request> {
+    wishes: u32,
+    takes: usize,
+) -> Option<Session>
+    requires { T.ends line.taker ≡ map (λ h. (H.sender h, H.line h)) (line.hands.writers.items ++ line.hands.cleaner ∷ line.hands.control.hand ∷ []) }
+{
     let Ends { hands, taker } = line;
     let Hands {
         writers,
-        cleaner: _,
-        control: _,
+        cleaner,
+        control,
     } = hands;
-    let wanted = count.saturating_mul(8);
-    let mut taker = taker;
-    let write = |hand: H| hand_in_all(rt, alloc, hand, count);
-    let (_, requests) = thread::join(
+    let (writers, took) = thread::join(
         rt,
-        || thread::map_vec(rt, writers, &write),
-        || take_all(rt, alloc, &mut taker, wanted),
+        move || write_all(rt, alloc, writers, wishes),
+        move || take_all(rt, alloc, taker, takes),
     );
-    requests
+    let Took { taker, requests } = took;
+    let hands = Hands {
+        writers: writers?,
+        cleaner,
+        control,
+    };
+    let settled = taker.settle(rt, alloc, hands).ok()?;
+    Some(Session {
+        taken: requests,
+        waiting: settled.waiting,
+    })
 }

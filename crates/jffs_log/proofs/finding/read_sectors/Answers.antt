@@ -6,7 +6,8 @@ use Rattle.jffs_log.specs.ScanRead.{AreRead, IsReadFault, IsSpelled, bad_in}
 use Rattle.jffs_log.specs.Image.{sector_of}
 use Rattle.jffs_log.specs.Volume.{sectors_in, sector_bytes}
 use Rattle.jffs_log.specs.Scan.{first_bad}
-use Rattle.jffs_log.proofs.ScanSectors.{one_read, bad_read, fault_read, err_from}
+use Rattle.jffs_log.proofs.ScanSectors.{one_read, bad_read, fault_read}
+use Rattle.jffs_log.proofs.Results.{err_from}
 use Rattle.jffs_log.proofs.finding.read_sectors.Goals as goal
 
 -- a buffer that was filled is as long as before
@@ -44,6 +45,7 @@ loop-sector-preserved g c =
       count = c.read_one.ensures.count ∙ w.count;
       size = c.read_one.ensures.size ∙ w.size;
       faults = c.in_ok-read.ensures.faults ∙ w.faults;
+      erase_failed = c.read_one.ensures.erase_failed ∙ w.erase_failed;
       buffer = refilled c.loop-sector.buffer.len c.read_one.new.buffer c.loop-sector.buffer.items full ∙ sym c.deref_mut.ensures.len ∙ at;
     }
 

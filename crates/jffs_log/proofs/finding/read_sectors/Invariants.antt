@@ -10,5 +10,6 @@ invariant-loop-sector g l = record {
   count : g.F.Flash.sector_count l.flash ≡ g.F.Flash.sector_count l.fn.flash;
   size : g.F.Flash.sector_len l.flash ≡ g.F.Flash.sector_len l.fn.flash;
   faults : g.F.Flash.fault_count l.flash ≡ g.F.Flash.fault_count l.fn.flash;
+  erase_failed : g.F.Flash.erase_failed l.flash ≡ g.F.Flash.erase_failed l.fn.flash;
   buffer : length l.buffer.items ≡ l.sector_size;
 }

@@ -1,5 +1,5 @@
 -- Step by step, in the definition's order.
-use Rattle.std.proofs.Common.{◌≡◌, ◌⊎◌, ◌*◌, false, List, length, map, flat_map, reverse, Ok, Err, refl, sym, ap, subst, ◌∙◌, arith}
+use Rattle.std.proofs.Common.{◌≡◌, ◌⊎◌, ◌*◌, false, ℕ, ◌<◌, get_or, List, length, map, flat_map, reverse, Ok, Err, refl, sym, ap, subst, ◌∙◌, arith}
 use Rattle.std.specs.List.{last_or}
 use Rattle.std.specs.Prelude.{None}
 use Rattle.jffs_node.specs.declared.node.Node.{Node}
@@ -11,10 +11,12 @@ use Rattle.jffs_log.specs.Image.{records_in, free_of_tail, is_clean_tail}
 use Rattle.jffs_log.specs.Book.{kept}
 use Rattle.jffs_log.specs.Scan.{versions_rise}
 use Rattle.jffs_log.specs.ScanRead.{number_of_tail, used_of_tail, oldest_sector}
-use Rattle.jffs_log.specs.ScanFound.{IsCause, greatest_inode, last_version, limits_of}
+use Rattle.jffs_log.specs.Room.{limits as limits_after}
+use Rattle.jffs_log.specs.ScanFound.{IsCause, greatest_inode, last_version}
 use Rattle.jffs_log.proofs.Ring.{Numbered}
 use Rattle.jffs_log.proofs.Appended.{sizes_small}
-use Rattle.jffs_log.proofs.ScanSectors.{err_from}
+use Rattle.jffs_log.proofs.Results.{err_from}
+use Rattle.jffs_log.proofs.ScanSectors.{all_split}
 use Rattle.jffs_log.proofs.ScanBook.{kept_is}
 use Rattle.jffs_log.proofs.ScanFound.{answer, cause_at, found_at, not_so, geometry_refused, read_refused, oldest_refused, order_refused, tree_refused, scan_is, IsAll, log_nodes, located_in, kept_in, first_below, held_below, limits_are}
 use Rattle.jffs_log.proofs.scanning.find.Goals as goal
@@ -188,5 +190,6 @@ returns-clause-found g c =
       erases = refl;
       limits_are =
           limits_are len nodes c.limits.result c.in_ok-numbers.numbers.inode c.in_ok-numbers.numbers.version c.limits.ensures.data_max c.limits.ensures.inode c.limits.ensures.version inodes versions
-          ∙ ap (limits_of len) (sym (log_nodes count len image c.in_ok-first.first held nodes all));
+          ∙ ap (λ (xs : List Node). limits_after len (reverse xs)) (sym (log_nodes count len image c.in_ok-first.first held nodes all));
+      bytes = all_split (λ (xs : List ℕ). (i : ℕ) → get_or xs i 0 < 256) count len image (λ k below. let spelled = c.in_ok-held.ensures.read.spelled k below in spelled.bytes);
     })

@@ -44,5 +44,5 @@ returns-in_default c =
     let is = end_found sector c.loop-nodes.nodes.items c.loop-nodes.used c.in_ok-ending.ending _ (take_rest sector c.loop-nodes.used) w.holds c.in_ok-ending.ensures.read c.in_default.not-Closed in
     record {
       read = λ i. (c.args.number, record { erased = c.is_erased.ensures i; reading = sym is i });
-      spelled = spelled_found sector c.loop-nodes.nodes.items c.loop-nodes.used c.in_ok-ending.ending _ (take_rest sector c.loop-nodes.used) w.holds w.filled c.in_ok-ending.ensures.read is;
+      spelled = spelled_found sector c.loop-nodes.nodes.items c.loop-nodes.used c.in_ok-ending.ending _ (take_rest sector c.loop-nodes.used) w.holds w.filled c.in_ok-ending.ensures.read is (λ i. let fits = c.type_inv.sector i in omega arith);
     }

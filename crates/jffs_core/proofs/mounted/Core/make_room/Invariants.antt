@@ -1,5 +1,6 @@
-use Rattle.std.proofs.Common.{◌≡◌}
+use Rattle.std.proofs.Common.{◌-◌}
+use Rattle.jffs_core.proofs.Turning.{IsTurning}
 use Rattle.jffs_core.proofs.mounted.Core.make_room.Given as goal
 
-abbrev pub invariant-loop : goal.invariant-loop
-invariant-loop g l = (l.self.answers ≡ l.fn.self.answers) × (l.self.places ≡ l.fn.self.places)
+abbrev pub invariant-loop-turn : goal.invariant-loop-turn
+invariant-loop-turn g l = IsTurning l.len (l.turn-end - l.turn) l.fn.self l.self

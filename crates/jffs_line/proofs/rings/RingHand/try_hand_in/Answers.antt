@@ -1,4 +1,4 @@
-use Rattle.std.proofs.Common.{ap, ◌∙◌, refl, List, ℕ, map}
+use Rattle.std.proofs.Common.{ap, ◌∙◌, refl, List, map}
 use Rattle.jffs_line.specs.declared.rings.Note.{Note}
 use Rattle.jffs_line.proofs.Numbering.{seqs-pushed}
 use Rattle.jffs_line.proofs.rings.RingHand.try_hand_in.Goals as goal

@@ -5,6 +5,7 @@ use Rattle.jffs_log.specs.declared.book.Kept.{Kept}
 use Rattle.jffs_log.specs.Book.{IsCut, IsKept, kept, placed_at}
 use Rattle.jffs_log.specs.Gate.{IsWritten}
 use Rattle.jffs_log.specs.Live.{live_log}
+use Rattle.jffs_log.specs.Image.{is_clean}
 use Rattle.jffs_log.specs.Volume.{sectors_in}
 use Rattle.jffs_log.specs.Cleaning.{layout_of}
 use Rattle.jffs_log.proofs.Layouts.{layout_next}
@@ -86,3 +87,12 @@ returns-in-Ok-clause-layout g c =
     let all = next_appended b.sectors b.sector_size old b.first b.held b.tail b.used b.free next b.records.items n c.requires.book c.requires.erased c.sector_at-next.ensures c.requires.lawful c.requires.fits in
     ap (λ (xs : List ℕ). layout_of b.sector_size (sectors_in b.sectors b.sector_size xs)) (c.in-Ok.ensures.done ∙ ap (λ (k : ℕ). replaced k (spelling n) old) (start (next * b.sector_size)))
     ∙ layout_next b.sectors b.sector_size old _ b.first b.held b.tail b.used b.free next (0 + record_len n) b.records.items _ n c.requires.book all.0 all.2
+
+pub returns-in-Ok-clause-clean : goal.returns-in-Ok-clause-clean
+returns-in-Ok-clause-clean g c =
+    let n = c.args.node.now in
+    let b = c.args.self.now.book in
+    let next = c.sector_at-next.result in
+    let old = g.F.Flash.image c.args.self.now.flash in
+    ap (λ (xs : List ℕ). is_clean (sectors_in b.sectors b.sector_size xs)) (c.in-Ok.ensures.done ∙ ap (λ (k : ℕ). replaced k (spelling n) old) (start (next * b.sector_size)))
+    ∙ (next_appended b.sectors b.sector_size old b.first b.held b.tail b.used b.free next b.records.items n c.requires.book c.requires.erased c.sector_at-next.ensures c.requires.lawful c.requires.fits).3

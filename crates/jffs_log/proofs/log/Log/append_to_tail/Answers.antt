@@ -3,6 +3,7 @@ use Rattle.jffs_node.specs.Record.{record_len}
 use Rattle.jffs_log.specs.declared.book.Kept.{Kept}
 use Rattle.jffs_log.specs.Book.{IsKept, kept, placed_at}
 use Rattle.jffs_log.specs.Live.{live_log}
+use Rattle.jffs_log.specs.Image.{is_clean}
 use Rattle.jffs_log.specs.Volume.{sectors_in}
 use Rattle.jffs_log.specs.Cleaning.{layout_of}
 use Rattle.jffs_log.proofs.Layouts.{layout_tail}
@@ -69,3 +70,10 @@ returns-in-Ok-clause-layout g c =
     let all = tail_appended b.sectors b.sector_size old b.first b.held b.tail b.used b.free b.records.items n c.requires.book c.requires.lawful c.requires.fits in
     ap (λ (xs : List ℕ). layout_of b.sector_size (sectors_in b.sectors b.sector_size xs)) c.in-Ok.ensures.done
     ∙ layout_tail b.sectors b.sector_size old _ b.first b.held b.tail b.used b.free b.tail (b.used + record_len n) b.records.items _ n c.requires.book all.0 all.2
+
+pub returns-in-Ok-clause-clean : goal.returns-in-Ok-clause-clean
+returns-in-Ok-clause-clean g c =
+    let b = c.args.self.now.book in
+    let old = g.F.Flash.image c.args.self.now.flash in
+    ap (λ (xs : List ℕ). is_clean (sectors_in b.sectors b.sector_size xs)) c.in-Ok.ensures.done
+    ∙ (tail_appended b.sectors b.sector_size old b.first b.held b.tail b.used b.free b.records.items c.args.node.now c.requires.book c.requires.lawful c.requires.fits).3

@@ -46,6 +46,15 @@ returns-in-Ok-clause-layout g c =
     (book_erased b.sectors b.sector_size old new b.first b.held b.tail b.used b.free c.sector_at-book.result b.records.items c.forget_sector.new.records.items c.requires.book c.requires.several
     c.sector_at-book.ensures changed c.forget_sector.ensures).layout
 
+pub returns-in-Ok-clause-clean : goal.returns-in-Ok-clause-clean
+returns-in-Ok-clause-clean g c =
+    let b = c.args.self.now.book in
+    let old = g.F.Flash.image c.args.self.now.flash in
+    let new = g.F.Flash.image c.erase.new.self in
+    let changed : new ≡ erased b.sector_size b.first old = c.in-Ok.ensures.done ∙ ap (λ (k : ℕ). erased k b.first old) c.requires.sizes.1 in
+    (book_erased b.sectors b.sector_size old new b.first b.held b.tail b.used b.free c.sector_at-book.result b.records.items c.forget_sector.new.records.items c.requires.book c.requires.several
+    c.sector_at-book.ensures changed c.forget_sector.ensures).clean
+
 pub returns-in-Ok-clause-history : goal.returns-in-Ok-clause-history
 returns-in-Ok-clause-history g c =
     let b = c.args.self.now.book in

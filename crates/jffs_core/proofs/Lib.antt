@@ -1,0 +1,10 @@
+pub mod Lawful
+pub mod Contents
+pub mod RoomMade
+pub mod Mounting
+pub mod Putting
+pub mod Deciding
+pub mod Stepping
+pub mod Sweeping
+pub mod Turning
+pub mod Scanning

@@ -1,0 +1,115 @@
+-- What a scan found is a history that the core knows.
+use Rattle.std.proofs.Common.{◌≡◌, ℕ, zero, suc, ◌*◌, ◌<◌, Bool, true, false, List, [], ◌∷◌, ◌++◌, length, get_or, drop, flat_map, None, sym, ap, subst, ◌∙◌, arith, length-drop, reverse}
+use Rattle.std.specs.List.{AllByRecursion, last_or}
+use Rattle.std.proofs.lemmas.List.{length-take-le, append-nil}
+use Rattle.std.proofs.lemmas.Bool.{and_parts}
+use Rattle.jffs_node.specs.declared.node.Node.{Node}
+use Rattle.jffs_tree.specs.Origin.{Tree, tree_of}
+use Rattle.jffs_tree.specs.declared.wish.Limits.{Limits}
+use Rattle.jffs_log.specs.declared.book.Book.{Book}
+use Rattle.jffs_log.specs.Image.{records_in, log_sectors, nodes_of, past_of, is_free, is_clean, is_clean_tail, ends_with_unmount as log_ends}
+use Rattle.jffs_log.specs.Volume.{split, sectors_in}
+use Rattle.jffs_log.specs.Scan.{Scanned}
+use Rattle.jffs_log.specs.ScanFound.{IsFound}
+use Rattle.jffs_log.specs.Live.{live_log}
+use Rattle.jffs_log.specs.Book.{IsBook, log_in, layout_in}
+use Rattle.jffs_log.specs.RoomLaws.{IsSound}
+use Rattle.jffs_log.proofs.Ring.{Numbered}
+use Rattle.jffs_log.proofs.Volume.{length-split}
+use Rattle.jffs_log.proofs.MountedLog.{mounts_are_sound, ok_same, nodes_mapped, placed_nodes}
+use Rattle.jffs_log.proofs.MountHistory.{mounts_are_histories}
+use Rattle.jffs_log.proofs.Copied.{opposite}
+use Rattle.jffs_log.proofs.Histories.{histories_are_scanned, turned_round}
+use Rattle.jffs_core.specs.Standing.{Standing}
+use Rattle.jffs_core.specs.Step.{ends_with_unmount}
+use Rattle.jffs_core.specs.Past.{IsPast, HasBook, IsFresh}
+use Rattle.jffs_core.proofs.Contents.{no_growth}
+
+abbrev pub Bytes : List ℕ → Type 0
+Bytes xs = (i : ℕ) → get_or xs i 0 < 256
+
+whole_sectors : (count len : ℕ) (image : List ℕ) → length image ≡ count * len → AllByRecursion Bytes (split count len image) → AllByRecursion (λ xs. (length xs ≡ len) × Bytes xs) (split count len image)
+whole_sectors zero len image whole h = tt
+whole_sectors (suc more) len image whole h =
+    let d = length-drop len image in
+    ((length-take-le len image (omega arith), h.0), whole_sectors more len (drop len image) (omega arith) h.1)
+
+pub found_past : (image : List ℕ) (b : Book) (tree : Tree) (clean : Bool) (limits : Limits) → IsFound b.sectors b.sector_size image b tree clean limits → IsPast (past_of (log_in image b)) image b tree limits clean
+found_past image b tree clean limits h =
+    let count = b.sectors in
+    let len = b.sector_size in
+    let scanned : Scanned = record { log = log_in image b; tree = tree; clean = clean } in
+    let past = past_of (log_in image b) in
+    let history = mounts_are_histories count len image scanned h.bytes h.answer in
+    let again : Scanned = record { log = live_log count len image; tree = tree_of past; clean = is_clean (sectors_in count len image) } in
+    let same = ok_same scanned again (sym h.answer ∙ histories_are_scanned count len image past history) in
+    let sound = mounts_are_sound len (split count len image) scanned (whole_sectors count len image h.book.whole h.bytes) h.answer in
+    record {
+      history = history;
+      sound = subst (λ k. IsSound k len (record { past = past; log = layout_in image b })) (length-split count len image) sound;
+      tree_is = ap (λ (s : Scanned). s.tree) same;
+      limits_are = h.limits_are;
+      clean_is = ap (λ (s : Scanned). s.clean) same;
+    }
+
+by_book : (count len : ℕ) (image : List ℕ) (b : Book) (tree : Tree) (clean : Bool) (limits : Limits) → IsFound count len image b tree clean limits → IsFound b.sectors b.sector_size image b tree clean limits
+by_book count len image b tree clean limits h =
+    subst (λ k. IsFound b.sectors k image b tree clean limits) h.sizes.1 (subst (λ k. IsFound k len image b tree clean limits) h.sizes.0 h)
+
+pub found_book : (count len : ℕ) (image found : List ℕ) (many size : ℕ) (b : Book) (tree : Tree) (clean : Bool) (limits : Limits) → IsFound count len image b tree clean limits → many ≡ count → size ≡ len → found ≡ image
+    → HasBook false many size found b tree limits clean
+found_book count len image found many size b tree clean limits h same_count same_len same_image = record {
+  sizes = (same_count ∙ h.sizes.0, same_len ∙ h.sizes.1);
+  book = λ works. subst (λ (xs : List ℕ). IsBook xs b) (sym same_image) h.book;
+  past = λ works. (past_of (log_in image b), subst (λ (xs : List ℕ). IsPast (past_of (log_in image b)) xs b tree limits clean) (sym same_image) (found_past image b tree clean limits (by_book count len image b tree clean limits h)));
+}
+
+pub found_fresh : (count len : ℕ) (image : List ℕ) (faults : ℕ) (erase_failed : Bool) (c : Standing) → IsFound count len image c.book c.tree c.clean c.limits → c.image ≡ image → c.faults ≡ faults → c.erase_failed ≡ erase_failed
+    → c.failed ≡ false → c.closed ≡ false → c.answers ≡ [] → IsFresh count len image faults erase_failed c
+found_fresh count len image faults erase_failed c h same_image same_faults same_erases works not_closed none =
+    let past = past_of (log_in image c.book) in
+    record {
+      scanned = record { log = log_in image c.book; tree = c.tree; clean = c.clean };
+      found = h.answer;
+      stands = record {
+        grown = no_growth past;
+        stands = record {
+          working = λ w. subst (λ (xs : List ℕ). IsPast past xs c.book c.tree c.limits c.clean) (sym same_image) (found_past image c.book c.tree c.clean c.limits (by_book count len image c.book c.tree c.clean c.limits h));
+          broken = λ f. absurd (opposite c.failed f works);
+        };
+      };
+      image_is = same_image;
+      faults_are = same_faults;
+      erases_are = same_erases;
+      sizes = h.sizes;
+      erases = h.erases;
+      works = works;
+      not_closed = not_closed;
+      no_answers = none;
+    }
+
+-- A clean log ends with an unmount node, and so does its history.
+ends_more : (xs ys : List Node) → log_ends ys ≡ true → log_ends (xs ++ ys) ≡ true
+ends_more [] ys h = h
+ends_more (x ∷ []) [] h = cc
+ends_more (x ∷ []) (y ∷ ys) h = h
+ends_more (x ∷ z ∷ xs) ys h = ends_more (z ∷ xs) ys h
+
+clean_log : (held : List Numbered) → is_clean_tail (last_or None held) ≡ true → log_ends (nodes_of (flat_map records_in held)) ≡ true
+clean_log [] h = cc
+clean_log (s ∷ []) h =
+    let both = and_parts (log_ends s.1.reading.nodes) (is_free s.1.reading.ending) h in
+    ap log_ends (ap nodes_of (append-nil (records_in s)) ∙ placed_nodes s.0 0 s.1.reading.nodes) ∙ both.0
+clean_log (s ∷ t ∷ held) h =
+    ap log_ends (nodes_mapped (records_in s) (flat_map records_in (t ∷ held)))
+    ∙ ends_more (nodes_of (records_in s)) (nodes_of (flat_map records_in (t ∷ held))) (clean_log (t ∷ held) h)
+
+ends_turned : (nodes gone : List Node) → log_ends nodes ≡ true → ends_with_unmount (reverse nodes ++ gone) ≡ true
+ends_turned [] gone h = cc
+ends_turned (n ∷ []) gone h = ap ends_with_unmount (turned_round n [] gone) ∙ h
+ends_turned (n ∷ m ∷ nodes) gone h = ap ends_with_unmount (turned_round n (m ∷ nodes) gone) ∙ ends_turned (m ∷ nodes) (n ∷ gone) h
+
+pub clean_ends : (past : List Node) (image : List ℕ) (b : Book) (tree : Tree) (limits : Limits) (clean : Bool) → IsPast past image b tree limits clean → clean ≡ true → ends_with_unmount past ≡ true
+clean_ends past image b tree limits clean h is =
+    ap ends_with_unmount h.history.front
+    ∙ ends_turned (nodes_of (live_log b.sectors b.sector_size image)) h.history.gone (clean_log (log_sectors (sectors_in b.sectors b.sector_size image)) (sym h.clean_is ∙ is))

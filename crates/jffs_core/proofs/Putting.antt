@@ -1,0 +1,112 @@
+-- One node more: what the core knows then.
+use Rattle.std.proofs.Common.{◌≡◌, ℕ, ◌<◌, Bool, true, ◌&&◌, List, [], ◌∷◌, max, fold, refl, sym, ap, subst, ◌∙◌, arith}
+use Rattle.std.specs.List.{list_all, AllByRecursion}
+use Rattle.std.proofs.lemmas.Bool.{and_parts, and_from}
+use Rattle.jffs_node.specs.declared.node.Node.{Node}
+use Rattle.jffs_node.specs.Record.{record_len, is_lawful}
+use Rattle.jffs_tree.specs.Origin.{Tree, tree_of}
+use Rattle.jffs_tree.specs.Check.{each_fits, keeps_kind, keeps_places, keeps_form, check}
+use Rattle.jffs_tree.specs.After.{keeps_places_in}
+use Rattle.jffs_tree.specs.declared.wish.Limits.{Limits}
+use Rattle.jffs_tree.proofs.Tested.{trees_test_as_nodes}
+use Rattle.jffs_log.specs.declared.book.Book.{Book}
+use Rattle.jffs_log.specs.declared.room.Room.{Room}
+use Rattle.jffs_log.specs.Room.{has_room, following, next_inode, limits as limits_of}
+use Rattle.jffs_log.specs.Book.{HasSizes, IsSameBook, layout_in}
+use Rattle.jffs_log.specs.Cleaning.{Layout, put, is_history, versions_fall, keeps_length}
+use Rattle.jffs_log.specs.RoomLaws.{IsSound}
+use Rattle.jffs_log.specs.History.{IsHistory, IsLawfulHistory, KeepsRules}
+use Rattle.jffs_log.proofs.MountedLog.{lawful_keeps}
+use Rattle.jffs_log.proofs.Bound.{puts_keep_sound}
+use Rattle.jffs_tree.specs.declared.wish.Cause.{Cause}
+use Rattle.jffs_tree.specs.declared.wish.Cause.TheVariants.{NoSpace, Device}
+use Rattle.jffs_core.specs.Standing.{Standing}
+use Rattle.jffs_core.specs.Past.{IsPast, Knows, is_clean_in, HasFailed}
+use Rattle.jffs_core.specs.Acting.{MayPut, PutRefused}
+
+-- Nodes that keep the rules never move a byte.
+pub keeps_all_lengths : (past : List Node) → AllByRecursion (λ n. is_lawful n ≡ true) past → list_all keeps_length past ≡ true
+keeps_all_lengths [] h = refl
+keeps_all_lengths (n ∷ past) h = and_from (keeps_length n) (list_all keeps_length past) (lawful_keeps n h.0) (keeps_all_lengths past h.1)
+
+pub rules_history : (past : List Node) → KeepsRules past → is_history past ≡ true
+rules_history past h =
+    let fits = (and_parts (each_fits past) (check (tree_of past)) h.lawful.tree).0 in
+    and_from (each_fits past && versions_fall past) (list_all keeps_length past)
+    (and_from (each_fits past) (versions_fall past) fits h.falls)
+    (keeps_all_lengths past h.lawful.each)
+
+-- The tree takes the node.
+pub places_kept : (past : List Node) (n : Node) (tree : Tree) → tree ≡ tree_of past → KeepsRules (n ∷ past) → keeps_places_in tree n ≡ true
+places_kept past n tree is h =
+    let fits = (and_parts (each_fits (n ∷ past)) (check (tree_of (n ∷ past))) h.lawful.tree).0 in
+    let a = and_parts (each_fits past && keeps_kind past n && keeps_places past n) (keeps_form past n) fits in
+    let b = and_parts (each_fits past && keeps_kind past n) (keeps_places past n) a.0 in
+    ap (λ t. keeps_places_in t n) is ∙ (trees_test_as_nodes past n h.lawful.each.0).1 ∙ b.1
+
+-- The numbers that come next.
+pub fold_max : (a b : ℕ) (past : List Node) → fold (λ most n. max most n.inode) (max a b) past ≡ max (fold (λ most n. max most n.inode) a past) b
+fold_max a b [] = refl
+fold_max a b (n ∷ past) =
+    let turn : max (max a b) n.inode ≡ max (max a n.inode) b = omega arith in
+    ap (λ k. fold (λ most (m : Node). max most m.inode) k past) turn ∙ fold_max (max a n.inode) b past
+
+pub counted : (z : ℕ) (past : List Node) (n : Node) (old new : Limits) → old ≡ limits_of z past → new.data_max ≡ old.data_max → new.next_version ≡ following n.version
+    → ((most : ℕ) → old.next_inode ≡ following most → new.next_inode ≡ following (max most n.inode)) → new ≡ limits_of z (n ∷ past)
+counted z past n old new is data_max version inode =
+    let most = fold (λ most (m : Node). max most m.inode) 1 past in
+    let numbers : new.next_inode ≡ next_inode (n ∷ past) = inode most (ap (λ (l : Limits). l.next_inode) is) ∙ ap following (sym (fold_max 1 n.inode past)) in
+    let most_data : new.data_max ≡ (limits_of z past).data_max = data_max ∙ ap (λ (l : Limits). l.data_max) is in
+    λ i. record { data_max = most_data i; next_inode = numbers i; next_version = version i }
+
+-- The same history and log by a book that is the same but for places.
+pub same_history : (image : List ℕ) (b c : Book) (past : List Node) → b.sectors ≡ c.sectors → b.sector_size ≡ c.sector_size → IsHistory image b past → IsHistory image c past
+same_history image b c past sectors size h = subst (λ k. IsLawfulHistory c.sectors k image past) size (subst (λ k. IsLawfulHistory k b.sector_size image past) sectors h)
+
+pub same_layout : (image : List ℕ) (b c : Book) → b.sectors ≡ c.sectors → b.sector_size ≡ c.sector_size → layout_in image b ≡ layout_in image c
+same_layout image b c sectors size = ap (λ k. layout_in image (record b { sectors = k })) sectors ∙ ap (λ k. layout_in image (record c { sector_size = k })) size
+
+pub same_past : (past : List Node) (image : List ℕ) (b c : Book) (tree : Tree) (limits : Limits) (clean : Bool) → b.sectors ≡ c.sectors → b.sector_size ≡ c.sector_size → IsPast past image b tree limits clean → IsPast past image c tree limits clean
+same_past past image b c tree limits clean sectors size h = record {
+  history = same_history image b c past sectors size h.history;
+  sound =
+      subst (λ (log : Layout). IsSound c.sectors c.sector_size (record { past = past; log = log })) (same_layout image b c sectors size)
+      (subst (λ k. IsSound c.sectors k (record { past = past; log = layout_in image b })) size
+      (subst (λ k. IsSound k b.sector_size (record { past = past; log = layout_in image b })) sectors h.sound));
+  tree_is = h.tree_is;
+  limits_are = h.limits_are ∙ ap (λ k. limits_of k past) size;
+  clean_is = h.clean_is ∙ ap (λ k. is_clean_in image (record b { sectors = k })) sectors ∙ ap (λ k. is_clean_in image (record c { sector_size = k })) size;
+}
+
+-- A node was put.
+module _ (past : List Node) (room : Room) (n : Node) (old new : List ℕ) (b c d : Book) (before after : Tree) (limits next : Limits) (was clean : Bool)
+    (h : IsPast past old b before limits was) (may : MayPut past b.sector_size room n) (same : IsSameBook b c) (sizes : HasSizes c.sectors c.sector_size d) where
+  pub put_past : has_room room (record_len n) (layout_in old b).free (layout_in old b).erased ≡ true → IsHistory new d (n ∷ past) → layout_in new d ≡ put c.sector_size room n (layout_in old c) → after ≡ tree_of (n ∷ past)
+      → next ≡ limits_of b.sector_size (n ∷ past) → clean ≡ is_clean_in new d → IsPast (n ∷ past) new d after next clean
+  put_past had_room history log tree numbers ends =
+      let sound = puts_keep_sound b.sectors b.sector_size room n (record { past = past; log = layout_in old b }) h.sound (rules_history (n ∷ past) may.rules) may.suits may.short had_room in
+      let there = put_log log in
+      record {
+        history = history;
+        sound =
+            subst (λ k. IsSound d.sectors k (record { past = n ∷ past; log = layout_in new d })) (sym same.sector_size ∙ sizes.1)
+            (subst (λ k. IsSound k b.sector_size (record { past = n ∷ past; log = layout_in new d })) (sym same.sectors ∙ sizes.0)
+            (subst (λ (l : Layout). IsSound b.sectors b.sector_size (record { past = n ∷ past; log = l })) (sym there) sound));
+        tree_is = tree;
+        limits_are = numbers ∙ ap (λ k. limits_of k (n ∷ past)) (sym same.sector_size ∙ sizes.1);
+        clean_is = ends;
+      }
+    where
+      put_log : layout_in new d ≡ put c.sector_size room n (layout_in old c) → layout_in new d ≡ put b.sector_size room n (layout_in old b)
+      put_log e = e ∙ ap (λ k. put k room n (layout_in old c)) same.sector_size ∙ ap (put b.sector_size room n) (same_layout old c b same.sectors same.sector_size)
+
+-- The device failed while a node was put.
+pub put_failed : (room : Room) (n : Node) (cause : Cause) (old new : Standing) → cause ≡ Device → new.failed ≡ true → old.faults < new.faults → ((past : List Node) → Knows past old → MayPut past old.book.sector_size room n → HasFailed past new) → PutRefused room n cause old new
+put_failed room n cause old new device fails faults left = subst (λ c. PutRefused room n c old new) (sym device) (record {
+  stands = λ past known may. record { fails = fails; faults = faults; left = left past known may };
+  no_room = λ is. absurd (other is);
+  kept = λ is. absurd (other is);
+})
+  where
+    other : ◌≡◌ {A = Cause} Device NoSpace → ⊥
+    other e = cc

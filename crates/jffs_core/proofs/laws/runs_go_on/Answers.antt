@@ -1,0 +1,5 @@
+use Rattle.jffs_core.proofs.Lawful.{run_goes_on}
+use Rattle.jffs_core.proofs.laws.runs_go_on.Goals as goal
+
+pub returns : goal.returns
+returns c = run_goes_on

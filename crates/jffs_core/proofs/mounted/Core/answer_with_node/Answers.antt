@@ -1,0 +1,25 @@
+use Rattle.std.proofs.Common.{◌∙◌, sym, ap, subst}
+use Rattle.jffs_tree.specs.declared.wish.Outcome.{Outcome}
+use Rattle.jffs_core.specs.Standing.{Standing}
+use Rattle.jffs_core.specs.declared.answer.Answered.{Answered}
+use Rattle.jffs_core.specs.Acting.{HasAnswered}
+use Rattle.jffs_core.proofs.Stepping.{failed_answer, answered}
+use Rattle.jffs_core.proofs.mounted.Core.answer_with_node.Goals as goal
+use Rattle.jffs_core.proofs.mounted.Core.answer_with_node.Goals.{then-self, else-self}
+
+pub returns-clause-step : goal.returns-clause-step
+returns-clause-step g c = λ mounted past stands.
+    let q = c.args.request in
+    let old : Standing = c.args.self.now in
+    let acted : HasAnswered past old c.if-self.self q c.if-self.answered.outcome =
+    elim c.if-self.branch [
+      | then-self w ↦
+          let fails = ap (λ (v : Standing). v.failed) (sym c.self.view_is) ∙ w.if-self.true in
+          subst (λ (v : Standing). HasAnswered past old v q c.if-self.answered.outcome) (sym w.self-is)
+          (subst (λ (o : Outcome). HasAnswered past old old q o) (sym (ap (λ (a : Answered). a.outcome) w.answered-is)) (failed_answer past old q fails stands.stands))
+      | else-self w ↦
+          let works = ap (λ (v : Standing). v.failed) (sym c.self.view_is) ∙ w.if-self.false in
+          subst (λ (v : Standing). HasAnswered past old v q c.if-self.answered.outcome) (sym w.self-is)
+          (subst (λ (o : Outcome). HasAnswered past old w.act-answered.new.self q o) (sym (ap (λ (a : Answered). a.outcome) w.answered-is)) (w.act-answered.ensures.acted past (stands.stands.working works)))
+    ] in
+    answered q.writer q.seq c.if-self.answered.outcome mounted past old c.if-self.self c.keep_answer.new.self q stands.grown acted c.keep_answer.ensures

@@ -1,0 +1,80 @@
+use Rattle.std.proofs.Common.{◌≡◌, ◌∙◌, ℕ, ◌≤◌, ◌<◌, ◌+◌, ◌/◌, Bool, true, false, cond, List, length, take, get_or, sym, ap, subst, arith}
+use Rattle.jffs_node.specs.declared.node.Node.{Node}
+use Rattle.jffs_node.specs.Record.{record_len}
+use Rattle.jffs_log.specs.Book.{layout_in}
+use Rattle.jffs_log.specs.Cleaning.{oldest_records}
+use Rattle.jffs_log.specs.RoomLaws.{Among}
+use Rattle.jffs_log.proofs.Appended.{sizes_small}
+use Rattle.jffs_core.specs.Standing.{Standing}
+use Rattle.jffs_core.specs.Past.{Knows}
+use Rattle.jffs_core.specs.Acting.{HasCopied}
+use Rattle.jffs_core.proofs.Turning.{copying_begins, copying_goes_on, copying_has_room, among_more, one_known, one_short, are_few, all_taken}
+use Rattle.jffs_core.proofs.mounted.Core.copy_each.Goals as goal
+
+one_most : (b : Bool) (r : ℕ) → r ≡ cond b 1 0 → r ≤ 1
+one_most true r e = omega arith
+one_most false r e = omega arith
+
+pub loop-node-init : goal.loop-node-init
+loop-node-init g c = copying_begins c.args.nodes.now c.args.self.now c.requires.working
+
+-- the record is one of the history then
+its_known : (nodes past after : List Node) (k copies : ℕ) (node : Node) (old now : Standing) → Knows past old → nodes ≡ oldest_records (layout_in old.image old.book).sectors → k < length nodes → node ≡ get_or nodes k node
+    → HasCopied (take k nodes) past after copies old now → Among node after
+its_known nodes past after k copies node old now known oldest below is h =
+    among_more node h.added.copies past after h.added.joined (subst (λ n. Among n past) (sym is) (one_known nodes past old known oldest k node below))
+
+pub handle-requires-clause-known : goal.handle-requires-clause-known
+handle-requires-clause-known g c =
+    let k = c.requires.known in
+    let d = c.loop-node.invariant.done k.0 k.1 in
+    (d.0, (let h = d.1 in h.stands.knows), its_known c.args.nodes.now k.0 d.0 c.loop-node.node-index c.loop-node.copies c.node-item.result c.args.self.now c.loop-node.self k.1 c.requires.oldest c.loop-node-test.true c.node-item.is d.1)
+
+pub handle-requires-clause-short : goal.handle-requires-clause-short
+handle-requires-clause-short g c =
+    let k = c.requires.known in
+    subst (λ z. record_len c.node-item.result ≤ z / 4) c.loop-node.invariant.sizes.1
+    (subst (λ (n : Node). record_len n ≤ c.args.self.now.book.sector_size / 4) (sym c.node-item.is) (one_short c.args.nodes.now k.0 c.args.self.now k.1 c.requires.oldest c.loop-node.node-index c.node-item.result c.loop-node-test.true))
+
+pub overflow_add-copies : goal.overflow_add-copies
+overflow_add-copies g c =
+    let k = c.requires.known in
+    let few = are_few c.args.nodes.now k.0 c.args.self.now k.1 c.requires.oldest in
+    let small = sizes_small c.args.self.now.book.sectors c.args.self.now.book.sector_size (let h = k.1 in h.history.sizes) in
+    let so_far = c.loop-node.invariant.few in
+    let one = one_most c.in-Ok.copied c.one_if-copies.result c.one_if-copies.ensures in
+    omega arith
+
+pub loop-node-preserved : goal.loop-node-preserved
+loop-node-preserved g c =
+    let v = c.loop-node.invariant in
+    let e = c.in-Ok.ensures in
+    let one = one_most c.in-Ok.copied c.one_if-copies.result c.one_if-copies.ensures in
+    record {
+      works = e.works;
+      same = record { answers = e.same.answers ∙ v.same.answers; places = e.same.places ∙ v.same.places; closed = e.same.closed ∙ v.same.closed };
+      sizes = (v.sizes.0 ∙ e.sizes.0, v.sizes.1 ∙ e.sizes.1);
+      erases = e.erases ∙ v.erases;
+      few = let few = v.few in omega arith;
+      done = λ past known.
+          let d = v.done past known in
+          let h = d.1 in
+          let among = its_known c.args.nodes.now past d.0 c.loop-node.node-index c.loop-node.copies c.node-item.result c.args.self.now c.loop-node.self known c.requires.oldest c.loop-node-test.true c.node-item.is h in
+          copying_goes_on c.args.nodes.now past d.0 c.loop-node.node-index c.loop-node.copies _ c.node-item.result c.in-Ok.copied c.args.self.now c.loop-node.self c.handle.new.self c.loop-node-test.true c.node-item.is v.sizes h
+          (e.handled d.0 h.stands.knows among) (ap (λ k. c.loop-node.copies + k) c.one_if-copies.ensures);
+    }
+
+pub returns-in-Err-clause-stopped : goal.returns-in-Err-clause-stopped
+returns-in-Err-clause-stopped g c = λ past known.
+    let d = c.loop-node.invariant.done past known in
+    let h = d.1 in
+    let among = its_known c.args.nodes.now past d.0 c.loop-node.node-index c.loop-node.copies c.node-item.result c.args.self.now c.loop-node.self known c.requires.oldest c.loop-node-test.true c.node-item.is h in (
+      d.0,
+      copying_has_room c.args.nodes.now past d.0 c.loop-node.node-index c.loop-node.copies c.node-item.result c.in-Err.cause c.args.self.now c.loop-node.self c.handle.new.self known c.requires.oldest c.requires.several c.loop-node-test.true c.node-item.is h
+          (c.in-Err.ensures.stopped d.0 h.stands.knows among),
+    )
+
+pub returns-clause-copied : goal.returns-clause-copied
+returns-clause-copied g c = λ past known.
+    let d = c.loop-node.invariant.done past known in
+    (d.0, subst (λ (ns : List Node). HasCopied ns past d.0 c.loop-node.copies c.args.self.now c.loop-node.self) (all_taken c.args.nodes.now c.loop-node.node-index c.loop-node-test.false) d.1)

@@ -1,0 +1,26 @@
+use Rattle.std.proofs.Common.{◌∙◌, sym, ap}
+use Rattle.jffs_core.specs.Standing.{Standing}
+use Rattle.jffs_core.proofs.Stepping.{works_past}
+use Rattle.jffs_core.proofs.Turning.{ok_map, erased_keeps, err_both, device_stop}
+use Rattle.jffs_core.proofs.mounted.Core.erase_dead.Goals as goal
+
+pub returns-clause-erased : goal.returns-clause-erased
+returns-clause-erased g c =
+    let works = ap (λ (v : Standing). v.failed) (sym c.self.view_is) ∙ c.if-self.false in
+    ok_map c.erase_while_dead.result _ _
+    (λ count h mounted past s.
+    let e = h past (let k = s.stands in k.working works) in
+    record {
+      works = works;
+      stands = record { grown = s.grown; stands = works_past past _ e.stands.works e.stands.knows };
+      log = e.log;
+      last = e.last;
+      two = erased_keeps count c.args.self.now c.erase_while_dead.new.self e.log;
+    }) c.erase_while_dead.ensures.erased
+
+pub returns-clause-stopped : goal.returns-clause-stopped
+returns-clause-stopped g c =
+    let works = ap (λ (v : Standing). v.failed) (sym c.self.view_is) ∙ c.if-self.false in
+    err_both c.erase_while_dead.result _ _ _
+    (λ cause h device mounted past s. device_stop mounted past cause c.args.self.now c.erase_while_dead.new.self works s device (h past (let k = s.stands in k.working works)))
+    c.erase_while_dead.ensures.stopped c.erase_while_dead.ensures.device

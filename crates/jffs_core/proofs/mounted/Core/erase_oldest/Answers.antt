@@ -1,0 +1,72 @@
+use Rattle.std.proofs.Common.{◌≡◌, ◌∙◌, ◌<◌, ◌≤◌, List, length, inl, true, false, refl, sym, ap, subst}
+use Rattle.jffs_log.specs.Book.{layout_in}
+use Rattle.jffs_log.specs.Cleaning.{erase_oldest}
+use Rattle.jffs_node.specs.declared.node.Node.{Node}
+use Rattle.jffs_core.specs.Standing.{Standing}
+use Rattle.jffs_core.specs.Past.{IsPast, Knows}
+use Rattle.jffs_core.proofs.Mounting.{clean_ends}
+use Rattle.jffs_core.proofs.Sweeping.{refused_device, held_is, erased_past}
+use Rattle.jffs_core.proofs.mounted.Core.erase_oldest.Goals as goal
+
+left : (g : _) (c : goal.In-Ok g) (past : List Node) → Knows past c.args.self.now
+    → IsPast past (g.F.Flash.image c.erase_oldest.new.self.flash) c.erase_oldest.new.self.book c.self.inside.tree c.self.inside.limits c.self.inside.clean
+left g c past known =
+    let b = c.self.inside.log.book in
+    let old = g.F.Flash.image c.self.inside.log.flash in
+    let e = c.in-Ok.ensures in
+    let h = subst (λ (v : Standing). Knows past v) (sym c.self.view_is) known in
+    erased_past past old (g.F.Flash.image c.erase_oldest.new.self.flash) b c.erase_oldest.new.self.book c.self.inside.tree c.self.inside.limits c.self.inside.clean h (e.history past h.tree_is h.history) e.layout e.clean e.book_sizes
+    (subst (λ (v : Standing). 2 ≤ length (layout_in v.image v.book).sectors) (sym c.self.view_is) c.requires.several)
+
+pub erase_oldest-requires-clause-several : goal.erase_oldest-requires-clause-several
+erase_oldest-requires-clause-several g c =
+    let works = ap (λ (v : Standing). v.failed) c.self.view_is ∙ c.requires.working in
+    subst (λ k. 2 ≤ k) (held_is (g.F.Flash.image c.self.inside.log.flash) c.self.inside.log.book (c.self.invariant.book works))
+    (subst (λ (v : Standing). 2 ≤ length (layout_in v.image v.book).sectors) (sym c.self.view_is) c.requires.several)
+
+pub invariant_of-self : goal.invariant_of-self
+invariant_of-self g c =
+    let e = c.in-Ok.ensures in
+    let works = ap (λ (v : Standing). v.failed) c.self.view_is ∙ c.requires.working in
+    let stands = c.self.invariant.past works in
+    record {
+      sizes = e.sizes;
+      book = λ w. e.book;
+      past = λ w. (stands.0, left g c stands.0 (subst (λ (v : Standing). Knows stands.0 v) c.self.view_is stands.1));
+    }
+
+pub returns-in-Ok-clause-erased : goal.returns-in-Ok-clause-erased
+returns-in-Ok-clause-erased g c = λ past known.
+    let e = c.in-Ok.ensures in
+    record {
+      stands = record {
+        works = ap (λ (v : Standing). v.failed) c.self.view_is ∙ c.requires.working;
+        faults = e.faults ∙ ap (λ (v : Standing). v.faults) c.self.view_is;
+        knows = left g c past known;
+      };
+      log = e.layout ∙ ap (λ (v : Standing). erase_oldest (layout_in v.image v.book)) c.self.view_is;
+    }
+
+pub returns-in-Err-clause-refused : goal.returns-in-Err-clause-refused
+returns-in-Err-clause-refused g c = λ past known.
+    let e = c.in-Err.ensures in
+    let b = c.self.inside.log.book in
+    let old = g.F.Flash.image c.self.inside.log.flash in
+    let h : IsPast past old b c.self.inside.tree c.self.inside.limits c.self.inside.clean = subst (λ (v : Standing). Knows past v) (sym c.self.view_is) known in
+    refused_device c.in-Err.cause past c.args.self.now _ e.device (record {
+      fails = refl;
+      faults = subst (λ k. k < g.F.Flash.fault_count c.erase_oldest.new.self.flash) (ap (λ (v : Standing). v.faults) c.self.view_is) e.faults;
+      left = record {
+        clean = λ is. clean_ends past old b c.self.inside.tree c.self.inside.limits c.self.inside.clean h is;
+        tree = inl h.tree_is;
+        left = λ intact. absurd (true_false (sym e.erase_failed ∙ intact));
+      };
+    })
+  where
+    true_false : true ≡ false → ⊥
+    true_false e = cc
+
+pub returns-in-Ok-clause-log : goal.returns-in-Ok-clause-log
+returns-in-Ok-clause-log g c =
+    let e = c.in-Ok.ensures in
+    e.layout ∙ ap (λ (v : Standing). erase_oldest (layout_in v.image v.book)) c.self.view_is

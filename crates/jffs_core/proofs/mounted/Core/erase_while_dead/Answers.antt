@@ -1,0 +1,41 @@
+use Rattle.std.proofs.Common.{◌≡◌, ◌∙◌, true, false, length, sym, ap, arith}
+use Rattle.jffs_log.specs.Book.{layout_in}
+use Rattle.jffs_log.specs.Cleaning.{Layout}
+use Rattle.jffs_core.specs.Acting.{IsDeadOldest}
+use Rattle.jffs_core.proofs.Stepping.{refused_along}
+use Rattle.jffs_core.proofs.Turning.{erasing_goes_on, one_fewer}
+use Rattle.jffs_core.proofs.mounted.Core.erase_while_dead.Goals as goal
+
+pub overflow_add-erased : goal.overflow_add-erased
+overflow_add-erased g c =
+    let few = c.requires.few in
+    let left = c.loop-self.invariant.left in
+    let dead : IsDeadOldest c.loop-self.self = c.is_dead_oldest.ensures.0 c.loop-self-test.true in
+    let several = dead.several in
+    omega arith
+
+pub loop-self-preserved : goal.loop-self-preserved
+loop-self-preserved g c =
+    let e = c.in-Ok.ensures in
+    let dead : IsDeadOldest c.loop-self.self = c.is_dead_oldest.ensures.0 c.loop-self-test.true in
+    erasing_goes_on c.loop-self.erased c.args.self.now c.loop-self.self c.erase_oldest.new.self c.loop-self.invariant dead.several e.works e.same e.sizes e.log e.erased
+
+pub returns-clause-erased : goal.returns-clause-erased
+returns-clause-erased g c = λ past known.
+    let v = c.loop-self.invariant in
+    record { stands = v.done past known; log = v.log; last = λ dead. true_false (sym (c.is_dead_oldest.ensures.1 dead) ∙ c.loop-self-test.false) }
+  where
+    true_false : true ≡ false → ⊥
+    true_false e = cc
+
+pub returns-in-Err-clause-stopped : goal.returns-in-Err-clause-stopped
+returns-in-Err-clause-stopped g c = λ past known.
+    let d = c.loop-self.invariant.done past known in
+    refused_along c.in-Err.cause past c.args.self.now c.loop-self.self c.erase_oldest.new.self d.faults (c.in-Err.ensures.refused past d.knows)
+
+pub loop-self-smaller : goal.loop-self-smaller
+loop-self-smaller g c =
+    let e = ap (λ (l : Layout). length l.sectors) c.in-Ok.ensures.log in
+    let dead : IsDeadOldest c.loop-self.self = c.is_dead_oldest.ensures.0 c.loop-self-test.true in
+    let f = one_fewer (layout_in c.loop-self.self.image c.loop-self.self.book).sectors dead.several in
+    omega arith

@@ -1,0 +1,64 @@
+use Rattle.std.proofs.Common.{◌≡◌, ◌∙◌, ◌-◌, ◌+◌, ◌≤◌, suc, length, inl, inr, sym, ap, subst, arith}
+use Rattle.jffs_log.specs.Book.{layout_in}
+use Rattle.jffs_core.specs.declared.cleaning.Cleaned.{Cleaned}
+use Rattle.jffs_core.specs.Standing.{Standing}
+use Rattle.jffs_core.specs.Acting.{DidClean}
+use Rattle.jffs_core.proofs.Sweeping.{held_is}
+use Rattle.jffs_core.proofs.Turning.{HasTurned, turning_begins, turning_ends, turning_goes_on, turning_stopped, full_has_several}
+use Rattle.jffs_core.proofs.mounted.Core.make_room.Goals as goal
+
+pub loop-turn-init : goal.loop-turn-init
+loop-turn-init g c =
+    let works = ap (λ (v : Standing). v.failed) c.self.view_is ∙ c.requires.working in
+    let many = held_is (g.F.Flash.image c.self.inside.log.flash) c.self.inside.log.book (c.self.invariant.book works) in
+    let is = c.held-turn-end.ensures in
+    turning_begins c.args.len _ c.args.self.now c.requires.working
+    (subst (λ (v : Standing). c.held-turn-end.result - 0 ≡ length (layout_in v.image v.book).sectors) c.self.view_is (omega arith))
+    (subst (λ (v : Standing). c.held-turn-end.result - 0 ≤ v.book.held) c.self.view_is (omega arith))
+
+pub returns-then-has_room-clause-made : goal.returns-then-has_room-clause-made
+returns-then-has_room-clause-made g c = λ past known.
+    let d = c.loop-turn.invariant.done past known in
+    (d.0, turning_ends c.args.len _ past d.0 c.args.self.now c.loop-turn.self d.1 (inr (sym c.has_room.ensures ∙ c.if-has_room.true)))
+
+pub returns-in-Ok-OneSector-clause-made : goal.returns-in-Ok-OneSector-clause-made
+returns-in-Ok-OneSector-clause-made g c = λ past known.
+    let d = c.loop-turn.invariant.done past known in
+    let h = d.1 in
+    let one = subst (λ (done : Cleaned). DidClean done d.0 c.loop-turn.self c.clean_one.new.self) c.in-Ok-OneSector.field-0-is (c.in-Ok-OneSector.ensures.cleaned d.0 h.stands.knows) in
+    let few = one.1 in
+    let several = full_has_several c.args.len d.0 c.loop-turn.self h.stands.knows (sym c.has_room.ensures ∙ c.if-has_room.false) in
+    absurd (omega arith)
+
+pub returns-in-Err-clause-refused : goal.returns-in-Err-clause-refused
+returns-in-Err-clause-refused g c = λ past known.
+    let d = c.loop-turn.invariant.done past known in
+    let h = d.1 in
+    let s = c.in-Err.ensures.stopped d.0 h.stands.knows in
+    (s.0, turning_stopped c.args.len _ past d.0 s.0 c.in-Err.cause c.args.self.now c.loop-turn.self c.clean_one.new.self h s.1)
+
+pub loop-turn-preserved : goal.loop-turn-preserved
+loop-turn-preserved g c =
+    let v = c.loop-turn.invariant in
+    let e = c.in-Ok-Erased.ensures in
+    let left : c.held-turn-end.result - c.loop-turn.turn ≡ suc (c.held-turn-end.result - (c.loop-turn.turn + 1)) = omega arith in
+    record {
+      works = e.works;
+      erases = let a = v.erases in let b = e.erases in omega arith;
+      same = record { answers = e.same.answers ∙ v.same.answers; places = e.same.places ∙ v.same.places; closed = e.same.closed ∙ v.same.closed };
+      sizes = (v.sizes.0 ∙ e.sizes.0, v.sizes.1 ∙ e.sizes.1);
+      done = λ past known.
+          let d = v.done past known in
+          let h : HasTurned c.args.len (c.held-turn-end.result - c.loop-turn.turn) past d.0 c.args.self.now c.loop-turn.self = d.1 in
+          let k = subst (λ (done : Cleaned). DidClean done d.0 c.loop-turn.self c.clean_one.new.self) c.in-Ok-Erased.field-0-is (e.cleaned d.0 h.stands.knows) in
+          let later = k.2 in (
+            later.0,
+            turning_goes_on c.args.len _ c.in-Ok-Erased.field-0-1 past d.0 later.0 c.args.self.now c.loop-turn.self c.clean_one.new.self v.sizes (subst (λ j. HasTurned c.args.len j past d.0 c.args.self.now c.loop-turn.self) left h)
+                (sym c.has_room.ensures ∙ c.if-has_room.false) k.1 later.1,
+          );
+    }
+
+pub returns-clause-made : goal.returns-clause-made
+returns-clause-made g c = λ past known.
+    let d = c.loop-turn.invariant.done past known in
+    (d.0, turning_ends c.args.len _ past d.0 c.args.self.now c.loop-turn.self d.1 (inl (omega arith)))

@@ -1,0 +1,105 @@
+-- What one taken request may be answered.
+use Rattle.std.specs.Prelude.{◌≡◌, ◌⊎◌, ◌↔◌, ℕ, ◌≤◌, Bool, true, false, ◌&&◌, List, [], ◌∷◌, ◌++◌, Some, None, Ok, Err, Result, IsTrue}
+use Rattle.jffs_node.specs.declared.node.Node.{Node}
+use Rattle.jffs_node.specs.Record.{is_fresh, is_unmount, record_len}
+use Rattle.jffs_tree.specs.declared.wish.Wish.{Wish}
+use Rattle.jffs_tree.specs.declared.wish.Wish.TheVariants.{Copy, Unmount}
+use Rattle.jffs_tree.specs.declared.wish.Cause.{Cause}
+use Rattle.jffs_tree.specs.declared.wish.Cause.TheVariants as causes
+use Rattle.jffs_tree.specs.declared.wish.Outcome.{Outcome}
+use Rattle.jffs_tree.specs.declared.wish.Outcome.TheVariants.{Appended, Copied, Closed, Refused}
+use Rattle.jffs_tree.specs.declared.wish.NewNode.{NewNode}
+use Rattle.jffs_tree.specs.Decide.{decide, with}
+use Rattle.jffs_line.specs.declared.request.Request.{Request}
+use Rattle.jffs_log.specs.declared.room.Room.{Room}
+use Rattle.jffs_log.specs.declared.room.Room.TheVariants as rooms
+use Rattle.jffs_log.specs.Room.{has_room, limits, next_version, weight, heavy}
+use Rattle.jffs_core.specs.History.{AreOwnCopies}
+
+pub record Volume : Type 0 where
+  pub sectors : ℕ
+  pub sector_size : ℕ
+
+-- What stands when a request is taken, and what befalls the call.
+pub record Turn : Type 0 where
+  pub volume : Volume
+  pub past : List Node
+  pub free : ℕ
+  pub erased : ℕ
+  pub clean : Bool
+  pub failed : Bool
+  pub device_faulted : Bool
+
+-- the decision on the request, and the node that it gives
+abbrev pub decision : Turn → Request → Result NewNode Cause
+decision t q = decide t.past (limits t.volume.sector_size t.past) q.wish
+
+abbrev pub node_of : NewNode → Request → ℕ → Node
+node_of n q version = with n version q.writer q.seq
+
+abbrev pub is_copy_wish : Wish → Bool
+is_copy_wish (Copy source parent name offset bytes) = true
+is_copy_wish _ = false
+
+abbrev pub is_unmount_wish : Wish → Bool
+is_unmount_wish Unmount = true
+is_unmount_wish _ = false
+
+-- an Unmount of a clean log takes no node
+abbrev pub takes_no_node : Turn → Request → Bool
+takes_no_node t q = is_unmount_wish q.wish && t.clean
+
+abbrev pub room_of : NewNode → Room
+room_of n = elim (is_unmount n.kind) [ true ↦ rooms.Unmount | false ↦ rooms.Fresh ]
+
+abbrev pub had_room : Turn → NewNode → Bool
+had_room t n = has_room (room_of n) (record_len (with n 0 0 0)) t.free t.erased
+
+-- the request's node had no room when the request was taken
+pub record HadNoRoom (t : Turn) (q : Request) (n : NewNode) : Type 0 where
+  pub decided : decision t q ≡ Ok n
+  pub none : had_room t n ≡ false
+
+-- and it is a fresh node, for which room is made by copies
+abbrev pub MakesRoom : Turn → Request → Type 0
+MakesRoom t q = (n : NewNode) × HadNoRoom t q n × (is_fresh (with n 0 0 0) ≡ true)
+
+-- The outcome comes only here. `copies` were made beside the request, `own` is what it added.
+abbrev pub RefusedBy : Cause → Turn → Request → List Node → Type 0
+RefusedBy causes.Failed t q copies = IsTrue t.failed × (copies ≡ [])
+RefusedBy causes.VersionsSpent t q copies =
+    (takes_no_node t q ≡ false) × (((decision t q ≡ Err causes.VersionsSpent) × (copies ≡ [])) ⊎ (MakesRoom t q × (next_version (copies ++ t.past) ≡ None)))
+RefusedBy causes.Memory t q copies = Unit {0}
+RefusedBy causes.NoSpace t q copies =
+    (takes_no_node t q ≡ false)
+    × ((n : NewNode) × HadNoRoom t q n × (is_fresh (with n 0 0 0) ≡ true → 2 ≤ t.erased → heavy t.volume.sectors t.volume.sector_size ≤ weight t.past))
+RefusedBy causes.Device t q copies = IsTrue t.device_faulted
+RefusedBy cause t q copies = (takes_no_node t q ≡ false) × (decision t q ≡ Err cause) × (copies ≡ [])
+
+abbrev pub OutcomeIs : Outcome → Turn → Request → List Node → List Node → Type 0
+OutcomeIs (Appended inode version) t q copies own =
+    (n : NewNode) × (decision t q ≡ Ok n) × (is_fresh (with n 0 0 0) ≡ true) × (n.inode ≡ inode)
+    × (next_version (copies ++ t.past) ≡ Some version) × (own ≡ node_of n q version ∷ [])
+OutcomeIs (Copied version) t q copies own =
+    (n : NewNode) × (is_copy_wish q.wish ≡ true) × (decision t q ≡ Ok n) × (copies ≡ [])
+    × (next_version t.past ≡ Some version) × (own ≡ node_of n q version ∷ [])
+OutcomeIs Closed t q copies own =
+    (is_unmount_wish q.wish ≡ true) × (copies ≡ [])
+    × ((IsTrue t.clean × (own ≡ []))
+    ⊎ ((t.clean ≡ false) × ((n : NewNode) × (version : ℕ) × (decision t q ≡ Ok n) × (next_version t.past ≡ Some version) × (own ≡ node_of n q version ∷ []))))
+OutcomeIs (Refused cause) t q copies own = RefusedBy cause t q copies × (own ≡ [])
+
+abbrev pub ends_with_unmount : List Node → Bool
+ends_with_unmount [] = false
+ends_with_unmount (n ∷ past) = is_unmount n.kind
+
+-- One answered request: from the history when it was taken to the history after.
+pub record IsStep (t : Turn) (q : Request) (o : Outcome) (after : List Node) : Type 0 where
+  pub copies : List Node
+  pub own : List Node
+  pub joined : after ≡ own ++ copies ++ t.past
+  pub copies_are_true : AreOwnCopies t.past copies
+  pub copies_make_room : (copies ≡ []) ⊎ MakesRoom t q
+  pub clean_is_so : t.clean ≡ true → ends_with_unmount t.past ≡ true
+  pub failed_says_so : IsTrue t.failed ↔ (o ≡ Refused causes.Failed)
+  pub outcome : OutcomeIs o t q copies own

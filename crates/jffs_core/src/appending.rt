@@ -1,0 +1,78 @@
+//! A node becomes the newest of the history.
+
+ghost use Rattle.std.specs.Prelude.{◌≡◌, ℕ, List, false, OnOk, IfErr, max};
+ghost use Rattle.jffs_node.specs.Record.{is_unmount};
+ghost use Rattle.jffs_log.specs.Room.{following};
+
+use crate::mounted::Core;
+use jffs_flash::Flash;
+use jffs_log::Room;
+use jffs_node::{Kind, Node, record_len};
+use jffs_tree::{Cause, Limits};
+
+impl<F: Flash> Core<F> {
+    ghost use Rattle.jffs_node.specs.declared.node.Node.{Node};
+    ghost use Rattle.jffs_log.specs.Book.{HasSizes};
+    ghost use Rattle.jffs_core.specs.Standing.{SameAnswers};
+    ghost use Rattle.jffs_core.specs.Past.{Knows, has_room_for};
+    ghost use Rattle.jffs_core.specs.Acting.{MayPut, HasPut, PutRefused};
+
+    /// Whether a record of this length has room. Takes no memory.
+    pub(crate) fn has_room(&self, room: Room, len: u32) -> bool
+        requires working { self.now.failed ≡ false }
+        ensures { result ≡ has_room_for self.now room len }
+    {
+        self.log.room(room, len)
+    }
+
+    /// Puts a node at the end of the history: the log's place is made, the tree is changed, and the
+    /// record is programmed. It may follow all nodes before it: the caller's condition.
+    ///
+    /// NoSpace and Memory: nothing is changed. Device: the tree has the node, and the log has it or
+    /// has it not.
+    pub(crate) fn append(&mut self, room: Room, node: &Node) -> Result<(), Cause>
+        requires working { self.old.failed ≡ false }
+        requires follows { (past : List Node) × Knows past self.old × MayPut past self.old.book.sector_size room node.now }
+        ensures done { OnOk result (HasPut room node.now self.old self.new) }
+        ensures refused { IfErr result (λ cause. PutRefused room node.now cause self.old self.new) }
+        ensures same { SameAnswers self.old self.new }
+        ensures sizes { HasSizes self.old.book.sectors self.old.book.sector_size self.new.book }
+        ensures erases { self.new.book.erases ≡ self.old.book.erases }
+    {
+        if !self.log.room(room, record_len(node)) {
+            return Err(Cause::NoSpace);
+        }
+        self.log.reserve()?;
+        self.tree.apply(node)?;
+        match self.log.append(room, node) {
+            Ok(()) => {
+                count(&mut self.limits, node);
+                self.clean = ends_session(node);
+                Ok(())
+            }
+            Err(cause) => {
+                self.failed = true;
+                Err(cause)
+            }
+        }
+    }
+}
+
+/// Whether the node is that of an unmount.
+pub(crate) fn ends_session(node: &Node) -> bool
+    ensures { result ≡ is_unmount node.now.kind }
+{
+    matches!(node.kind, Kind::Unmount)
+}
+
+/// The numbers that come after a node.
+fn count(limits: &mut Limits, node: &Node)
+    ensures data_max { limits.new.data_max ≡ limits.old.data_max }
+    ensures version { limits.new.next_version ≡ following node.now.version }
+    ensures inode { (most : ℕ) → limits.old.next_inode ≡ following most → limits.new.next_inode ≡ following (max most node.now.inode) }
+{
+    limits.next_version = node.version.checked_add(1);
+    if limits.next_inode.is_some_and(|next| node.inode >= next) {
+        limits.next_inode = node.inode.checked_add(1);
+    }
+}

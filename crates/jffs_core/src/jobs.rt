@@ -1,0 +1,45 @@
+//! What the log side tells a cleaner: whether it is wanted, and the oldest sector's bytes.
+
+ghost use Rattle.std.specs.Prelude.{◌≡◌, ◌≤◌, ◌<◌, true, false, IfOk, IfErr};
+ghost use Rattle.jffs_log.specs.Volume.{sector_bytes};
+ghost use Rattle.jffs_core.specs.Jobs.{wants_cleaning};
+
+use crate::mounted::Core;
+use jffs_flash::Flash;
+use jffs_tree::Cause;
+
+impl<F: Flash> Core<F> {
+    /// Whether the device works, the oldest sector isn't the tail, and at most half of the
+    /// sectors are erased. Takes no memory.
+    pub fn wants_cleaning(&self) -> bool
+        ensures { result ≡ wants_cleaning self.now }
+    {
+        if self.failed {
+            return false;
+        }
+        self.log.held() >= 2 && self.log.erased() <= self.log.book.sectors / 2
+    }
+
+    /// The bytes of the oldest sector, read from the device. The log has a sector: the caller's
+    /// condition. Memory: nothing is changed. Device: the core is failed from then on. Failed
+    /// after that.
+    pub fn oldest_image(&mut self) -> Result<Vec<u8>, Cause>
+        requires some { self.old.failed ≡ false → 1 ≤ self.old.book.held }
+        ensures same { self.new ≡ record self.old { failed = self.new.failed; faults = self.new.faults } }
+        ensures bytes { IfOk result (λ bytes. bytes.items ≡ sector_bytes self.old.book.sector_size self.old.book.first self.old.image) }
+        ensures works { IfOk result (λ _. self.new.failed ≡ false) }
+        ensures memory { IfErr result (λ cause. cause ≡ Cause.Memory → self.new ≡ self.old) }
+        ensures device { IfErr result (λ cause. cause ≡ Cause.Device → (self.new.failed ≡ true) × (self.old.faults < self.new.faults)) }
+    {
+        if self.failed {
+            return Err(Cause::Failed);
+        }
+        match self.log.oldest_image(self.alloc) {
+            Ok(bytes) => Ok(bytes),
+            Err(cause) => {
+                self.failed = cause == Cause::Device;
+                Err(cause)
+            }
+        }
+    }
+}

@@ -1,0 +1,44 @@
+//! Laws over the definitions. The functions do nothing: their contracts are the laws.
+
+ghost use Rattle.jffs_core.specs.History.{ContentsAreState};
+ghost use Rattle.jffs_core.specs.RoomSteps.{CleaningOnlyCopies, StoppedOnlyCopies, MakingRoomOnlyCopies, NoSpaceIsAStep, UnmountsHaveRoom};
+ghost use Rattle.jffs_core.specs.Past.{ScansFindContents, FailedScansFind};
+ghost use Rattle.jffs_core.specs.Rows.{Cleaning, LastOfHundred, Numbers, Growing, Spent, Filled};
+ghost use Rattle.jffs_core.specs.Run.{RunsGoOn, LawfulRunsGrow};
+
+/// Copies, places, numbers and weight are as on these examples.
+pub fn examples_are_stepped()
+    ensures cleaning { Cleaning }
+    ensures last { LastOfHundred }
+    ensures numbers { Numbers }
+    ensures growing { Growing }
+    ensures spent { Spent }
+    ensures filled { Filled }
+{}
+
+/// A run that nothing has closed may go on by one request and its answer.
+pub fn runs_go_on()
+    ensures { RunsGoOn }
+{}
+
+/// After a lawful run the state is what the fresh nodes made.
+pub fn contents_are_kept()
+    ensures contents { ContentsAreState }
+    ensures grows { LawfulRunsGrow }
+{}
+
+/// Cleaning adds true copies alone, and where a whole turn of it made no room, NoSpace is a lawful answer.
+pub fn cleaning_is_lawful()
+    ensures one { CleaningOnlyCopies }
+    ensures stopped { StoppedOnlyCopies }
+    ensures turn { MakingRoomOnlyCopies }
+    ensures none { NoSpaceIsAStep }
+    ensures unmounts { UnmountsHaveRoom }
+{}
+
+/// A scan of a core's image finds what the fresh nodes since the mount made. After a failure, but for
+/// that of an erase, it finds that, or that with one node more.
+pub fn scans_find_contents()
+    ensures works { ScansFindContents }
+    ensures failed { FailedScansFind }
+{}

@@ -1,0 +1,49 @@
+-- Lemmas on facts about each element of a list, at its place.
+use Rattle.std.proofs.Common.{◌≡◌, ℕ, ◌+◌, ◌<◌, zero, suc, List, [], ◌∷◌, ◌++◌, length, map, refl, sym, ap, ◌∙◌, subst, arith, get_or, append_assoc}
+use Rattle.std.proofs.lemmas.List.{map-append}
+use Rattle.jffs_text.specs.declared.script.Writer.{Writer}
+use Rattle.jffs_run.specs.Ends.{EachFrom, commands_of}
+
+-- the same fact of the same list, written in another way
+pub EachFrom-same : {X : Type 0} (P : ℕ → X → Type 0) (n m : ℕ) (xs ys : List X) → n ≡ m → xs ≡ ys → EachFrom P n xs → EachFrom P m ys
+EachFrom-same {X} P n m xs ys place list each =
+    subst (λ (k : ℕ). EachFrom P k ys) place (subst (λ (zs : List X). EachFrom P n zs) list each)
+
+-- the first element, and the others
+pub EachFrom-next : {X : Type 0} (P : ℕ → X → Type 0) (n m : ℕ) (xs : List X) (x : X) (rest : List X) → m ≡ n + 1 → xs ≡ x ∷ rest → EachFrom P n xs → P n x × EachFrom P m rest
+EachFrom-next {X} P n m xs x rest place list each =
+    let both = EachFrom-same P n n xs (x ∷ rest) refl list each in
+    (both.0, EachFrom-same P (n + 1) m rest rest (sym place) refl both.1)
+
+-- an element more
+pub EachFrom-push : {X : Type 0} (P : ℕ → X → Type 0) (n : ℕ) (xs : List X) (x : X) → EachFrom P n xs → P (n + length xs) x → EachFrom P n (xs ++ x ∷ [])
+EachFrom-push {X} P n [] x each here = let e : n + length {A = X} [] ≡ n = omega arith in (subst (λ (k : ℕ). P k x) e here, tt)
+EachFrom-push P n (y ∷ ys) x each here =
+    let e : n + length (y ∷ ys) ≡ (n + 1) + length ys = omega arith in
+    (each.0, EachFrom-push P (n + 1) ys x each.1 (subst (λ (k : ℕ). P k x) e here))
+
+-- the commands of a writer, whatever stands for one that isn't there
+pub commands-at : (writers : List Writer) (i : ℕ) (d : Writer) → i < length writers → get_or (commands_of writers) i [] ≡ (get_or writers i d).commands.items
+commands-at [] i d below = absurd (omega arith)
+commands-at (writer ∷ writers) zero d below = refl
+commands-at (writer ∷ writers) (suc i) d below = commands-at writers i d (omega arith)
+
+pub commands-length : (writers : List Writer) → length (commands_of writers) ≡ length writers
+commands-length [] = refl
+commands-length (writer ∷ writers) = let rest = commands-length writers in omega arith
+
+-- an element moves from the front of one list to the end of another, and what both show stays
+pub moved : {X Y E : Type 0} (f : X → E) (k : Y → E) (xs now : List X) (x : X) (from : List Y) (y : Y) (rest : List Y) (all : List E)
+    → now ≡ xs ++ x ∷ [] → from ≡ y ∷ rest → f x ≡ k y → map f xs ++ map k from ≡ all → map f now ++ map k rest ≡ all
+moved {X} {Y} {E} f k xs now x from y rest all is begins same was =
+    ap (λ (l : List X). map f l ++ map k rest) is
+    ∙ (ap (λ (l : List E). l ++ map k rest) (map-append f xs (x ∷ []))
+    ∙ (append_assoc (map f xs) (f x ∷ []) (map k rest)
+    ∙ (ap (λ (e : E). map f xs ++ e ∷ map k rest) same
+    ∙ (ap (λ (l : List Y). map f xs ++ map k l) (sym begins) ∙ was))))
+
+-- an element of a list, whatever stands for one that isn't there
+pub get_or-any : {X : Type 0} (xs : List X) (i : ℕ) (d e : X) → i < length xs → get_or xs i d ≡ get_or xs i e
+get_or-any [] i d e below = absurd (omega arith)
+get_or-any (x ∷ xs) zero d e below = refl
+get_or-any (x ∷ xs) (suc i) d e below = get_or-any xs i d e (omega arith)

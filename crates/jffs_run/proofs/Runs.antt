@@ -1,0 +1,108 @@
+-- Lemmas that put a run together.
+use Rattle.std.proofs.Common.{◌≡◌, ◌≤◌, ℕ, Bool, ◌+◌, List, [], ◌∷◌, ◌++◌, length, map, refl, sym, ◌∙◌, ap, subst, arith, append-nil, append_assoc, length-append, get_or, Option}
+use Rattle.std.specs.List.{All, Contains, range_with_len}
+use Rattle.std.proofs.lemmas.List.{length-map}
+use Rattle.std.proofs.lemmas.List.FromFn.{length-range_with_len}
+use Rattle.std.proofs.lemmas.List.Elements.{All-head, All-tail}
+use Rattle.jffs_line.specs.Line.{End, senders}
+use Rattle.jffs_line.specs.declared.request.Request.{Request}
+use Rattle.jffs_line.specs.Requests.{of, IsNumbered}
+use Rattle.jffs_line.specs.declared.hand.Hand as Hand
+use Rattle.jffs_line.specs.declared.hand.Hands.{Hands}
+use Rattle.jffs_line.proofs.Settling.{All-left, All-right}
+use Rattle.jffs_core.specs.Standing.{Standing}
+use Rattle.jffs_index.specs.declared.step.Step.{Step}
+use Rattle.jffs_index.specs.declared.rule.History.{History}
+use Rattle.jffs_index.specs.Histories.{view_of}
+use Rattle.jffs_index.specs.Shown.{opened}
+use Rattle.jffs_index.proofs.Kept.{answered-fold}
+use Rattle.jffs_serve.specs.declared.session.Kept.{Kept}
+use Rattle.jffs_serve.specs.Kept.{unput}
+use Rattle.jffs_serve.specs.Replies.{Reply, answer_in}
+use Rattle.jffs_serve.specs.Answered.{Start, HasReplied}
+use Rattle.jffs_core.specs.declared.answer.Answer.{Answer}
+use Rattle.jffs_text.specs.declared.script.Writer.{Writer}
+use Rattle.jffs_text.specs.declared.script.ReaderStatement.{ReaderStatement}
+use Rattle.jffs_run.specs.declared.reader.ReaderEnd.{ReaderEnd}
+use Rattle.jffs_run.specs.declared.crew.Crew.{Crew}
+use Rattle.jffs_run.specs.Ends.{EachFrom, end_of, all_hands, accepted_by}
+use Rattle.jffs_run.specs.Crew.{HasHandedIn, crew_hands}
+use Rattle.jffs_run.specs.Looking.{HasSeen, IsWhole}
+use Rattle.jffs_run.specs.Headline.{IsRun, IsLeftBy, requests_in}
+use Rattle.jffs_run.proofs.Headlines.{is_run}
+
+-- nothing stands behind a beginning that is as long as the whole
+whole-beginning : {X : Type 0} (xs ys zs : List X) → xs ++ ys ≡ zs → length xs ≡ length zs → xs ≡ zs
+whole-beginning xs [] zs is long = sym (append-nil xs) ∙ is
+whole-beginning {X} xs (y ∷ ys) zs is long =
+    let both : length (xs ++ y ∷ ys) ≡ length zs = ap (length {A = X}) is in
+    let sum : length (xs ++ y ∷ ys) ≡ length xs + length (y ∷ ys) = length-append xs (y ∷ ys) in
+    absurd (omega arith)
+
+module _ {H : Type 0} (g : Hand.Ghosts H) where
+  senders_of : (hands : List H) → map g.sender hands ≡ map (λ (e : End). e.0) (map (end_of g) hands)
+  senders_of [] = refl
+  senders_of (hand ∷ hands) = ap (λ (l : List ℕ). g.sender hand ∷ l) (senders_of hands)
+
+  -- hands with the same ends have the same senders
+  same_senders : (hands before : List H) → map (end_of g) hands ≡ map (end_of g) before → map g.sender hands ≡ map g.sender before
+  same_senders hands before same = senders_of hands ∙ (ap (map (λ (e : End). e.0)) same ∙ sym (senders_of before))
+
+  -- how many writers there are
+  pub count_writers : (hands : List H) (cleaner control : H) (writers : ℕ) → map g.sender (hands ++ cleaner ∷ control ∷ []) ≡ senders writers → length hands ≡ writers
+  count_writers hands cleaner control writers numbers =
+      let a : length (map g.sender (hands ++ cleaner ∷ control ∷ [])) ≡ length (senders writers) = ap (length {A = ℕ}) numbers in
+      let b : length (map g.sender (hands ++ cleaner ∷ control ∷ [])) ≡ length (hands ++ cleaner ∷ control ∷ []) = length-map (hands ++ cleaner ∷ control ∷ []) g.sender in
+      let c : length (hands ++ cleaner ∷ control ∷ []) ≡ length hands + 2 = length-append hands (cleaner ∷ control ∷ []) in
+      let d : length (senders writers) ≡ length (range_with_len 1 writers) + 2 = length-append (range_with_len 1 writers) (9 ∷ 10 ∷ []) in
+      let e : length (range_with_len 1 writers) ≡ writers = length-range_with_len 1 writers in
+      omega arith
+
+  -- no hand of a new line handed anything in
+  pub new_hands : (hands : Hands H) → All (λ hand. g.accepted hand ≡ []) (all_hands g hands) → All (λ hand. g.accepted hand ≡ []) hands.writers.items × (g.accepted hands.cleaner ≡ []) × (g.accepted hands.control.hand ≡ [])
+  new_hands hands fresh =
+      let P : H → Type 0 = λ hand. g.accepted hand ≡ [] in
+      let tail = All-right P hands.writers.items (hands.cleaner ∷ hands.control.hand ∷ []) fresh in (
+        All-left P hands.writers.items (hands.cleaner ∷ hands.control.hand ∷ []) fresh,
+        All-head P hands.cleaner (hands.control.hand ∷ []) tail,
+        All-head P hands.control.hand [] (All-tail P hands.cleaner (hands.control.hand ∷ []) tail),
+      )
+
+  -- what was handed in, answered, seen and settled is a run
+  pub whole_run :
+      (script : List Writer) (statements : List ReaderStatement) (crew : Crew H) (hands : Hands H)
+      (core : Standing) (kept : Option Kept) (published : History) (pending : List Step)
+      (start : Start) (taken : ℕ → List Request) (replies : List Reply) (waiting : List Request) (ends : List ReaderEnd)
+      (count len : ℕ) (image : List ℕ) (erase_failed : Bool)
+      → length script ≤ 8 → map g.sender (crew_hands g crew) ≡ senders (length script)
+      → HasHandedIn g script crew hands
+      → ((w : ℕ) → start.taken w ≡ []) → start.standing.answers ≡ [] → start.put ≡ []
+      → HasReplied start core kept (published.steps ++ pending) taken replies
+      → All (λ hand. taken (g.sender hand) ++ of (g.sender hand) waiting ≡ g.accepted hand) (all_hands g hands)
+      → All (λ hand. IsNumbered (g.accepted hand)) (all_hands g hands)
+      → ((w : ℕ) → (Contains (map g.sender (all_hands g hands)) w → ⊥) → taken w ++ of w waiting ≡ [])
+      → ((history : History) → IsWhole published (length core.answers) history → EachFrom (HasSeen history statements) 0 ends)
+      → IsLeftBy core count len image erase_failed
+      → IsRun start.standing script statements (λ sender. accepted_by g sender (all_hands g hands)) core.answers waiting ends count len image erase_failed
+  whole_run script statements crew hands core kept published pending start taken replies waiting ends count len image erase_failed eight numbers handed untaken unanswered unput_before has settled numbered others seen left =
+      let answers_are : core.answers ≡ map answer_in replies = has.answered ∙ ap (λ (l : List Answer). l ++ map answer_in replies) unanswered in
+      let taken_is : (w : ℕ) → taken w ≡ of w (requests_in replies) = λ w. has.all_taken w ∙ ap (λ (l : List Request). l ++ of w (requests_in replies)) (untaken w) in
+      let now = same_senders (all_hands g hands) (crew_hands g crew) handed.ends ∙ numbers in
+      let steps : List Step = map (λ (r : Reply). r.step) replies in
+      let history : History = record { opening = published.opening; steps = steps } in
+      let put : published.steps ++ (pending ++ unput kept) ≡ steps =
+      sym (append_assoc published.steps pending (unput kept)) ∙ (has.sent ∙ ap (λ (l : List Step). l ++ steps) unput_before) in
+      let whole : IsWhole published (length core.answers) history = λ counted.
+      let many : (view_of published).answered ≡ 0 + length published.steps = answered-fold (opened published.opening) published.steps in
+      let answers : length core.answers ≡ length (map answer_in replies) = ap (length {A = Answer}) answers_are in
+      let replies_many : length (map answer_in replies) ≡ length replies = length-map replies answer_in in
+      let steps_many : length steps ≡ length replies = length-map replies (λ (r : Reply). r.step) in
+      ap (λ (l : List Step). let h : History = record { opening = published.opening; steps = l } in h) (sym (whole-beginning published.steps (pending ++ unput kept) steps put (omega arith))) in
+      subst (λ (answers : List Answer). IsRun start.standing script statements (λ sender. accepted_by g sender (all_hands g hands)) answers waiting ends count len image erase_failed) (sym answers_are)
+      (is_run g start.standing core count len image erase_failed script statements published.opening hands replies waiting ends eight
+      (count_writers hands.writers.items hands.cleaner hands.control.hand (length script) now) now
+      handed.first handed.whole handed.cleaner handed.control has.reply
+      (λ k d below. let w : ℕ = g.sender (get_or (all_hands g hands) k d) in ap (λ (l : List Request). l ++ of w waiting) (sym (taken_is w)) ∙ settled k d below)
+      numbered
+      (λ w none. ap (λ (l : List Request). l ++ of w waiting) (sym (taken_is w)) ∙ others w none)
+      (seen history whole) left has.lawful)

@@ -1,0 +1,48 @@
+-- What a run leaves on its device.
+use Rattle.std.proofs.Common.{◌≡◌, ℕ, List, Ok, inl, inr, sym, ap, subst, ◌∙◌}
+use Rattle.jffs_node.specs.declared.node.Node.{Node}
+use Rattle.jffs_log.specs.Image.{past_of}
+use Rattle.jffs_log.specs.Volume.{split}
+use Rattle.jffs_log.specs.Scan.{Scanned, scan}
+use Rattle.jffs_line.specs.declared.request.Request.{Request}
+use Rattle.jffs_core.specs.Run.{IsLawful}
+use Rattle.jffs_core.specs.Standing.{Standing}
+use Rattle.jffs_core.specs.declared.answer.Answer.{Answer}
+use Rattle.jffs_core.proofs.Scanning.{scans_find, failed_scans_find}
+use Rattle.jffs_serve.specs.Answered.{volume_of}
+use Rattle.jffs_run.specs.Headline.{IsLeftBy, requests_in}
+use Rattle.jffs_run.specs.Scanned.{RunsLeaveContents, FailedRunsLeaveHistory}
+
+-- a scan of the device is one of the core's image
+same_scan : (core : Standing) (sectors sector_size : ℕ) (image : List ℕ) (erase_failed : _) → IsLeftBy core sectors sector_size image erase_failed
+    → scan sector_size (split sectors sector_size image) ≡ scan core.book.sector_size (split core.book.sectors core.book.sector_size core.image)
+same_scan core sectors sector_size image erase_failed left = λ i. scan (left.0.1 i) (split (left.0.0 i) (left.0.1 i) (left.1 i))
+
+pub runs_leave_contents : RunsLeaveContents
+runs_leave_contents count len faults before had_failed start script statements accepted answers waiting ends sectors sector_size image erase_failed fresh run works =
+    let mounted = past_of fresh.scanned.log in
+    let ran = run.lawful mounted mounted fresh.stands in
+    let finds = scans_find mounted ran.after run.core ran.stands works in
+    record {
+      after = ran.after;
+      lawful = subst (λ (given : List Answer). IsLawful (volume_of start) mounted (requests_in run.replies) given ran.after) (sym run.answers_are) ran.lawful;
+      added = finds.added;
+      since = finds.since;
+      scanned = finds.scanned;
+      found = same_scan run.core sectors sector_size image erase_failed run.left ∙ finds.found;
+      state_is = finds.state_is;
+    }
+
+pub failed_runs_leave_history : FailedRunsLeaveHistory
+failed_runs_leave_history count len faults before had_failed start script statements accepted answers waiting ends sectors sector_size image erase_failed fresh run fails intact =
+    let mounted = past_of fresh.scanned.log in
+    let ran = run.lawful mounted mounted fresh.stands in
+    let same = same_scan run.core sectors sector_size image erase_failed run.left in
+    record {
+      after = ran.after;
+      lawful = subst (λ (given : List Answer). IsLawful (volume_of start) mounted (requests_in run.replies) given ran.after) (sym run.answers_are) ran.lawful;
+      found = elim (failed_scans_find mounted ran.after run.core ran.stands fails (sym run.left.2 ∙ intact)) [
+        | inl h ↦ inl (h.0, same ∙ h.1, h.2)
+        | inr more ↦ inr (more.0, more.1, (more.2.0, same ∙ more.2.1, more.2.2))
+      ];
+    }

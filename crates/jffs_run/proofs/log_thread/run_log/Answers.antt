@@ -1,0 +1,23 @@
+use Rattle.std.proofs.Common.{◌∙◌, Some}
+use Rattle.jffs_index.specs.Ends.{all_put}
+use Rattle.jffs_serve.proofs.Replying.{then_more}
+use Rattle.jffs_run.proofs.log_thread.run_log.Goals as goal
+
+pub loop-preserved : goal.loop-preserved
+loop-preserved g c =
+    let before = c.loop.invariant in
+    let more = c.serve-served-in-loop.ensures in
+    let now = c.serve-served-in-loop.new in
+    record {
+      ready = more.ready;
+      ends = more.ends ∙ before.ends;
+      served = record {
+        replies = then_more c.args.side.session c.loop.session now.session
+            (all_put c.args.side.publisher).steps (all_put c.loop.publisher).steps (all_put now.publisher).steps
+            (g.T.Taker.taken c.args.side.taker) (g.T.Taker.taken c.loop.taker) (g.T.Taker.taken now.taker)
+            (Some c.loop.served) (Some c.serve-served-in-loop.result) before.served.replies more.replies;
+        published = more.published;
+        index = more.index ∙ before.served.index;
+        opening = more.opening ∙ before.served.opening;
+      };
+    }

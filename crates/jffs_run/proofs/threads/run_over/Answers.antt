@@ -1,0 +1,54 @@
+use Rattle.std.proofs.Common.{rules, ◌≡◌, List, [], ◌++◌, length, sym, ◌∙◌, ap, ap₂, subst, arith, vec_len, Option}
+use Rattle.jffs_line.specs.Line.{senders}
+use Rattle.jffs_core.specs.Standing.{Standing}
+use Rattle.jffs_index.specs.declared.step.Step.{Step}
+use Rattle.jffs_index.specs.declared.rule.History.{History}
+use Rattle.jffs_index.specs.Ends.{published, pending, all_put}
+use Rattle.jffs_serve.specs.declared.session.Kept.{Kept}
+use Rattle.jffs_serve.specs.Replies.{any_closed}
+use Rattle.jffs_serve.specs.Answered.{Start, HasReplied}
+use Rattle.jffs_serve.proofs.Replying.{nothing_replied}
+use Rattle.jffs_run.proofs.Runs.{whole_run, new_hands, count_writers}
+use Rattle.jffs_run.proofs.threads.run_over.Goals as goal
+
+pub run_all-requires-clause-crew : goal.run_all-requires-clause-crew
+run_all-requires-clause-crew g c κs within =
+    let line = c.requires.line in
+    let hands = c.args.line.hands in
+    let fresh = new_hands g.T.Of.Hand hands line.fresh in
+    let many = count_writers g.T.Of.Hand hands.writers.items hands.cleaner hands.control.hand (vec_len c.args.script.now.writers) line.numbers in
+    let same : vec_len hands.writers ≡ vec_len c.args.script.now.writers = let ok = hands.writers.ok in omega (arith, many) in
+    record {
+      fresh = fresh.0;
+      unused = fresh.1;
+      idle = fresh.2;
+      writers = same;
+      eight = let eight = line.eight in omega (arith, same);
+      readers = search rules;
+      looking = c.in-Ok.ensures.looking;
+    }
+
+pub returns-clause-run : goal.returns-clause-run
+returns-clause-run g c =
+    let line = c.requires.line in
+    let script = c.args.script.now in
+    let finished = c.in_ok-finished.finished in
+    let ran = c.in_ok-finished.ensures in
+    let settled = c.in_ok-run.ensures in
+    let taken = g.T.Taker.taken c.args.line.taker in
+    let before = c.new.result.core in
+    let put : List Step = (all_put c.in-Ok.opened.publisher).steps in
+    let start : Start = record { taken = taken; standing = before; put = put } in
+    let closed = subst (λ (s : Standing). s.closed ≡ any_closed s.answers) (sym c.new.ensures.core) (c.requires.core.1 ∙ sym (ap any_closed c.requires.core.0)) in
+    let beginning = subst (λ (k : Option Kept). HasReplied start before k put taken []) (sym c.new.ensures.kept) (nothing_replied before put taken closed) in
+    let more = ran.served.replies start [] beginning in
+    let opened = c.in-Ok.ensures.published in
+    let count : vec_len script.writers ≡ length script.writers.items = let ok = script.writers.ok in omega arith in
+    let run = whole_run g.T.Of.Hand script.writers.items script.readers.items _ finished.hands
+    finished.log.side.session.core finished.log.side.session.kept (published finished.log.side.publisher) (pending finished.log.side.publisher)
+    start (g.T.Taker.taken finished.log.side.taker) more.0 c.in_ok-run.run'.waiting.items finished.readers.items _ _ _ _
+    (let eight = line.eight in omega (arith, count)) (line.numbers ∙ ap senders count) ran.hands
+    line.untaken (ap (λ (s : Standing). s.answers) c.new.ensures.core ∙ c.requires.core.0)
+    (ap₂ (λ (h : History) (s : List Step). h.steps ++ s) opened.0 opened.1)
+    more.1 settled.settled settled.numbered settled.others ran.readers settled.left in
+    rw (← c.new.ensures.core, c.of-accepted.ensures, settled.rest.0, settled.rest.1) run

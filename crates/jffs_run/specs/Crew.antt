@@ -1,0 +1,51 @@
+-- What the threads of a run are given, and what comes back.
+use Rattle.std.specs.Prelude.{◌≡◌, ℕ, ◌≤◌, ◌⊎◌, List, [], ◌∷◌, ◌++◌, map, vec_len, vec_capacity, Vec}
+use Rattle.std.specs.List.{All}
+use Rattle.jffs_tree.specs.declared.wish.Wish.TheVariants.{Unmount}
+use Rattle.jffs_line.specs.Line.{End, senders}
+use Rattle.jffs_line.specs.declared.request.Request.{Request}
+use Rattle.jffs_line.specs.Requests.{request}
+use Rattle.jffs_line.specs.declared.hand.Hand as Hand
+use Rattle.jffs_line.specs.declared.hand.Hands.{Hands}
+use Rattle.jffs_index.specs.declared.rule.Index.{Index}
+use Rattle.jffs_index.specs.Ends.{index_of}
+use Rattle.jffs_text.specs.declared.script.Script.{Script}
+use Rattle.jffs_text.specs.declared.script.Writer.{Writer}
+use Rattle.jffs_run.specs.declared.crew.Crew.{Crew}
+use Rattle.jffs_run.specs.Ends.{EachFrom, AreCopies, end_of, all_hands, HandedIn, HandedInAll}
+
+module _ {H : Type 0} (g : Hand.Ghosts H) where
+  -- all hands of a crew: those of the writers in order, the cleaner's and the control's
+  abbrev pub crew_hands : Crew H → List H
+  crew_hands crew = crew.writers.items ++ crew.cleaner.hand ∷ crew.control.hand ∷ []
+
+  -- the crew has a hand for each writer of the script, at most 8, and a reader of this index for each of its readers, and no hand has handed anything in
+  pub record IsFit (script : Script) (crew : Crew H) (index : Index) : Type 0 where
+    pub fresh : All (λ hand. g.accepted hand ≡ []) crew.writers.items
+    pub unused : g.accepted crew.cleaner.hand ≡ []
+    pub idle : g.accepted crew.control.hand ≡ []
+    pub writers : vec_len crew.writers ≡ vec_len script.writers
+    pub eight : vec_len crew.writers ≤ 8
+    pub readers : vec_len crew.readers ≡ vec_len script.readers
+    pub looking : All (λ reader. index_of reader ≡ index) crew.readers.items
+
+  -- the hands are those of the crew. Each writer's handed in the first of its commands, and all of them where the control asked for the Unmount; the cleaner's asked for copies alone
+  pub record HasHandedIn (script : List Writer) (crew : Crew H) (hands : Hands H) : Type 0 where
+    pub ends : map (end_of g) (all_hands g hands) ≡ map (end_of g) (crew_hands crew)
+    pub first : EachFrom (HandedIn g script) 0 hands.writers.items
+    pub whole : (g.accepted hands.control.hand ≡ []) ⊎ EachFrom (HandedInAll g script) 0 hands.writers.items
+    pub cleaner : AreCopies (g.accepted hands.cleaner)
+    pub control : (g.accepted hands.control.hand ≡ []) ⊎ (g.accepted hands.control.hand ≡ request (g.sender hands.control.hand) 1 Unmount ∷ [])
+
+module _ {H : Type 0} (g : Hand.Ghosts H) where
+  -- the ends of a line for so many writers, from which nothing was handed in and nothing taken
+  pub record IsNewLine (ends : List End) (taken : ℕ → List Request) (hands : Hands H) (writers : ℕ) : Type 0 where
+    pub ends_are : ends ≡ map (end_of g) (all_hands g hands)
+    pub numbers : map g.sender (all_hands g hands) ≡ senders writers
+    pub fresh : All (λ hand. g.accepted hand ≡ []) (all_hands g hands)
+    pub untaken : (sender : ℕ) → taken sender ≡ []
+    pub eight : writers ≤ 8
+
+-- an empty vector that takes so many without memory
+abbrev pub HasRoom : {X A : Type 0} → ℕ → Vec X A → Type 0
+HasRoom count places = (places.items ≡ []) × (count ≤ vec_capacity places)

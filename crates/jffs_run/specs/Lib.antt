@@ -1,0 +1,10 @@
+pub mod Wishes
+pub mod Numbered
+pub mod Ends
+pub mod Started
+pub mod Crew
+pub mod Serving
+pub mod Looking
+pub mod Headline
+pub mod Accepted
+pub mod Scanned

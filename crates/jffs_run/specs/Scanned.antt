@@ -1,0 +1,48 @@
+-- What a run leaves on its device.
+use Rattle.std.specs.Prelude.{◌≡◌, ℕ, Bool, true, false, List, ◌++◌, Ok}
+use Rattle.jffs_node.specs.declared.node.Node.{Node}
+use Rattle.jffs_tree.specs.Origin.{tree_of, state_in}
+use Rattle.jffs_log.specs.Image.{past_of}
+use Rattle.jffs_log.specs.Volume.{split}
+use Rattle.jffs_log.specs.Scan.{Scanned, scan}
+use Rattle.jffs_line.specs.declared.request.Request.{Request}
+use Rattle.jffs_core.specs.Standing.{Standing}
+use Rattle.jffs_core.specs.History.{contents}
+use Rattle.jffs_core.specs.Past.{IsFresh, OrOneMore}
+use Rattle.jffs_core.specs.Run.{IsLawful}
+use Rattle.jffs_core.specs.declared.answer.Answer.{Answer}
+use Rattle.jffs_serve.specs.Answered.{volume_of}
+use Rattle.jffs_text.specs.declared.script.Writer.{Writer}
+use Rattle.jffs_text.specs.declared.script.ReaderStatement.{ReaderStatement}
+use Rattle.jffs_run.specs.declared.reader.ReaderEnd.{ReaderEnd}
+use Rattle.jffs_run.specs.Headline.{IsRun, requests_in}
+
+-- From the log that was mounted, the answers are lawful for the requests; and a scan of the image finds what the fresh nodes appended since made of it.
+pub record LeavesContents (start : Standing) (mounted : List Node) (requests : List Request) (answers : List Answer) (count len : ℕ) (image : List ℕ) : Type 0 where
+  pub after : List Node
+  pub lawful : IsLawful (volume_of start) mounted requests answers after
+  pub added : List Node
+  pub since : after ≡ added ++ mounted
+  pub scanned : Scanned
+  pub found : scan len (split count len image) ≡ Ok scanned
+  pub state_is : state_in scanned.tree ≡ contents mounted added
+
+-- The same where the device failed: the scan finds the tree of that history, or of it and one node more.
+pub record LeavesHistory (start : Standing) (mounted : List Node) (requests : List Request) (answers : List Answer) (count len : ℕ) (image : List ℕ) : Type 0 where
+  pub after : List Node
+  pub lawful : IsLawful (volume_of start) mounted requests answers after
+  pub found : OrOneMore after (λ past. (scanned : Scanned) × (scan len (split count len image) ≡ Ok scanned) × (scanned.tree ≡ tree_of past))
+
+-- A run from a mount on, over a device that works, leaves the contents.
+abbrev pub RunsLeaveContents : Type 0
+RunsLeaveContents = (count len faults : ℕ) (before : List ℕ) (had_failed : Bool) (start : Standing) (script : List Writer) (statements : List ReaderStatement) (accepted : ℕ → List Request)
+    (answers : List Answer) (waiting : List Request) (ends : List ReaderEnd) (sectors sector_size : ℕ) (image : List ℕ) (erase_failed : Bool)
+    → (fresh : IsFresh count len before faults had_failed start) (run : IsRun start script statements accepted answers waiting ends sectors sector_size image erase_failed)
+    → run.core.failed ≡ false → LeavesContents start (past_of fresh.scanned.log) (requests_in run.replies) answers sectors sector_size image
+
+-- Over a device that failed, but not in an erase, it leaves the history, or that and one node more.
+abbrev pub FailedRunsLeaveHistory : Type 0
+FailedRunsLeaveHistory = (count len faults : ℕ) (before : List ℕ) (had_failed : Bool) (start : Standing) (script : List Writer) (statements : List ReaderStatement) (accepted : ℕ → List Request)
+    (answers : List Answer) (waiting : List Request) (ends : List ReaderEnd) (sectors sector_size : ℕ) (image : List ℕ) (erase_failed : Bool)
+    → (fresh : IsFresh count len before faults had_failed start) (run : IsRun start script statements accepted answers waiting ends sectors sector_size image erase_failed)
+    → run.core.failed ≡ true → erase_failed ≡ false → LeavesHistory start (past_of fresh.scanned.log) (requests_in run.replies) answers sectors sector_size image

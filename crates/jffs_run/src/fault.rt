@@ -1,0 +1,61 @@
+//! Why a run had no end.
+
+use jffs_node::NoMemory;
+use std::alloc::AllocError;
+use thiserror::Error;
+
+/// Why a run had no end.
+#[derive(Clone, Copy, Debug, PartialEq, Eq, Error)]
+pub enum RunWhy {
+    /// The device doesn't mount.
+    #[error("Mount")]
+    Mount,
+    /// The line could not be made, or a sender's numbers are spent.
+    #[error("Line")]
+    Line,
+    /// The published index could not be made.
+    #[error("Index")]
+    Index,
+    /// A thread could not be started.
+    #[error("Spawn")]
+    Spawn,
+    /// The ends of the line could not be taken back.
+    #[error("Settle")]
+    Settle,
+    /// A growth was refused.
+    #[error("Memory")]
+    Memory,
+}
+
+impl From<NoMemory> for RunWhy {
+    fn from(_: NoMemory) -> RunWhy {
+        RunWhy::Memory
+    }
+}
+
+impl From<AllocError> for RunWhy {
+    fn from(_: AllocError) -> RunWhy {
+        RunWhy::Memory
+    }
+}
+
+/// A refused run, with the device where the log thread gave it back or was never started.
+#[derive(Drop)]
+pub struct RunFault<F> {
+    pub why: RunWhy,
+    pub flash: Option<F>,
+}
+
+impl<F> RunFault<F> {
+    ghost use Rattle.std.specs.Prelude.{◌≡◌, Some};
+
+    /// A fault that hands the device back.
+    pub(crate) fn with_flash(why: RunWhy, flash: F) -> RunFault<F>
+        ensures { result ≡ record { why = why; flash = Some flash } }
+    {
+        RunFault {
+            why,
+            flash: Some(flash),
+        }
+    }
+}

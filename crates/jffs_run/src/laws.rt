@@ -1,0 +1,11 @@
+//! Laws over the definitions. The functions do nothing: their contracts are the laws.
+
+ghost use Rattle.jffs_run.specs.Scanned.{RunsLeaveContents, FailedRunsLeaveHistory};
+
+/// What the contract of `run_threads` says of the core, said of the device: the answers are lawful for their requests,
+/// and a scan finds what the fresh nodes appended since the mount made. Where the device failed, but not in an erase,
+/// a scan finds that history, or it and one node more.
+pub fn runs_leave_contents()
+    ensures works { RunsLeaveContents }
+    ensures failed { FailedRunsLeaveHistory }
+{}

@@ -1,0 +1,123 @@
+//! Scripts with more than one thread beside the log's, over both lines.
+
+use super::{printed, prints};
+use std::alloc::Global;
+use std::io::Write;
+use std::process::Abort;
+use std::sync::Wait;
+use std::test::Fail;
+use std::thread::Threads;
+
+/// The same script over each of two lines prints the same.
+fn prints_over_both<Rt: Abort + AllocGlobal + Threads + Wait + Sync>(
+    rt: &Rt,
+    lines: [&str; 2],
+    script: &str,
+    wanted: &str,
+) -> Result<(), Fail> {
+    for line in lines {
+        let script = format!(in rt.alloc(); "volume 8 1024\nline {line}\n{script}")?;
+        prints(rt, script.as_str(), wanted)?;
+    }
+    Ok(())
+}
+
+#[test]
+fn two_writers_example(rt: HostRuntime) -> Result<(), Fail> {
+    prints_over_both(
+        &rt,
+        ["shared 1", "rings 4"],
+        "writer\nmkdir /a\ncreate /a/x\nwrite /a/x 0 68656c6c6f\nwrite /a/x 5 21\nwriter\nmkdir /b\ncreate /b/y\nwrite /b/y 0 6f6b\ntruncate /b/y 1\nremove /c\n",
+        "1.1 appended\n1.2 appended\n1.3 appended\n1.4 appended\n2.1 appended\n2.2 appended\n2.3 appended\n2.4 appended\n2.5 refused NotFound\nclosed\nscan clean\nd /\nd /a\nf /a/x 6 68656c6c6f21\nd /b\nf /b/y 1 6f\n",
+    )
+}
+
+#[test]
+fn reader_waits_for_write(rt: HostRuntime) -> Result<(), Fail> {
+    prints(
+        &rt,
+        "volume 8 1024\nreader 1 2 /f\nwriter\ncreate /f\nwrite /f 0 68656c6c6f\n",
+        "1.1 appended\n1.2 appended\nreader 1 68656c6c6f\nclosed\nscan clean\nd /\nf /f 5 68656c6c6f\n",
+    )
+}
+
+/// One reader waits for an answer that never comes, one for a refusal, and the others read what is
+/// no file and a file without bytes.
+#[test]
+fn readers_end_each_in_its_way(rt: HostRuntime) -> Result<(), Fail> {
+    prints(
+        &rt,
+        "volume 8 1024\nline rings 1\nreader 1 4 /f\nreader 1 3 /n\nreader 1 1 /\nreader 1 2 /f\nreader 2 1 /f\nwriter\nmkdir /d\ncreate /f\nremove /n\n",
+        "1.1 appended\n1.2 appended\n1.3 refused NotFound\nreader 1 not seen\nreader 2 none\nreader 3 none\nreader 4 -\nreader 5 not seen\nclosed\nscan clean\nd /\nd /d\nf /f 0 -\n",
+    )
+}
+
+/// `times` lines that begin with `before`, then a number from `from` on.
+fn put_numbered(
+    out: &mut Vec<u8>,
+    before: &str,
+    from: u32,
+    times: u32,
+    after: &str,
+) -> Result<(), Fail> {
+    for number in (0..times).map(|k| from.saturating_add(k)) {
+        writeln!(out, "{before}{number}{after}")?;
+    }
+    Ok(())
+}
+
+/// A script that overwrites one file so often that the log goes round, beside a cleaner.
+fn forty_fills(alloc: Global, line: &str) -> Result<Vec<u8>, Fail> {
+    let mut script = Vec::new(alloc);
+    writeln!(script, "volume 6 1024\nline {line}\ncleaner 1000\nwriter")?;
+    script.write_all(b"create /k\nwrite /k 0 6b\ncreate /f\n")?;
+    for _ in 0..40u32 {
+        script.write_all(b"fill /f 0 192 61\n")?;
+    }
+    Ok(script)
+}
+
+#[test]
+fn forty_fills_with_cleaner(rt: HostRuntime) -> Result<(), Fail> {
+    let alloc = rt.alloc();
+    let mut wanted = Vec::new(alloc);
+    put_numbered(&mut wanted, "1.", 1, 43, " appended")?;
+    wanted.write_all(b"closed\nscan clean\nd /\nf /f 192 ")?;
+    for _ in 0..192u32 {
+        wanted.write_all(b"61")?;
+    }
+    wanted.write_all(b"\nf /k 1 6b\n")?;
+    for line in ["shared 4", "rings 4"] {
+        let out = printed(&rt, forty_fills(alloc, line)?.as_slice(), 0)?;
+        assert_eq!(rt; out.as_slice(), wanted.as_slice());
+    }
+    Ok(())
+}
+
+/// Eight writers, each of which makes a file and writes a byte to it.
+fn eight(alloc: Global, line: &str) -> Result<Vec<u8>, Fail> {
+    let mut script = Vec::new(alloc);
+    writeln!(script, "volume 8 1024\nline {line}")?;
+    for n in 1..=8u32 {
+        writeln!(script, "writer\ncreate /a{n}\nwrite /a{n} 0 3{n}")?;
+    }
+    Ok(script)
+}
+
+#[test]
+fn eight_writers(rt: HostRuntime) -> Result<(), Fail> {
+    let alloc = rt.alloc();
+    let mut wanted = Vec::new(alloc);
+    for n in 1..=8u32 {
+        writeln!(wanted, "{n}.1 appended\n{n}.2 appended")?;
+    }
+    wanted.write_all(b"closed\nscan clean\nd /\n")?;
+    for n in 1..=8u32 {
+        writeln!(wanted, "f /a{n} 1 3{n}")?;
+    }
+    for line in ["rings 1", "shared 1"] {
+        let out = printed(&rt, eight(alloc, line)?.as_slice(), 0)?;
+        assert_eq!(rt; out.as_slice(), wanted.as_slice());
+    }
+    Ok(())
+}

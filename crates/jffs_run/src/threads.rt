@@ -1,0 +1,233 @@
+//! A run of a script in threads.
+
+ghost use Rattle.std.specs.Prelude.{◌≡◌, ◌≤◌, ◌+◌, ℕ, [], ◌∷◌, ◌++◌, map, length, false, IfOk, IfErr, None, vec_len, Contains};
+ghost use Rattle.std.specs.List.{All};
+ghost use Rattle.jffs_tree.specs.Origin.{Tree};
+ghost use Rattle.jffs_index.specs.Histories.{opening_of};
+ghost use Rattle.jffs_index.specs.Ends.{published, pending, publisher_index, index_of};
+ghost use Rattle.jffs_line.specs.Requests.{of, IsNumbered};
+ghost use Rattle.jffs_run.specs.Ends.{all_hands, accepted_by, end_of};
+ghost use Rattle.jffs_run.specs.Crew.{IsNewLine};
+ghost use Rattle.jffs_core.specs.Standing.{Standing};
+ghost use Rattle.jffs_core.specs.Past.{IsFresh};
+ghost use Rattle.jffs_run.specs.Headline.{IsRun, IsLeftBy};
+ghost use Rattle.jffs_run.specs.Accepted.{accepted_of};
+
+use crate::crew::{Crew, Finished};
+use crate::fault::{RunFault, RunWhy};
+use crate::outcome::{AcceptedBy, Run};
+use crate::promise::{Cleaner, LogEnd, LogSide};
+use crate::run::run_all;
+use crate::writer::Gate;
+use jffs_core::Core;
+use jffs_flash::Flash;
+use jffs_index::{Publisher, READERS_MAX, Reader, publish_index};
+use jffs_line::{Ends, Hands, Settle, ring_line, shared_line};
+use jffs_log::ScanFault;
+use jffs_serve::{JobEnd, Jobs, Session, job_ring};
+use jffs_text::{LineForm, Script, WRITERS_MAX};
+use std::alloc::Global;
+use std::snapshot::Snapshot;
+use std::sync::Wait;
+use std::thread::Threads;
+
+/// How many images the job ring holds.
+const JOBS_MAX: usize = 4;
+
+/// What the hands of a run had accepted, and the rest of that run.
+type Accounted<F, H> = (Snapshot<Hands<H>>, Run<F, ()>);
+
+/// The published index of a run, and the job ring.
+struct Opened<W: Wait + Drop> {
+    publisher: Publisher<W>,
+    readers: Vec<Reader>,
+    cleaner: Reader,
+    jobs: Jobs,
+    job_end: JobEnd,
+}
+
+/// Opens the index over a copy of the core's tree, for so many readers and the cleaner, and makes
+/// the job ring.
+fn open<W: Wait + Drop, F: Flash>(
+    rt: W,
+    alloc: Global,
+    core: &Core<F>,
+    readers: usize,
+) -> Result<Opened<W>, RunWhy>
+    ensures published { IfOk result (λ opened. (published opened.publisher ≡ opening_of core.now.tree) × (pending opened.publisher ≡ [])) }
+    ensures count { IfOk result (λ opened. vec_len opened.readers ≡ readers) }
+    ensures looking { IfOk result (λ opened. All (λ reader. index_of reader ≡ publisher_index opened.publisher) opened.readers.items) }
+{
+    if readers >= READERS_MAX {
+        return Err(RunWhy::Index);
+    }
+    let tree = core.tree().copy_tree()?;
+    let (jobs, job_end) = job_ring(alloc, JOBS_MAX).map_err(|_| RunWhy::Memory)?;
+    let index = publish_index(rt, alloc, tree, readers + 1);
+    let (publisher, mut readers) = index.map_err(|_| RunWhy::Index)?;
+    let cleaner = readers.pop().ok_or(RunWhy::Index)?;
+    Ok(Opened {
+        publisher,
+        readers,
+        cleaner,
+        jobs,
+        job_end,
+    })
+}
+
+/// A run over all ends of a line.
+fn run_over<R: Threads + Wait + Sync, F: Flash + Send + Drop, T: Settle + Send, G: Gate + Sync>(
+    rt: &R,
+    alloc: Global,
+    script: &Script,
+    line: Ends<T::Of, T>,
+    core: Core<F>,
+    gate: &G,
+) -> Result<Accounted<F, T::Of>, RunFault<F>>
+where
+    T::Of: Send,
+    requires line { IsNewLine T.Of.Hand (T.ends line.taker) (T.taken line.taker) line.hands (vec_len script.now.writers) }
+    requires core { (core.answers ≡ []) × (core.closed ≡ false) }
+    ensures fault { IfErr result (λ fault. fault.flash ≡ None → fault.why ≡ RunWhy.Spawn) }
+    ensures run { IfOk result (λ r. IsRun core script.now.writers.items script.now.readers.items (λ sender. accepted_by T.Of.Hand sender (all_hands T.Of.Hand r.0.value)) r.1.answers.items r.1.waiting.items r.1.readers.items (F.sector_count r.1.flash) (F.sector_len r.1.flash) (F.image r.1.flash) (F.erase_failed r.1.flash)) }
+{
+    let Opened {
+        publisher,
+        readers,
+        cleaner,
+        jobs,
+        job_end,
+    } = match open(rt, alloc, &core, script.readers.len()) {
+        Ok(opened) => opened,
+        Err(why) => return Err(RunFault::with_flash(why, core.into_flash())),
+    };
+    let Ends { hands, taker } = line;
+    let crew = Crew {
+        writers: hands.writers,
+        cleaner: Cleaner {
+            hand: hands.cleaner,
+            reader: cleaner,
+            jobs: job_end,
+        },
+        control: hands.control,
+        readers,
+    };
+    let side = LogSide {
+        session: Session::new(core),
+        taker,
+        publisher,
+        jobs,
+    };
+    let finished = run_all(rt, alloc, script, crew, side, gate)?;
+    let accepted = Snapshot::of(&finished.hands);
+    let run = settle_all(rt, alloc, finished)?;
+    Ok((accepted, run))
+}
+
+/// Takes all ends back.
+fn settle_all<R: Wait, F: Flash + Drop, T: Settle, W: Wait + Drop>(
+    rt: &R,
+    alloc: Global,
+    finished: Finished<T::Of, F, T, W>,
+) -> Result<Run<F, ()>, RunFault<F>>
+    requires ends { T.ends finished.log.side.taker ≡ map (end_of T.Of.Hand) (all_hands T.Of.Hand finished.hands) }
+    ensures fault { IfErr result (λ fault. fault.flash ≡ None → fault.why ≡ RunWhy.Spawn) }
+    ensures rest { IfOk result (λ run. (run.answers.items ≡ finished.log.side.session.core.answers) × (run.readers ≡ finished.readers)) }
+    ensures settled { IfOk result (λ run. All (λ h. T.taken finished.log.side.taker (T.Of.sender h) ++ of (T.Of.sender h) run.waiting.items ≡ T.Of.accepted h) (all_hands T.Of.Hand finished.hands)) }
+    ensures left { IfOk result (λ run. IsLeftBy finished.log.side.session.core (F.sector_count run.flash) (F.sector_len run.flash) (F.image run.flash) (F.erase_failed run.flash)) }
+    ensures numbered { IfOk result (λ _. All (λ h. IsNumbered (T.Of.accepted h)) (all_hands T.Of.Hand finished.hands)) }
+    ensures others { IfOk result (λ run. (w : ℕ) → ¬ (Contains (map T.Of.sender (all_hands T.Of.Hand finished.hands)) w) → T.taken finished.log.side.taker w ++ of w run.waiting.items ≡ []) }
+{
+    let Finished {
+        hands,
+        readers,
+        log,
+    } = finished;
+    let LogEnd { side, served } = log;
+    let (flash, answers) = side.session.into_core().into_parts();
+    match side.taker.settle(rt, alloc, hands) {
+        Ok(settled) => Ok(Run {
+            accepted: (),
+            answers,
+            waiting: settled.waiting,
+            readers,
+            served,
+            flash,
+        }),
+        Err(_) => Err(RunFault::with_flash(RunWhy::Settle, flash)),
+    }
+}
+
+/// Runs a script in threads: one for the log, one for each writer and each reader, and one for the
+/// cleaner where the script asks for it. `gate` is told of each wish in its writer's thread. The
+/// device may hold a volume already. A fault hands it back, unless the log thread could not be
+/// started.
+pub fn run_threads<R: Threads + Wait + Sync, F: Flash + Send + Drop, G: Gate + Sync>(
+    rt: &R,
+    alloc: Global,
+    script: &Script,
+    flash: F,
+    gate: &G,
+) -> Result<Run<F>, RunFault<F>>
+    ensures fault { IfErr result (λ fault. fault.flash ≡ None → fault.why ≡ RunWhy.Spawn) }
+    ensures run { IfOk result (λ run. (start : Standing) × IsFresh (F.sector_count flash) (F.sector_len flash) (F.image flash) (F.fault_count flash) (F.erase_failed flash) start × IsRun start script.now.writers.items script.now.readers.items (accepted_of run.accepted) run.answers.items run.waiting.items run.readers.items (F.sector_count run.flash) (F.sector_len run.flash) (F.image run.flash) (F.erase_failed run.flash)) }
+{
+    let core = match Core::mount(alloc, flash) {
+        Ok(core) => core,
+        Err(ScanFault { why: _, flash }) => {
+            return Err(RunFault::with_flash(RunWhy::Mount, flash));
+        }
+    };
+    match script.line.form {
+        LineForm::Shared => run_shared(rt, alloc, script, core, gate),
+        LineForm::Rings => run_rings(rt, alloc, script, core, gate),
+    }
+}
+
+/// A run over a shared line.
+fn run_shared<R: Threads + Wait + Sync, F: Flash + Send + Drop, G: Gate + Sync>(
+    rt: &R,
+    alloc: Global,
+    script: &Script,
+    core: Core<F>,
+    gate: &G,
+) -> Result<Run<F>, RunFault<F>>
+    requires core { (core.answers ≡ []) × (core.closed ≡ false) }
+    ensures fault { IfErr result (λ fault. fault.flash ≡ None → fault.why ≡ RunWhy.Spawn) }
+    ensures run { IfOk result (λ run. IsRun core script.now.writers.items script.now.readers.items (accepted_of run.accepted) run.answers.items run.waiting.items run.readers.items (F.sector_count run.flash) (F.sector_len run.flash) (F.image run.flash) (F.erase_failed run.flash)) }
+{
+    let writers = script.writers.len();
+    if writers > WRITERS_MAX {
+        return Err(RunFault::with_flash(RunWhy::Line, core.into_flash()));
+    }
+    let capacity = script.line.capacity as usize;
+    let Ok(line) = shared_line(rt, alloc, capacity, writers as u16) else {
+        return Err(RunFault::with_flash(RunWhy::Line, core.into_flash()));
+    };
+    let (accepted, run) = run_over(rt, alloc, script, line, core, gate)?;
+    Ok(run.with_accepted(AcceptedBy::Shared(accepted)))
+}
+
+/// A run over a ring for each sender.
+fn run_rings<R: Threads + Wait + Sync, F: Flash + Send + Drop, G: Gate + Sync>(
+    rt: &R,
+    alloc: Global,
+    script: &Script,
+    core: Core<F>,
+    gate: &G,
+) -> Result<Run<F>, RunFault<F>>
+    requires core { (core.answers ≡ []) × (core.closed ≡ false) }
+    ensures fault { IfErr result (λ fault. fault.flash ≡ None → fault.why ≡ RunWhy.Spawn) }
+    ensures run { IfOk result (λ run. IsRun core script.now.writers.items script.now.readers.items (accepted_of run.accepted) run.answers.items run.waiting.items run.readers.items (F.sector_count run.flash) (F.sector_len run.flash) (F.image run.flash) (F.erase_failed run.flash)) }
+{
+    let writers = script.writers.len();
+    if writers > WRITERS_MAX {
+        return Err(RunFault::with_flash(RunWhy::Line, core.into_flash()));
+    }
+    let capacity = script.line.capacity as usize;
+    let Ok(line) = ring_line(alloc, capacity, writers as u16) else {
+        return Err(RunFault::with_flash(RunWhy::Line, core.into_flash()));
+    };
+    let (accepted, run) = run_over(rt, alloc, script, line, core, gate)?;
+    Ok(run.with_accepted(AcceptedBy::Rings(accepted)))
+}

@@ -1,0 +1,73 @@
+-- What a session has answered since some moment, and what it has sent of it.
+use Rattle.std.specs.Prelude.{◌≡◌, ℕ, Bool, true, List, ◌++◌, map, Option, Some, None}
+use Rattle.std.specs.List.{list_any}
+use Rattle.jffs_node.specs.declared.node.Node.{Node}
+use Rattle.jffs_line.specs.declared.request.Request.{Request}
+use Rattle.jffs_line.specs.Requests.{of}
+use Rattle.jffs_index.specs.declared.step.Step.{Step}
+use Rattle.jffs_log.specs.Book.{HasSizes}
+use Rattle.jffs_core.specs.Standing.{Standing}
+use Rattle.jffs_core.specs.Step.{Volume}
+use Rattle.jffs_core.specs.Past.{StandsFor}
+use Rattle.jffs_core.specs.Run.{IsLawful, is_failure}
+use Rattle.jffs_core.specs.declared.answer.Answer.{Answer}
+use Rattle.jffs_serve.specs.declared.session.Kept.{Kept}
+use Rattle.jffs_serve.specs.declared.session.Served.{Served}
+use Rattle.jffs_serve.specs.declared.session.Session.{Session}
+use Rattle.jffs_serve.specs.Kept.{unput, ending_of}
+use Rattle.jffs_serve.specs.Replies.{Reply, answer_in, AllReply, any_closed, FitsServed}
+
+-- What stood at that moment: the requests taken of each sender, the core, and the steps put.
+pub record Start : Type 0 where
+  pub taken : ℕ → List Request
+  pub standing : Standing
+  pub put : List Step
+
+-- the sizes of the device
+abbrev pub volume_of : Standing → Volume
+volume_of c = record { sectors = c.book.sectors; sector_size = c.book.sector_size }
+
+-- an answer of these tells of a failure
+abbrev pub any_failure : List Answer → Bool
+any_failure answers = list_any (λ (a : Answer). is_failure a.outcome) answers
+
+-- From this history to another: the answers are lawful for their requests, and the core stands for the history after them. Where one tells of a failure, the core has failed.
+pub record RunsTo (start core : Standing) (mounted past : List Node) (replies : List Reply) : Type 0 where
+  pub after : List Node
+  pub stands : StandsFor mounted after core
+  pub lawful : IsLawful (volume_of start) past (map (λ (r : Reply). r.request) replies) (map answer_in replies) after
+  pub failed : any_failure (map answer_in replies) ≡ true → core.failed ≡ true
+
+-- These replies were made since: all that was taken, each of them once; and each is put, or kept, in order. They are lawful from whatever history the core stood for.
+pub record HasReplied (start : Start) (core : Standing) (kept : Option Kept) (put : List Step) (taken : ℕ → List Request) (replies : List Reply) : Type 0 where
+  pub all_taken : (w : ℕ) → taken w ≡ start.taken w ++ of w (map (λ (r : Reply). r.request) replies)
+  pub answered : core.answers ≡ start.standing.answers ++ map answer_in replies
+  pub sent : put ++ unput kept ≡ start.put ++ map (λ (r : Reply). r.step) replies
+  pub reply : AllReply replies
+  pub closed : core.closed ≡ any_closed core.answers
+  pub ending : (served : Served) → ending_of kept ≡ Some served → FitsServed served core.closed replies
+  pub sizes : HasSizes start.standing.book.sectors start.standing.book.sector_size core.book
+  pub lawful : (mounted past : List Node) → StandsFor mounted past start.standing → RunsTo start.standing core mounted past replies
+
+-- The core stands for the history that it stood for, on a device of the same sizes, and has failed where it had.
+pub record KeepsHistory (old new : Standing) : Type 0 where
+  pub sizes : HasSizes old.book.sectors old.book.sector_size new.book
+  pub failed : old.failed ≡ true → new.failed ≡ true
+  pub stands : (mounted past : List Node) → StandsFor mounted past old → StandsFor mounted past new
+
+-- where serving ends, it ends as the replies say
+abbrev pub FitsEnding : Option Served → Standing → List Reply → Type 0
+FitsEnding None core replies = Unit {0}
+FitsEnding (Some served) core replies = FitsServed served core.closed replies
+
+module _ {F : Type 0} where
+  -- Since whatever moment: more replies were made, and where serving ends, it ends as they say.
+  abbrev pub RepliesMore : Session F → List Step → (ℕ → List Request) → Session F → List Step → (ℕ → List Request) → Option Served → Type 0
+  RepliesMore old put_before taken_before new put_now taken_now ending =
+      (start : Start) (replies : List Reply)
+      → HasReplied start old.core old.kept put_before taken_before replies
+      → (more : List Reply) × HasReplied start new.core new.kept put_now taken_now (replies ++ more) × FitsEnding ending new.core (replies ++ more)
+
+  -- the same replies, the same left to be sent, and the same history
+  abbrev pub HasSameReplies : Session F → Session F → Type 0
+  HasSameReplies old new = (new.core.answers ≡ old.core.answers) × (new.core.closed ≡ old.core.closed) × (new.kept ≡ old.kept) × KeepsHistory old.core new.core

@@ -1,0 +1,35 @@
+-- What a session still has to do with its last answer.
+use Rattle.std.specs.Prelude.{◌≡◌, Bool, true, false, List, [], ◌∷◌, Option, Some, None}
+use Rattle.jffs_tree.specs.declared.wish.Outcome.{Outcome}
+use Rattle.jffs_tree.specs.declared.wish.Outcome.TheVariants.{Appended, Copied, Closed, Refused}
+use Rattle.jffs_index.specs.declared.step.Step.{Step}
+use Rattle.jffs_serve.specs.declared.session.Kept.{Kept}
+use Rattle.jffs_serve.specs.declared.session.Kept.TheVariants.{Unput, Unpublished}
+use Rattle.jffs_serve.specs.declared.session.Served.{Served}
+use Rattle.jffs_serve.specs.declared.session.Served.TheVariants as served
+
+-- the step that is still to be put
+abbrev pub unput : Option Kept → List Step
+unput None = []
+unput (Some (Unput step ending)) = step ∷ []
+unput (Some (Unpublished ending)) = []
+
+-- how serving ends once nothing is kept, if it does
+abbrev pub ending_of : Option Kept → Option Served
+ending_of None = None
+ending_of (Some (Unput step ending)) = ending
+ending_of (Some (Unpublished ending)) = ending
+
+-- how serving ends with an answer, if it does; the first says whether it answers an Unmount
+abbrev pub ending_after : Bool → Outcome → Option Served
+ending_after unmounts Closed = Some served.Closed
+ending_after true (Refused cause) = Some (served.NotClosed cause)
+ending_after false (Refused cause) = None
+ending_after unmounts (Appended inode version) = None
+ending_after unmounts (Copied version) = None
+
+-- steps wait to be published only where the session knows of it
+abbrev pub IsReady : Option Kept → List Step → Type 0
+IsReady None pending = pending ≡ []
+IsReady (Some (Unput step ending)) pending = pending ≡ []
+IsReady (Some (Unpublished ending)) pending = Unit {0}

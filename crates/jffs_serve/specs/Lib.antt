@@ -1,0 +1,6 @@
+pub mod Kept
+pub mod Replies
+pub mod Answered
+pub mod Copies
+pub mod Jobs
+pub mod Copying

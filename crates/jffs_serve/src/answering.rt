@@ -1,0 +1,120 @@
+//! What a session does by itself: it answers a request, erases dead sectors, and sends jobs.
+
+ghost use Rattle.std.specs.Prelude.{◌≡◌, true};
+ghost use Rattle.jffs_tree.specs.declared.wish.Wish.TheVariants.{Unmount};
+ghost use Rattle.jffs_serve.specs.Kept.{ending_after as ending_word};
+
+use crate::jobs::Jobs;
+use crate::session::{Kept, Served, Session};
+use jffs_core::Answered;
+use jffs_flash::Flash;
+use jffs_index::Step;
+use jffs_line::Request;
+use jffs_tree::{Outcome, Wish};
+
+impl<F: Flash> Session<F> {
+    ghost use Rattle.std.specs.Prelude.{◌≡◌, ◌≢◌, ◌<◌, ℕ, List, [], ◌∷◌, ◌++◌, ◌⊎◌, true, false, Some, None, length};
+    ghost use Rattle.jffs_index.specs.declared.step.Step.{Step};
+    ghost use Rattle.jffs_line.specs.declared.request.Request.{Request};
+    ghost use Rattle.jffs_line.specs.Requests.{of};
+    ghost use Rattle.rtrb.specs.Ring.{sent};
+    ghost use Rattle.jffs_core.specs.Jobs.{wants_cleaning};
+    ghost use Rattle.jffs_serve.specs.Jobs.{IsDue, SendsOldest};
+    ghost use Rattle.jffs_serve.specs.Kept.{unput, IsReady};
+    ghost use Rattle.jffs_serve.specs.Answered.{RepliesMore, HasSameReplies};
+
+    /// Answers a request, and keeps the answer's step.
+    pub(crate) fn answer(&mut self, request: Request)
+        requires reserved { length self.old.core.answers < self.old.core.places }
+        requires opened { self.old.core.closed ≡ false }
+        requires sent { self.old.kept ≡ None }
+        ensures replies { (put : List Step) (before now : ℕ → List Request) → ((w : ℕ) → now w ≡ before w ++ of w (request ∷ [])) → RepliesMore self.old put before self.new put now None }
+        ensures ready { IsReady self.new.kept [] }
+    {
+        let unmounts = is_unmount(&request.wish);
+        let writer = request.writer;
+        let seq = request.seq;
+        let Answered { outcome, node } = self.core.answer_with_node(request);
+        let step = Step {
+            writer,
+            seq,
+            outcome,
+            node,
+        };
+        self.kept = Some(Kept::Unput(step, ending_after(unmounts, outcome)));
+    }
+
+    /// Forgets the step that was published, and answers how serving ends with it, if it does.
+    pub(crate) fn take_ending(&mut self) -> Option<Served>
+        requires put { unput self.old.kept ≡ [] }
+        ensures kept { self.new.kept ≡ None }
+        ensures replies { (put : List Step) (taken : ℕ → List Request) → RepliesMore self.old put taken self.new put taken result }
+    {
+        match self.kept.take() {
+            Some(Kept::Unput(_, ending)) => ending,
+            Some(Kept::Unpublished(ending)) => ending,
+            None => None,
+        }
+    }
+
+    /// Erases dead sectors, unless the device failed or the session is closed, and perhaps sends a job.
+    pub(crate) fn tidy(&mut self, jobs: &mut Jobs)
+        ensures { HasSameReplies self.old self.new }
+    {
+        self.erase_dead();
+        self.send_job(jobs);
+    }
+
+    /// Erases dead sectors, unless the device failed or the session is closed.
+    fn erase_dead(&mut self)
+        ensures { HasSameReplies self.old self.new }
+    {
+        if self.core.failed() || self.core.closed() {
+            return;
+        }
+        // A fault makes the core failed, which each later answer tells.
+        let _ = self.core.erase_dead();
+    }
+
+    /// Sends the image of the oldest sector where a cleaner is wanted and has not had it yet. Where
+    /// memory, the ring or the read refuses, the job is left out; a failed read makes the core failed.
+    fn send_job(&mut self, jobs: &mut Jobs)
+        ensures replies { HasSameReplies self.old self.new }
+        ensures job { ((sent jobs.new.producer ≡ sent jobs.old.producer) × (self.new.sent_at ≡ self.old.sent_at))
+            ⊎ (IsDue self.old.core self.old.sent_at × (self.new.sent_at ≡ Some self.old.core.book.erases) × SendsOldest self.old.core (sent jobs.old.producer) (sent jobs.new.producer)) }
+    {
+        let erases = self.core.log().erases();
+        if !self.is_due(erases) || jobs.is_full() {
+            return;
+        }
+        if let Ok(image) = self.core.oldest_image() {
+            if let Ok(()) = jobs.send(image) {
+                self.sent_at = Some(erases);
+            }
+        }
+    }
+
+    /// Whether a cleaner is wanted, and no job was sent since so many erases.
+    fn is_due(&self, erases: u64) -> bool
+        ensures { result ≡ true → (wants_cleaning self.now.core ≡ true) × (self.now.sent_at ≢ Some erases) }
+    {
+        self.core.wants_cleaning() && self.sent_at != Some(erases)
+    }
+}
+
+fn is_unmount(wish: &Wish) -> bool
+    ensures { result ≡ true → wish.now ≡ Unmount }
+{
+    matches!(wish, Wish::Unmount)
+}
+
+/// How serving ends with the answer to a request, if it does.
+fn ending_after(unmounts: bool, outcome: Outcome) -> Option<Served>
+    ensures { result ≡ ending_word unmounts outcome }
+{
+    match outcome {
+        Outcome::Closed => Some(Served::Closed),
+        Outcome::Refused(cause) if unmounts => Some(Served::NotClosed(cause)),
+        _ => None,
+    }
+}

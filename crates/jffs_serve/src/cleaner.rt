@@ -1,0 +1,126 @@
+//! The cleaner's rounds: it takes a job, looks at what is published, and asks for copies.
+
+ghost use Rattle.std.specs.Prelude.{◌≡◌, ◌≤◌, List, length, IfSome, IfNone};
+ghost use Rattle.jffs_line.specs.declared.request.Request.{Request};
+ghost use Rattle.jffs_index.specs.Histories.{BeginsWith};
+ghost use Rattle.jffs_index.specs.Ends.{known, index_of};
+ghost use Rattle.jffs_serve.specs.Copies.{HandsInCopies};
+
+use crate::copies::{Copying, copies_in};
+use crate::jobs::JobEnd;
+use crossbeam_utils::Backoff;
+use jffs_index::Reader;
+use jffs_line::{Hand, NotTaken, Why};
+use std::alloc::Global;
+use std::sync::Wait;
+
+/// How often a copy is offered to a line that is full.
+const TRIES: u32 = 1000;
+
+/// What the cleaner did.
+#[derive(Clone, Copy, Debug, PartialEq, Eq)]
+pub struct CleanerEnd {
+    /// How many copies the line accepted.
+    pub handed_in: u32,
+}
+
+/// What a look found.
+#[derive(Drop)]
+struct Found {
+    closed: bool,
+    copies: Vec<Copying>,
+}
+
+/// At most `limit` rounds, until the session is closed. A round takes an image, if there is one, and
+/// asks for a copy of each record of it that still lives.
+pub fn clean_loop<R: Wait, H: Hand>(
+    rt: &R,
+    alloc: Global,
+    jobs: &mut JobEnd,
+    reader: &mut Reader,
+    hand: &mut H,
+    limit: u32,
+) -> CleanerEnd
+    ensures copies { HandsInCopies (H.accepted hand.old) (H.accepted hand.new) result.handed_in }
+    ensures end { (H.sender hand.new ≡ H.sender hand.old) × (H.line hand.new ≡ H.line hand.old) }
+    ensures reader { (index_of reader.new ≡ index_of reader.old) × BeginsWith (known reader.new) (known reader.old) }
+{
+    let backoff = Backoff::new();
+    let mut end = CleanerEnd { handed_in: 0 };
+    for _ in 0..limit {
+        let image = jobs.take();
+        let Some(found) = look(alloc, reader, &image) else {
+            backoff.snooze();
+            continue;
+        };
+        if found.closed {
+            break;
+        }
+        hand_in_all(rt, hand, found.copies, &mut end);
+        if image.is_none() {
+            backoff.snooze();
+        }
+    }
+    end
+}
+
+/// Looks once. None: nothing is published any more.
+fn look(alloc: Global, reader: &mut Reader, image: &Option<Vec<u8>>) -> Option<Found>
+    ensures index { index_of reader.new ≡ index_of reader.old }
+    ensures grows { BeginsWith (known reader.new) (known reader.old) }
+{
+    let bytes: &[u8] = match image {
+        Some(image) => image.as_slice(),
+        None => &[],
+    };
+    reader.look(|view| Found {
+        closed: view.closed(),
+        copies: copies_in(alloc, view, bytes),
+    })
+}
+
+/// Hands the copies in, in order, and counts those that are accepted.
+fn hand_in_all<R: Wait, H: Hand>(rt: &R, hand: &mut H, copies: Vec<Copying>, end: &mut CleanerEnd)
+    requires counted { end.old.handed_in ≤ length (H.accepted hand.old) }
+    ensures copies { (before : List Request) → HandsInCopies before (H.accepted hand.old) end.old.handed_in → HandsInCopies before (H.accepted hand.new) end.new.handed_in }
+    ensures counted { end.new.handed_in ≤ length (H.accepted hand.new) }
+    ensures end { (H.sender hand.new ≡ H.sender hand.old) × (H.line hand.new ≡ H.line hand.old) }
+{
+    for copy in copies {
+        if let Some(_seq) = hand_in(rt, hand, copy) {
+            end.handed_in += 1;
+        }
+    }
+}
+
+/// Offers a copy, again and again while the line is full, up to `TRIES` times. Answers its number
+/// where it was accepted.
+fn hand_in<R: Wait, H: Hand>(rt: &R, hand: &mut H, copy: Copying) -> Option<u32>
+    ensures accepted { IfSome result (λ seq. (seq ≡ length (H.accepted hand.new)) × HandsInCopies (H.accepted hand.old) (H.accepted hand.new) 1) }
+    ensures refused { IfNone result (H.accepted hand.new ≡ H.accepted hand.old) }
+    ensures end { (H.sender hand.new ≡ H.sender hand.old) × (H.line hand.new ≡ H.line hand.old) }
+{
+    let backoff = Backoff::new();
+    let mut wish = copy.wish();
+    for _ in 0..TRIES {
+        match hand.offer(rt, wish) {
+            Ok(seq) => return Some(seq),
+            Err(
+                NotTaken {
+                    wish: _wish,
+                    why: Why::Spent,
+                },
+            ) => return None,
+            Err(
+                NotTaken {
+                    wish: back,
+                    why: Why::Full,
+                },
+            ) => {
+                wish = back;
+                backoff.snooze();
+            }
+        }
+    }
+    None
+}

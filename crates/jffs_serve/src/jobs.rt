@@ -1,0 +1,72 @@
+//! The ring of jobs: images of oldest sectors, on their way from the log side to the cleaner.
+
+ghost use Rattle.std.specs.Prelude.{◌≡◌, ◌⊎◌, ◌<◌, ◌↔◌, IsErrOf};
+
+use jffs_line::LineFault;
+use rtrb::{Consumer, Producer, PushError, RingBuffer};
+use std::alloc::Global;
+
+/// The most images that a ring of jobs holds.
+pub const JOBS_MAX: usize = 64;
+
+/// The log side's end of the ring.
+#[derive(Drop)]
+pub struct Jobs {
+    pub(crate) producer: Producer<Vec<u8>>,
+}
+
+/// The cleaner's end of the ring.
+#[derive(Drop)]
+pub struct JobEnd {
+    pub(crate) consumer: Consumer<Vec<u8>>,
+}
+
+/// A ring for so many images, 1 to `JOBS_MAX`; any other number is Capacity. Memory where a growth
+/// was refused.
+pub fn job_ring(alloc: Global, capacity: usize) -> Result<(Jobs, JobEnd), LineFault>
+    ensures capacity { IsErrOf result LineFault.Capacity ↔ ((capacity ≡ 0) ⊎ (64 < capacity)) }
+{
+    if capacity == 0 || capacity > JOBS_MAX {
+        return Err(LineFault::Capacity);
+    }
+    match RingBuffer::new(alloc, capacity) {
+        Ok((producer, consumer)) => Ok((Jobs { producer }, JobEnd { consumer })),
+        Err(_) => Err(LineFault::Memory),
+    }
+}
+
+impl Jobs {
+    ghost use Rattle.std.specs.Prelude.{◌≡◌, ◌++◌, ◌∷◌, [], OnOk, IfErr};
+    ghost use Rattle.rtrb.specs.Ring.{sent};
+
+    /// Adds an image at the end, or gives it back where the ring is full. Takes no memory.
+    pub fn send(&mut self, image: Vec<u8>) -> Result<(), Vec<u8>>
+        ensures added { OnOk result (sent self.new.producer ≡ sent self.old.producer ++ image ∷ []) }
+        ensures full { IfErr result (λ back. (back ≡ image) × (sent self.new.producer ≡ sent self.old.producer)) }
+    {
+        match self.producer.push(image) {
+            Ok(()) => Ok(()),
+            Err(PushError::Full(image)) => Err(image),
+        }
+    }
+
+    /// Whether there is no place. The cleaner may make one at any time.
+    pub(crate) fn is_full(&mut self) -> bool
+        ensures { sent self.new.producer ≡ sent self.old.producer }
+    {
+        self.producer.is_full()
+    }
+}
+
+impl JobEnd {
+    ghost use Rattle.std.specs.Prelude.{◌≡◌, ◌++◌, ◌∷◌, [], IfSome, IfNone};
+    ghost use Rattle.rtrb.specs.Ring.{received};
+
+    /// Takes the image that was sent first. Takes no memory.
+    pub(crate) fn take(&mut self) -> Option<Vec<u8>>
+        ensures some { IfSome result (λ image. received self.new.consumer ≡ received self.old.consumer ++ image ∷ []) }
+        ensures none { IfNone result (received self.new.consumer ≡ received self.old.consumer) }
+    {
+        self.consumer.pop().ok()
+    }
+}

@@ -1,0 +1,22 @@
+//! Serving: the log side takes requests from a line, answers them and publishes each answer, and a
+//! cleaner asks for copies of what still lives in the oldest sector.
+//!
+//! It stands on `jffs_core` for answers, on `jffs_line` for requests, and on `jffs_index` for what
+//! readers see. `serve` carries the promise: each request that is taken is answered once, in the
+//! order in which it was taken, and each answer is published, also where memory is refused on the way.
+//! The answers are a lawful run of the requests, and the core stands for the history after them.
+#![tactic(auto)]
+
+mod answering;
+mod cleaner;
+mod copies;
+mod jobs;
+mod serving;
+mod session;
+#[cfg(test)]
+mod tests;
+
+pub use cleaner::{CleanerEnd, clean_loop};
+pub use jobs::{JOBS_MAX, JobEnd, Jobs, job_ring};
+pub use serving::serve;
+pub use session::{Served, Session};

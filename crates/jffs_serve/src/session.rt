@@ -1,0 +1,73 @@
+//! A session: a core that is served, and the step that it still has to send.
+
+ghost use Rattle.std.specs.Prelude.{◌≡◌, None};
+
+use jffs_core::Core;
+use jffs_flash::Flash;
+use jffs_index::Step;
+use jffs_tree::Cause;
+
+/// How serving ended.
+#[derive(Clone, Copy, Debug, PartialEq, Eq)]
+pub enum Served {
+    /// An Unmount was answered Closed, now or earlier.
+    Closed,
+    /// An Unmount was refused.
+    NotClosed(Cause),
+    /// No hand is left, and nothing waits.
+    Ended,
+    /// A growth was refused. Nothing is lost, and serving again goes on.
+    Memory,
+}
+
+/// What is still to be done with the last answer, and how serving ends once it is done, if it does.
+#[derive(Drop)]
+pub(crate) enum Kept {
+    /// The step is still to be put.
+    Unput(Step, Option<Served>),
+    /// The step was put, and is still to be published.
+    Unpublished(Option<Served>),
+}
+
+/// A mounted core that is served, with the step of its last answer until that is published.
+#[derive(Drop)]
+pub struct Session<F: Flash> {
+    pub(crate) core: Core<F>,
+    pub(crate) kept: Option<Kept>,
+    /// How many erases there had been when the last job was sent: only an erase gives the log
+    /// another oldest sector.
+    pub(crate) sent_at: Option<u64>,
+}
+
+impl<F: Flash> Session<F> {
+    /// A session over a core, with nothing to send.
+    pub fn new(core: Core<F>) -> Session<F>
+        ensures core { result.core ≡ core }
+        ensures kept { result.kept ≡ None }
+    {
+        Session {
+            core,
+            kept: None,
+            sent_at: None,
+        }
+    }
+
+    /// The core.
+    pub fn core(&self) -> &Core<F>
+        ensures { result.now ≡ self.now.core }
+    {
+        &self.core
+    }
+
+    /// Gives the core back. A step that wasn't sent is lost.
+    pub fn into_core(self) -> Core<F>
+        ensures { result ≡ self.core }
+    {
+        let Session {
+            core,
+            kept: _kept,
+            sent_at: _,
+        } = self;
+        core
+    }
+}

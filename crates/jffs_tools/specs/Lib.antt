@@ -1,0 +1,5 @@
+pub mod Causes
+pub mod Rules
+pub mod Refusals
+pub mod Texts
+pub mod Telling

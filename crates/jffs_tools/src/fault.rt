@@ -1,0 +1,94 @@
+//! What ends a tool before its work is done.
+
+use jffs_node::NoMemory;
+use jffs_text::{DumpFault, ScriptWhy};
+use std::alloc::{AllocError, AllocFailed};
+use std::io;
+use thiserror::Error;
+
+/// The status of a tool that did all that it was asked for.
+pub(crate) const DONE: u8 = 0;
+/// The status of a tool that lacked memory, or that could not read its input or write its output.
+pub(crate) const BROKEN: u8 = 1;
+/// The status of a tool that was called in a wrong way.
+pub(crate) const MISUSED: u8 = 2;
+/// The status of an image that the scan refuses.
+pub(crate) const REFUSED: u8 = 3;
+
+/// Why a tool ends before its work is done.
+#[derive(Clone, Copy, Debug, PartialEq, Eq, Error)]
+pub enum ToolFault {
+    /// A line that is no operation.
+    #[error("no operation: {0}")]
+    Operation(ScriptWhy),
+    /// An operation that wants flash, before any stands there.
+    #[error("there is no flash yet")]
+    NoFlash,
+    /// An operation that wants a core, where none is mounted.
+    #[error("nothing is mounted")]
+    NotMounted,
+    /// A request to a core that was unmounted.
+    #[error("the core is closed")]
+    Closed,
+    /// A file that can't be read.
+    #[error("the file can't be read")]
+    File,
+    /// An image that isn't as long as its sectors together.
+    #[error("the image has another length than its sectors")]
+    Length,
+    /// The words of a call aren't two numbers.
+    #[error("SECTORS and SECTOR_SIZE are wanted, two numbers")]
+    Words,
+    /// Standard input can't be read.
+    #[error("standard input can't be read")]
+    Read,
+    /// Standard output can't be written.
+    #[error("standard output can't be written")]
+    Write,
+    /// A growth was refused.
+    #[error("out of memory")]
+    Memory,
+}
+
+impl ToolFault {
+    /// The status that a tool ends with.
+    pub(crate) fn status(self) -> u8 {
+        match self {
+            ToolFault::Read | ToolFault::Write | ToolFault::Memory => BROKEN,
+            _ => MISUSED,
+        }
+    }
+}
+
+impl From<io::Error> for ToolFault {
+    fn from(_: io::Error) -> ToolFault {
+        ToolFault::Write
+    }
+}
+
+impl From<DumpFault> for ToolFault {
+    fn from(fault: DumpFault) -> ToolFault {
+        match fault {
+            DumpFault::Write => ToolFault::Write,
+            DumpFault::Memory => ToolFault::Memory,
+        }
+    }
+}
+
+impl From<NoMemory> for ToolFault {
+    fn from(_: NoMemory) -> ToolFault {
+        ToolFault::Memory
+    }
+}
+
+impl From<AllocError> for ToolFault {
+    fn from(_: AllocError) -> ToolFault {
+        ToolFault::Memory
+    }
+}
+
+impl<T: Drop> From<AllocFailed<T>> for ToolFault {
+    fn from(_: AllocFailed<T>) -> ToolFault {
+        ToolFault::Memory
+    }
+}

@@ -1,0 +1,198 @@
+//! A core that is driven operation by operation.
+
+ghost use Rattle.std.specs.Prelude.{◌≡◌, ◌≢◌, ◌*◌, ◌↔◌, vec_len, IfOk, IsErrOf};
+ghost use Rattle.jffs_flash.specs.Device.{device_of};
+
+use crate::did::{Answered, Did};
+use crate::fault::ToolFault;
+use crate::operation::Fuse;
+use crate::telling::{count_given, did, last_place, own_records, totals};
+use crate::texts::{digest_text, mounted_next_text, scan_refused_text};
+use jffs_core::{Cleaned, Core};
+use jffs_flash::{Fail, FuseFlash, Fused, MemoryFlash};
+use jffs_line::Request;
+use jffs_log::ScanFault;
+use jffs_text::dump;
+use std::alloc::Global;
+use std::io::Write;
+use std::mem;
+
+/// The flash, as it stands between two operations.
+#[derive(Drop)]
+enum Device {
+    Absent,
+    /// Not mounted.
+    Bare(MemoryFlash),
+    Mounted(Core<FuseFlash>),
+}
+
+/// What stands between two operations: the flash, or the core that is mounted on it, and the fuse
+/// for the next mount.
+#[derive(Drop)]
+pub struct Replay {
+    alloc: Global,
+    device: Device,
+    fuse: Option<Fuse>,
+}
+
+impl Replay {
+    /// No flash yet.
+    pub fn new(alloc: Global) -> Replay {
+        Replay {
+            alloc,
+            device: Device::Absent,
+            fuse: None,
+        }
+    }
+
+    /// Begins with flash that holds these bytes, in place of any that stood there. `Length` where
+    /// they aren't as many as the sectors have together: nothing is changed.
+    pub fn begin(
+        &mut self,
+        sectors: u32,
+        sector_size: u32,
+        bytes: Vec<u8>,
+    ) -> Result<(), ToolFault> {
+        self.device = Device::Bare(flash_of(sectors, sector_size, bytes)?);
+        Ok(())
+    }
+
+    /// Puts a fuse round the flash at the next mount.
+    pub fn fuse(&mut self, fuse: Fuse) {
+        self.fuse = Some(fuse);
+    }
+
+    /// Mounts the bare flash and writes what the mount found, or why it is refused. `NoFlash`
+    /// where there is none.
+    pub fn mount<W: Write>(&mut self, out: &mut W) -> Result<(), ToolFault> {
+        let flash = match mem::replace(&mut self.device, Device::Absent) {
+            Device::Absent => return Err(ToolFault::NoFlash),
+            Device::Bare(flash) => flash,
+            Device::Mounted(core) => core.into_flash().into_inner(),
+        };
+        let flash = fused(flash, mem::replace(&mut self.fuse, None));
+        match Core::mount(self.alloc, flash) {
+            Ok(core) => {
+                write_mounted(self.alloc, &core, out)?;
+                self.device = Device::Mounted(core);
+            }
+            Err(ScanFault { why, flash }) => {
+                let text = scan_refused_text(self.alloc, why)?;
+                out.write_all(text.as_bytes())?;
+                self.device = Device::Bare(flash.into_inner());
+            }
+        }
+        Ok(())
+    }
+
+    /// Answers a request. `NotMounted` without a core, `Closed` where an Unmount was answered
+    /// Closed, `Memory` where the place for the answer was refused: nothing is changed.
+    pub fn request(&mut self, request: Request) -> Result<Answered, ToolFault> {
+        let core = self.core()?;
+        if core.closed() {
+            return Err(ToolFault::Closed);
+        }
+        let before = count_given(core);
+        core.reserve_answer().map_err(|_| ToolFault::Memory)?;
+        let outcome = core.answer(request);
+        let appended = count_given(core).saturating_sub(before);
+        Ok(Answered {
+            did: did(outcome, appended, last_place(core)),
+            copies: appended.saturating_sub(own_records(outcome, appended)),
+            totals: totals(core),
+        })
+    }
+
+    /// Cleans the oldest sector. `NotMounted` without a core.
+    pub fn clean_oldest(&mut self) -> Result<Answered, ToolFault> {
+        let core = self.core()?;
+        let did = match core.clean_oldest() {
+            Ok(Cleaned::Erased { sector, copies }) => Did::Cleaned { sector, copies },
+            Ok(Cleaned::OneSector) => Did::OneSector,
+            Err(cause) => Did::Refused(cause),
+        };
+        Ok(Answered {
+            did,
+            copies: 0,
+            totals: totals(core),
+        })
+    }
+
+    /// Erases the oldest sectors while they hold nothing live. `NotMounted` without a core.
+    pub fn erase_dead(&mut self) -> Result<Answered, ToolFault> {
+        let core = self.core()?;
+        let did = match core.erase_dead() {
+            Ok(erased) => Did::Erased(erased),
+            Err(cause) => Did::Refused(cause),
+        };
+        Ok(Answered {
+            did,
+            copies: 0,
+            totals: totals(core),
+        })
+    }
+
+    /// Writes the SHA-256 digest of the whole image in hex. `NoFlash` where there is none.
+    pub fn digest<W: Write>(&self, out: &mut W) -> Result<(), ToolFault> {
+        out.write_all(digest_text(self.alloc, self.bytes()?)?.as_bytes())?;
+        Ok(())
+    }
+
+    /// The bytes of the whole image. `NoFlash` where there is none.
+    pub(crate) fn bytes(&self) -> Result<&[u8], ToolFault> {
+        match &self.device {
+            Device::Absent => Err(ToolFault::NoFlash),
+            Device::Bare(flash) => Ok(flash.bytes()),
+            Device::Mounted(core) => Ok(core.log().flash.inner().bytes()),
+        }
+    }
+
+    fn core(&mut self) -> Result<&mut Core<FuseFlash>, ToolFault> {
+        match &mut self.device {
+            Device::Mounted(core) => Ok(core),
+            Device::Bare(_) | Device::Absent => Err(ToolFault::NotMounted),
+        }
+    }
+}
+
+/// Flash that holds these bytes. `Length` where they aren't as many as the sectors have together.
+pub(crate) fn flash_of(
+    sectors: u32,
+    sector_size: u32,
+    bytes: Vec<u8>,
+) -> Result<MemoryFlash, ToolFault>
+    ensures flash { IfOk result (λ flash. flash ≡ device_of sectors sector_size bytes.items) }
+    ensures length { IsErrOf result ToolFault.Length ↔ (vec_len bytes ≢ sectors * sector_size) }
+{
+    if bytes.len() as u64 != u64::from(sectors) * u64::from(sector_size) {
+        return Err(ToolFault::Length);
+    }
+    Ok(MemoryFlash::from_bytes(sectors, sector_size, bytes))
+}
+
+/// The flash with its fuse; without one no call fails.
+fn fused(flash: MemoryFlash, fuse: Option<Fuse>) -> FuseFlash {
+    match fuse {
+        Some(Fuse { calls, fused, fail }) => FuseFlash::new(flash, u64::from(calls), fused, fail),
+        None => FuseFlash::new(flash, u64::MAX, Fused::Writes, Fail::Nothing),
+    }
+}
+
+/// `mounted clean next V I`, and each line of the dump behind a bar.
+fn write_mounted<W: Write>(
+    alloc: Global,
+    core: &Core<FuseFlash>,
+    out: &mut W,
+) -> Result<(), ToolFault> {
+    let mounted = mounted_next_text(alloc, core.clean(), &core.limits())?;
+    let mut lines = Vec::new(alloc);
+    dump(alloc, core.tree(), &mut lines)?;
+    out.write_all(mounted.as_bytes())?;
+    for line in lines.split(|byte| *byte == b'\n') {
+        if line.len() > 0 {
+            out.write_all(b" | ")?;
+            out.write_all(line)?;
+        }
+    }
+    Ok(())
+}

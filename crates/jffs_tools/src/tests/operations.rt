@@ -1,0 +1,127 @@
+//! Operations one by one.
+
+use super::records::{DIRECTORY, FILE, Record, image_of};
+use super::{replayed, replays, replays_from};
+use std::test::Fail;
+
+#[test]
+fn an_erased_volume_is_closed_once(rt: HostRuntime) -> Result<(), Fail> {
+    replays(
+        &rt,
+        "flash 8 1024\nimage\nmount\nrequest 10 1 unmount\nimage\nmount\nrequest 10 1 unmount\nimage\n",
+        "ready\n7d2c7ac4888bfd75cd5f56e8d61f69595121183afc81556c876732fd3782c62f\nmounted unclean next 1 2 | d /\nclosed at 0 ; erased 7 erases 0 weight 0 next 2 2\n479391381a079cebb156c9e3a5edd6ee02a8987817e6466bcc0695f98f6fda8c\nmounted clean next 2 2 | d /\nclosed ; erased 7 erases 0 weight 0 next 2 2\n479391381a079cebb156c9e3a5edd6ee02a8987817e6466bcc0695f98f6fda8c\n",
+    )
+}
+
+#[test]
+fn hostile_copies_are_refused(rt: HostRuntime) -> Result<(), Fail> {
+    replays(
+        &rt,
+        "flash 6 1024\nmount\nrequest 1 1 create /f\nrequest 1 2 write /f 0 68656c6c6f\nrequest 1 3 write /f 0 4a\nrequest 9 1 copy 2 1 f 0 68656c6c6f\nrequest 9 2 copy 2 1 g 0 4a656c6c6f\nrequest 9 3 copy 2 1 f 6 -\nrequest 9 4 copy 2 1 f 0 4a656c6c6f\nrequest 9 5 copy 1 1 f 0 -\nrequest 1 4 remove /f\nrequest 9 6 copy 4 1 f 0 4a656c6c6f\n",
+        "ready\nmounted unclean next 1 2 | d /\nappended 2 1 at 0 ; erased 5 erases 0 weight 64 next 2 3\nappended 2 2 at 64 ; erased 5 erases 0 weight 72 next 3 3\nappended 2 3 at 136 ; erased 5 erases 0 weight 140 next 4 3\nrefused Stale ; erased 5 erases 0 weight 140 next 4 3\nrefused Stale ; erased 5 erases 0 weight 140 next 4 3\nrefused Stale ; erased 5 erases 0 weight 140 next 4 3\ncopied 4 at 204 ; erased 5 erases 0 weight 72 next 5 3\nrefused NotNeeded ; erased 5 erases 0 weight 72 next 5 3\nappended 2 5 at 276 ; erased 5 erases 0 weight 0 next 6 3\nrefused NotNeeded ; erased 5 erases 0 weight 0 next 6 3\n",
+    )
+}
+
+#[test]
+fn a_failed_core_tells_of_nothing_more(rt: HostRuntime) -> Result<(), Fail> {
+    replays(
+        &rt,
+        "flash 6 1024\nfuse 3 Writes Nothing\nmount\nrequest 1 1 create /a\nrequest 1 2 create /b\nrequest 1 3 create /c\nclean_oldest\nerase_dead\nmount\nrequest 1 1 create /c\n",
+        "ready\nready\nmounted unclean next 1 2 | d /\nappended 2 1 at 0 ; erased 5 erases 0 weight 64 next 2 3\nrefused Device\nrefused Failed\nrefused Failed\nrefused Failed\nmounted unclean next 2 3 | d / | f /a 0 -\nappended 3 2 at 1024 ; erased 4 erases 0 weight 128 next 3 4\n",
+    )
+}
+
+#[test]
+fn half_a_record_does_not_count(rt: HostRuntime) -> Result<(), Fail> {
+    replays(
+        &rt,
+        "fuse 1 Writes Half\nflash 6 1024\nmount\nrequest 1 1 create /a\nmount\nrequest 1 1 create /c\nerase_dead\nclean_oldest\n",
+        "ready\nready\nmounted unclean next 1 2 | d /\nrefused Device\nmounted unclean next 1 2 | d /\nappended 2 1 at 1024 ; erased 4 erases 0 weight 64 next 2 3\nerased 1 ; erased 5 erases 1 weight 64 next 2 3\none sector ; erased 5 erases 1 weight 64 next 2 3\n",
+    )
+}
+
+#[test]
+fn a_read_that_fails_refuses_the_mount(rt: HostRuntime) -> Result<(), Fail> {
+    replays(
+        &rt,
+        "flash 6 1024\nfuse 0 All Half\nmount\nmount\n",
+        "ready\nready\nrefused Device\nmounted unclean next 1 2 | d /\n",
+    )
+}
+
+#[test]
+fn spent_numbers_are_none(rt: HostRuntime) -> Result<(), Fail> {
+    let last = Record {
+        version: u32::MAX,
+        ..DIRECTORY
+    };
+    replays_from(
+        &rt,
+        image_of(rt.alloc(), &[&[last]], 6)?,
+        "mount\nrequest 1 1 create /x\nrequest 1 2 mkdir /a\nrequest 10 1 unmount\n",
+        "mounted unclean next none 3 | d / | d /a\nrefused VersionsSpent ; erased 5 erases 0 weight 64 next none 3\nrefused NameTaken ; erased 5 erases 0 weight 64 next none 3\nrefused VersionsSpent ; erased 5 erases 0 weight 64 next none 3\n",
+    )?;
+    let highest = Record {
+        inode: u32::MAX,
+        ..FILE
+    };
+    replays_from(
+        &rt,
+        image_of(rt.alloc(), &[&[highest]], 6)?,
+        "mount\nrequest 1 1 create /x\nrequest 1 2 rename /f /x\n",
+        "mounted unclean next 2 none | d / | f /f 0 -\nrefused InodesSpent ; erased 5 erases 0 weight 64 next 2 none\nappended 4294967295 2 at 64 ; erased 5 erases 0 weight 64 next 3 none\n",
+    )?;
+    Ok(())
+}
+
+#[test]
+fn the_last_version_is_counted(rt: HostRuntime) -> Result<(), Fail> {
+    let last = Record {
+        version: u32::MAX - 1,
+        ..DIRECTORY
+    };
+    replays_from(
+        &rt,
+        image_of(rt.alloc(), &[&[last]], 6)?,
+        "mount\nrequest 10 1 unmount\n",
+        "mounted unclean next 4294967295 3 | d / | d /a\nclosed at 64 ; erased 5 erases 0 weight 64 next none 3\n",
+    )?;
+    Ok(())
+}
+
+#[test]
+fn what_is_no_operation_stops_a_replay(rt: HostRuntime) -> Result<(), Fail> {
+    for script in [
+        "mount",
+        "image",
+        "request 1 1 create /a",
+        "clean_oldest",
+        "flash 6",
+        "flash 6 1k",
+        "frobnicate",
+        "mount now",
+        "fuse 1 Reads Half",
+        "image no_such_file 6 1024",
+        "request 65536 1 create /a",
+        "request 1 1 copy 1 1 a/b 0 -",
+        "request 1 1 write /a 0 6",
+    ] {
+        let script = format!(in rt.alloc();
+            "# A comment.\n\nfuse 1 All Nothing\n{script}\nfuse 1 All Nothing\n"
+        )?;
+        let out = replayed(&rt, script.as_str(), 2)?;
+        assert_eq!(rt; out.as_str(), "ready\n", "of {script}");
+    }
+    Ok(())
+}
+
+#[test]
+fn a_closed_core_takes_no_request(rt: HostRuntime) -> Result<(), Fail> {
+    let out = replayed(
+        &rt,
+        "flash 6 1024\nmount\nrequest 10 1 unmount\nrequest 1 1 create /a\n",
+        2,
+    )?;
+    assert!(rt; out.as_str().ends_with("next 2 2\n"));
+    Ok(())
+}

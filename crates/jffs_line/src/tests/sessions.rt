@@ -12,15 +12,14 @@ use std::sync::Wait;
 use std::thread;
 use std::thread::Threads;
 
-/// Offers so many wishes, each until it is accepted.
+/// Offers so many wishes, each until it is accepted; an Unmount in place of one that has no memory, so that the taker
+/// gets as many as it waits for.
 fn hand_in_all<H: Hand, R: Wait>(rt: &R, alloc: Global, hand: H, count: u32) -> H
     ensures { ◌≡◌ {A = End} (H.sender result, H.line result) (H.sender hand, H.line hand) }
 {
     let mut hand = hand;
     for size in 0..count {
-        if let Some(wish) = wish(alloc, size) {
-            insist(rt, &mut hand, wish);
-        }
+        insist(rt, &mut hand, wish(alloc, size).unwrap_or(Wish::Unmount));
     }
     hand
 }
@@ -78,17 +77,17 @@ struct Took<T: Taker> {
     requests: Vec<Request>,
 }
 
-/// Takes so many requests.
+/// Takes so many requests, also where there is no memory to keep them, since writers wait to be rid of theirs.
 fn take_all<T: Taker, R: Wait>(rt: &R, alloc: Global, taker: T, count: usize) -> Took<T>
     ensures { T.ends result.taker ≡ T.ends taker }
 {
     let mut taker = taker;
     let mut requests = Vec::new(alloc);
     for _ in 0..count {
-        match taker.take(rt) {
-            Some(request) if requests.reserve(1).is_ok() => requests.push_reserved(request),
-            _ => break,
-        }
+        let Some(request) = taker.take(rt) else {
+            break;
+        };
+        let _ = requests.push(request);
     }
     Took { taker, requests }
 }

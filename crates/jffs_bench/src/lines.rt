@@ -23,14 +23,8 @@ pub(crate) fn measure_lines<R: Threads + Wait + Sync + Clock, W: Write + Drop>(
     alloc: Global,
     measure: &mut Measure<W>,
 ) -> Result<(), Fault> {
-    for writers in [1u16, 2, 8] {
-        measure.title(if writers == 1 {
-            "1 writer"
-        } else if writers == 2 {
-            "2 writers"
-        } else {
-            "8 writers"
-        })?;
+    for (title, writers) in [("1 writer", 1u16), ("2 writers", 2), ("8 writers", 8)] {
+        measure.title(title)?;
         let each = measure.scale.times(40_000) / u32::from(writers);
         let start = Instant::now(rt)?;
         let taken = send_all(rt, alloc, writers, each)?;

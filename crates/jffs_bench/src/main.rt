@@ -1,4 +1,4 @@
-//! The program `jffs_bench`: how long mounts, requests, lines and looks take.
+//! The program `jffs_bench`: how long mounts, requests, lines, looks and whole scripts take.
 //!
 //! Without arguments it measures all. With the word `check` each part runs in small, and no times
 //! are printed.
@@ -10,6 +10,7 @@ mod looks;
 mod measure;
 mod mounts;
 mod requests;
+mod scripts;
 mod volume;
 
 use crate::fault::Fault;
@@ -41,6 +42,7 @@ fn measure_all<R: Runtime<A = Global> + Threads + Wait + Sync>(rt: &R) -> Result
     requests::measure_requests(rt, rt.alloc(), &mut measure)?;
     lines::measure_lines(rt, rt.alloc(), &mut measure)?;
     looks::measure_looks(rt, rt.alloc(), &mut measure)?;
+    scripts::measure_scripts(rt, rt.alloc(), &mut measure)?;
     measure.finish()
 }
 

@@ -10,8 +10,8 @@ use Rattle.jffs_line.specs.declared.request.Request.{Request}
 use Rattle.jffs_line.specs.Requests.{of, request, IsNumbered}
 use Rattle.jffs_line.specs.declared.hand.Hand as Hand
 use Rattle.jffs_line.specs.declared.hand.Hands.{Hands}
-use Rattle.jffs_serve.specs.Replies.{Reply, AllReply, answer_in}
-use Rattle.jffs_tree.specs.Origin.{Tree}
+use Rattle.jffs_serve.specs.declared.session.Served.{Served}
+use Rattle.jffs_serve.specs.Replies.{Reply, AllReply, answer_in, any_closed, FitsServed}
 use Rattle.jffs_text.specs.declared.script.Writer.{Writer}
 use Rattle.jffs_text.specs.declared.script.ReaderStatement.{ReaderStatement}
 use Rattle.jffs_run.specs.declared.reader.ReaderEnd.{ReaderEnd}
@@ -172,7 +172,7 @@ module _ {H : Type 0} (g : Hand.Ghosts H) where
 
   -- what all threads did makes a run
   pub is_run :
-      (start core : Standing) (count len : ℕ) (image : List ℕ) (erase_failed : Bool) (script : List Writer) (statements : List ReaderStatement) (opening : Tree) (hands : Hands H) (replies : List Reply) (waiting : List Request) (ends : List ReaderEnd)
+      (start core : Standing) (count len : ℕ) (image : List ℕ) (erase_failed : Bool) (script : List Writer) (statements : List ReaderStatement) (hands : Hands H) (replies : List Reply) (waiting : List Request) (ends : List ReaderEnd) (served : Served)
       → length script ≤ 8 → length hands.writers.items ≡ length script
       → map g.sender (all_hands g hands) ≡ senders (length script)
       → EachFrom (HandedIn g script) 0 hands.writers.items
@@ -183,10 +183,11 @@ module _ {H : Type 0} (g : Hand.Ghosts H) where
       → All (λ hand. of (g.sender hand) (requests_in replies) ++ of (g.sender hand) waiting ≡ g.accepted hand) (all_hands g hands)
       → All (λ hand. IsNumbered (g.accepted hand)) (all_hands g hands)
       → ((sender : ℕ) → (Contains (map g.sender (all_hands g hands)) sender → ⊥) → of sender (requests_in replies) ++ of sender waiting ≡ [])
-      → EachFrom (HasSeen (record { opening = opening; steps = map (λ (r : Reply). r.step) replies }) statements) 0 ends
+      → EachFrom (HasSeen (record { opening = start.tree; steps = map (λ (r : Reply). r.step) replies }) statements) 0 ends
       → IsLeftBy core count len image erase_failed → ((mounted past : List Node) → StandsFor mounted past start → RunsTo start core mounted past replies)
-      → IsRun start script statements (λ sender. accepted_by g sender (all_hands g hands)) (map answer_in replies) waiting ends count len image erase_failed
-  is_run start core sectors len image erase_failed script statements opening hands replies waiting ends eight count numbers first whole copies unmounts replied settled counted others seen left lawful =
+      → FitsServed served (any_closed (map answer_in replies)) replies
+      → IsRun start script statements (λ sender. accepted_by g sender (all_hands g hands)) (map answer_in replies) waiting ends served count len image erase_failed
+  is_run start core sectors len image erase_failed script statements hands replies waiting ends served eight count numbers first whole copies unmounts replied settled counted others seen left lawful ending =
       let writers : List H = hands.writers.items in
       let tail : List H = hands.cleaner ∷ hands.control.hand ∷ [] in
       let accepted : ℕ → List Request = λ sender. accepted_by g sender (writers ++ tail) in
@@ -206,8 +207,8 @@ module _ {H : Type 0} (g : Hand.Ghosts H) where
       let each : (sender : ℕ) → of sender (requests_in replies) ++ of sender waiting ≡ accepted sender =
       λ sender. each_settled (requests_in replies) waiting (all_hands g hands) settled sender (others sender) in
       record {
-        opening = opening;
         seen = seen;
+        ending = ending;
         core = core;
         left = left;
         lawful = lawful;

@@ -6,3 +6,4 @@ pub mod Seeing
 pub mod Crews
 pub mod Runs
 pub mod Scanning
+pub mod Unmounting

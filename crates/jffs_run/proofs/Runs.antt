@@ -1,5 +1,5 @@
 -- Lemmas that put a run together.
-use Rattle.std.proofs.Common.{◌≡◌, ◌≤◌, ℕ, Bool, ◌+◌, List, [], ◌∷◌, ◌++◌, length, map, refl, sym, ◌∙◌, ap, subst, arith, append-nil, append_assoc, length-append, get_or, Option}
+use Rattle.std.proofs.Common.{◌≡◌, ◌≤◌, ℕ, Bool, ◌+◌, List, [], ◌∷◌, ◌++◌, length, map, refl, sym, ◌∙◌, ap, ap₂, subst, arith, append-nil, append_assoc, length-append, get_or, Option}
 use Rattle.std.specs.List.{All, Contains, range_with_len}
 use Rattle.std.proofs.lemmas.List.{length-map}
 use Rattle.std.proofs.lemmas.List.FromFn.{length-range_with_len}
@@ -11,6 +11,7 @@ use Rattle.jffs_line.specs.declared.hand.Hand as Hand
 use Rattle.jffs_line.specs.declared.hand.Hands.{Hands}
 use Rattle.jffs_line.proofs.Settling.{All-left, All-right}
 use Rattle.jffs_core.specs.Standing.{Standing}
+use Rattle.jffs_tree.specs.Origin.{Tree}
 use Rattle.jffs_index.specs.declared.step.Step.{Step}
 use Rattle.jffs_index.specs.declared.rule.History.{History}
 use Rattle.jffs_index.specs.Histories.{view_of}
@@ -18,7 +19,8 @@ use Rattle.jffs_index.specs.Shown.{opened}
 use Rattle.jffs_index.proofs.Kept.{answered-fold}
 use Rattle.jffs_serve.specs.declared.session.Kept.{Kept}
 use Rattle.jffs_serve.specs.Kept.{unput}
-use Rattle.jffs_serve.specs.Replies.{Reply, answer_in}
+use Rattle.jffs_serve.specs.declared.session.Served.{Served}
+use Rattle.jffs_serve.specs.Replies.{Reply, answer_in, any_closed, FitsServed}
 use Rattle.jffs_serve.specs.Answered.{Start, HasReplied}
 use Rattle.jffs_core.specs.declared.answer.Answer.{Answer}
 use Rattle.jffs_text.specs.declared.script.Writer.{Writer}
@@ -72,24 +74,25 @@ module _ {H : Type 0} (g : Hand.Ghosts H) where
   pub whole_run :
       (script : List Writer) (statements : List ReaderStatement) (crew : Crew H) (hands : Hands H)
       (core : Standing) (kept : Option Kept) (published : History) (pending : List Step)
-      (start : Start) (taken : ℕ → List Request) (replies : List Reply) (waiting : List Request) (ends : List ReaderEnd)
+      (start : Start) (taken : ℕ → List Request) (replies : List Reply) (waiting : List Request) (ends : List ReaderEnd) (served : Served)
       (count len : ℕ) (image : List ℕ) (erase_failed : Bool)
       → length script ≤ 8 → map g.sender (crew_hands g crew) ≡ senders (length script)
       → HasHandedIn g script crew hands
-      → ((w : ℕ) → start.taken w ≡ []) → start.standing.answers ≡ [] → start.put ≡ []
+      → ((w : ℕ) → start.taken w ≡ []) → start.standing.answers ≡ [] → start.put ≡ [] → published.opening ≡ start.standing.tree
       → HasReplied start core kept (published.steps ++ pending) taken replies
       → All (λ hand. taken (g.sender hand) ++ of (g.sender hand) waiting ≡ g.accepted hand) (all_hands g hands)
       → All (λ hand. IsNumbered (g.accepted hand)) (all_hands g hands)
       → ((w : ℕ) → (Contains (map g.sender (all_hands g hands)) w → ⊥) → taken w ++ of w waiting ≡ [])
       → ((history : History) → IsWhole published (length core.answers) history → EachFrom (HasSeen history statements) 0 ends)
       → IsLeftBy core count len image erase_failed
-      → IsRun start.standing script statements (λ sender. accepted_by g sender (all_hands g hands)) core.answers waiting ends count len image erase_failed
-  whole_run script statements crew hands core kept published pending start taken replies waiting ends count len image erase_failed eight numbers handed untaken unanswered unput_before has settled numbered others seen left =
+      → FitsServed served core.closed replies
+      → IsRun start.standing script statements (λ sender. accepted_by g sender (all_hands g hands)) core.answers waiting ends served count len image erase_failed
+  whole_run script statements crew hands core kept published pending start taken replies waiting ends served count len image erase_failed eight numbers handed untaken unanswered unput_before opened_is has settled numbered others seen left ending =
       let answers_are : core.answers ≡ map answer_in replies = has.answered ∙ ap (λ (l : List Answer). l ++ map answer_in replies) unanswered in
       let taken_is : (w : ℕ) → taken w ≡ of w (requests_in replies) = λ w. has.all_taken w ∙ ap (λ (l : List Request). l ++ of w (requests_in replies)) (untaken w) in
       let now = same_senders (all_hands g hands) (crew_hands g crew) handed.ends ∙ numbers in
       let steps : List Step = map (λ (r : Reply). r.step) replies in
-      let history : History = record { opening = published.opening; steps = steps } in
+      let history : History = record { opening = start.standing.tree; steps = steps } in
       let put : published.steps ++ (pending ++ unput kept) ≡ steps =
       sym (append_assoc published.steps pending (unput kept)) ∙ (has.sent ∙ ap (λ (l : List Step). l ++ steps) unput_before) in
       let whole : IsWhole published (length core.answers) history = λ counted.
@@ -97,12 +100,13 @@ module _ {H : Type 0} (g : Hand.Ghosts H) where
       let answers : length core.answers ≡ length (map answer_in replies) = ap (length {A = Answer}) answers_are in
       let replies_many : length (map answer_in replies) ≡ length replies = length-map replies answer_in in
       let steps_many : length steps ≡ length replies = length-map replies (λ (r : Reply). r.step) in
-      ap (λ (l : List Step). let h : History = record { opening = published.opening; steps = l } in h) (sym (whole-beginning published.steps (pending ++ unput kept) steps put (omega arith))) in
-      subst (λ (answers : List Answer). IsRun start.standing script statements (λ sender. accepted_by g sender (all_hands g hands)) answers waiting ends count len image erase_failed) (sym answers_are)
-      (is_run g start.standing core count len image erase_failed script statements published.opening hands replies waiting ends eight
+      ap₂ (λ (t : Tree) (l : List Step). let h : History = record { opening = t; steps = l } in h) (sym opened_is) (sym (whole-beginning published.steps (pending ++ unput kept) steps put (omega arith))) in
+      subst (λ (answers : List Answer). IsRun start.standing script statements (λ sender. accepted_by g sender (all_hands g hands)) answers waiting ends served count len image erase_failed) (sym answers_are)
+      (is_run g start.standing core count len image erase_failed script statements hands replies waiting ends served eight
       (count_writers hands.writers.items hands.cleaner hands.control.hand (length script) now) now
       handed.first handed.whole handed.cleaner handed.control has.reply
       (λ k d below. let w : ℕ = g.sender (get_or (all_hands g hands) k d) in ap (λ (l : List Request). l ++ of w waiting) (sym (taken_is w)) ∙ settled k d below)
       numbered
       (λ w none. ap (λ (l : List Request). l ++ of w waiting) (sym (taken_is w)) ∙ others w none)
-      (seen history whole) left has.lawful)
+      (seen history whole) left has.lawful
+      (subst (λ (closed : Bool). FitsServed served closed replies) (has.closed ∙ ap any_closed answers_are) ending))

@@ -1,10 +1,8 @@
 -- What a run leaves on its device.
-use Rattle.std.proofs.Common.{◌≡◌, ℕ, List, Ok, inl, inr, sym, ap, subst, ◌∙◌}
-use Rattle.jffs_node.specs.declared.node.Node.{Node}
+use Rattle.std.proofs.Common.{◌≡◌, ℕ, List, inl, inr, sym, subst, ◌∙◌}
 use Rattle.jffs_log.specs.Image.{past_of}
 use Rattle.jffs_log.specs.Volume.{split}
-use Rattle.jffs_log.specs.Scan.{Scanned, scan}
-use Rattle.jffs_line.specs.declared.request.Request.{Request}
+use Rattle.jffs_log.specs.Scan.{scan}
 use Rattle.jffs_core.specs.Run.{IsLawful}
 use Rattle.jffs_core.specs.Standing.{Standing}
 use Rattle.jffs_core.specs.declared.answer.Answer.{Answer}
@@ -19,7 +17,7 @@ same_scan : (core : Standing) (sectors sector_size : ℕ) (image : List ℕ) (er
 same_scan core sectors sector_size image erase_failed left = λ i. scan (left.0.1 i) (split (left.0.0 i) (left.0.1 i) (left.1 i))
 
 pub runs_leave_contents : RunsLeaveContents
-runs_leave_contents count len faults before had_failed start script statements accepted answers waiting ends sectors sector_size image erase_failed fresh run works =
+runs_leave_contents count len faults before had_failed start script statements accepted answers waiting ends served sectors sector_size image erase_failed fresh run works =
     let mounted = past_of fresh.scanned.log in
     let ran = run.lawful mounted mounted fresh.stands in
     let finds = scans_find mounted ran.after run.core ran.stands works in
@@ -34,7 +32,7 @@ runs_leave_contents count len faults before had_failed start script statements a
     }
 
 pub failed_runs_leave_history : FailedRunsLeaveHistory
-failed_runs_leave_history count len faults before had_failed start script statements accepted answers waiting ends sectors sector_size image erase_failed fresh run fails intact =
+failed_runs_leave_history count len faults before had_failed start script statements accepted answers waiting ends served sectors sector_size image erase_failed fresh run fails intact =
     let mounted = past_of fresh.scanned.log in
     let ran = run.lawful mounted mounted fresh.stands in
     let same = same_scan run.core sectors sector_size image erase_failed run.left in

@@ -10,8 +10,8 @@ use Rattle.jffs_core.specs.Standing.{Standing}
 use Rattle.jffs_core.specs.Past.{StandsFor}
 use Rattle.jffs_core.specs.declared.answer.Answer.{Answer}
 use Rattle.jffs_serve.specs.Answered.{RunsTo}
-use Rattle.jffs_serve.specs.Replies.{Reply, AllReply, answer_in}
-use Rattle.jffs_tree.specs.Origin.{Tree}
+use Rattle.jffs_serve.specs.declared.session.Served.{Served}
+use Rattle.jffs_serve.specs.Replies.{Reply, AllReply, answer_in, any_closed, FitsServed}
 use Rattle.jffs_text.specs.declared.script.Writer.{Writer}
 use Rattle.jffs_text.specs.declared.script.ReaderStatement.{ReaderStatement}
 use Rattle.jffs_run.specs.Wishes.{wishes_of}
@@ -36,9 +36,9 @@ IsLeftBy core count len image erase_failed = HasSizes count len core.book × (im
 -- Some order of the accepted requests was answered, each once, and what each sender has waiting is what it had accepted beyond that, so that its answers are numbered 1, 2, 3, ..
 -- Of each writer the first of its commands were accepted, and all of them where an Unmount was accepted; of the control one Unmount at most, of the cleaner copies alone, and no others
 -- From whatever history the core stood for at the start, the answers are lawful for these requests, and the core at the end, which left the device as it is, stands for the history after them
--- Each reader saw what its path reads after a beginning of the answers, or counts as one that saw nothing
-pub record IsRun (start : Standing) (script : List Writer) (statements : List ReaderStatement) (accepted : ℕ → List Request) (answers : List Answer) (waiting : List Request) (ends : List ReaderEnd) (count len : ℕ) (image : List ℕ) (erase_failed : Bool) : Type 0 where
-  pub opening : Tree
+-- What was served is told by the answers
+-- Each reader saw what its path reads in the opening tree after a beginning of the answers, or counts as one that saw nothing
+pub record IsRun (start : Standing) (script : List Writer) (statements : List ReaderStatement) (accepted : ℕ → List Request) (answers : List Answer) (waiting : List Request) (ends : List ReaderEnd) (served : Served) (count len : ℕ) (image : List ℕ) (erase_failed : Bool) : Type 0 where
   pub replies : List Reply
   pub each_replies : AllReply replies
   pub answers_are : answers ≡ map answer_in replies
@@ -52,4 +52,5 @@ pub record IsRun (start : Standing) (script : List Writer) (statements : List Re
   pub core : Standing
   pub left : IsLeftBy core count len image erase_failed
   pub lawful : (mounted past : List Node) → StandsFor mounted past start → RunsTo start core mounted past replies
-  pub seen : EachFrom (HasSeen (record { opening = opening; steps = map (λ (r : Reply). r.step) replies }) statements) 0 ends
+  pub ending : FitsServed served (any_closed answers) replies
+  pub seen : EachFrom (HasSeen (record { opening = start.tree; steps = map (λ (r : Reply). r.step) replies }) statements) 0 ends

@@ -8,3 +8,4 @@ pub mod Looking
 pub mod Headline
 pub mod Accepted
 pub mod Scanned
+pub mod Unmounted

@@ -1,5 +1,6 @@
 //! Whole programs: a script in, lines out.
 
+mod hundred;
 mod many;
 mod threads;
 

@@ -46,9 +46,10 @@ returns-clause-run g c =
     let count : vec_len script.writers ≡ length script.writers.items = let ok = script.writers.ok in omega arith in
     let run = whole_run g.T.Of.Hand script.writers.items script.readers.items _ finished.hands
     finished.log.side.session.core finished.log.side.session.kept (published finished.log.side.publisher) (pending finished.log.side.publisher)
-    start (g.T.Taker.taken finished.log.side.taker) more.0 c.in_ok-run.run'.waiting.items finished.readers.items _ _ _ _
+    start (g.T.Taker.taken finished.log.side.taker) more.0 c.in_ok-run.run'.waiting.items finished.readers.items finished.log.served _ _ _ _
     (let eight = line.eight in omega (arith, count)) (line.numbers ∙ ap senders count) ran.hands
     line.untaken (ap (λ (s : Standing). s.answers) c.new.ensures.core ∙ c.requires.core.0)
     (ap₂ (λ (h : History) (s : List Step). h.steps ++ s) opened.0 opened.1)
-    more.1 settled.settled settled.numbered settled.others ran.readers settled.left in
-    rw (← c.new.ensures.core, c.of-accepted.ensures, settled.rest.0, settled.rest.1) run
+    (ran.served.opening ∙ (ap (λ (h : History). h.opening) opened.0 ∙ sym (ap (λ (s : Standing). s.tree) c.new.ensures.core)))
+    more.1 settled.settled settled.numbered settled.others ran.readers settled.left more.2 in
+    rw (← c.new.ensures.core, c.of-accepted.ensures, settled.rest.0, settled.rest.1, settled.rest.2) run

@@ -1,0 +1,202 @@
+-- What the end of a run tells of what was accepted.
+use Rattle.std.proofs.Common.{◌≡◌, ◌≢◌, ℕ, ◌+◌, inl, inr, Bool, true, false, ◌||◌, List, [], ◌∷◌, ◌++◌, length, take, map, refl, sym, ◌∙◌, ap, subst, arith, cond, zero, suc}
+use Rattle.std.specs.List.{AllByRecursion}
+use Rattle.std.proofs.lemmas.Bool.{cases_lt}
+use Rattle.std.proofs.lemmas.Bool.Decides.{eqb_tells}
+use Rattle.std.proofs.lemmas.List.{length-map}
+use Rattle.jffs_node.specs.declared.node.Node.{Node}
+use Rattle.jffs_tree.specs.declared.wish.Wish.{Wish}
+use Rattle.jffs_tree.specs.declared.wish.Wish.TheVariants.{MakeDir, Create, Write, Truncate, Rename, Remove, Copy, Unmount}
+use Rattle.jffs_tree.specs.declared.wish.Outcome.{Outcome}
+use Rattle.jffs_tree.specs.declared.wish.Outcome.TheVariants.{Appended, Copied, Closed, Refused}
+use Rattle.jffs_tree.specs.declared.wish.Cause.{Cause}
+use Rattle.jffs_line.specs.declared.request.Request.{Request}
+use Rattle.jffs_line.specs.Requests.{of, request}
+use Rattle.jffs_log.specs.Image.{past_of}
+use Rattle.jffs_core.specs.Standing.{Standing}
+use Rattle.jffs_core.specs.Acting.{is_closed}
+use Rattle.jffs_core.specs.Step.{Volume, Turn, OutcomeIs, is_unmount_wish}
+use Rattle.jffs_core.specs.Run.{AreAnswered}
+use Rattle.jffs_core.specs.declared.answer.Answer.{Answer}
+use Rattle.jffs_serve.specs.declared.session.Served.{Served}
+use Rattle.jffs_serve.specs.declared.session.Served.TheVariants as ending
+use Rattle.jffs_serve.specs.Copies.{IsCopy}
+use Rattle.jffs_serve.specs.Answered.{volume_of}
+use Rattle.jffs_serve.specs.Replies.{Reply, answer_in, any_closed, RefusesUnmount, FitsServed}
+use Rattle.jffs_text.specs.declared.command.Command.{Command}
+use Rattle.jffs_text.specs.declared.command.Command.TheVariants as command
+use Rattle.jffs_text.specs.declared.script.Writer.{Writer}
+use Rattle.jffs_text.specs.declared.script.ReaderStatement.{ReaderStatement}
+use Rattle.jffs_run.specs.Wishes.{wish_of, wishes_of}
+use Rattle.jffs_run.specs.Numbered.{numbered}
+use Rattle.jffs_run.specs.Ends.{AreCopies, commands_at}
+use Rattle.jffs_run.specs.Headline.{IsRun, requests_in}
+use Rattle.jffs_run.specs.Unmounted.{TookAll, AnswersUnmount, FitsEnd, RunsEndUnmounted}
+use Rattle.jffs_run.specs.declared.reader.ReaderEnd.{ReaderEnd}
+
+-- a request for an Unmount is the control's only one
+abbrev IsControls : Request → Type 0
+IsControls q = q.wish ≡ Unmount → q ≡ request 10 1 Unmount
+
+-- no command asks for an Unmount
+no_command : (c : Command) → wish_of c ≡ Unmount → ⊥
+no_command (command.MakeDir path) is = cc
+no_command (command.Create path) is = cc
+no_command (command.Write path offset bytes) is = cc
+no_command (command.Fill path offset count byte) is = cc
+no_command (command.Truncate path size) is = cc
+no_command (command.Rename from to) is = cc
+no_command (command.Remove path) is = cc
+
+-- nor do the first of a writer's requests
+of_commands : (sender n k : ℕ) (commands : List Command) → AllByRecursion IsControls (numbered sender n (take k (wishes_of commands)))
+of_commands sender n zero commands = tt
+of_commands sender n (suc k) [] = tt
+of_commands sender n (suc k) (c ∷ commands) = ((λ is. absurd (no_command c is)), of_commands sender (n + 1) k commands)
+
+-- nor do copies
+of_copies : (requests : List Request) → AreCopies requests → AllByRecursion IsControls requests
+of_copies [] copies = tt
+of_copies (q ∷ requests) copies = ((λ is. absurd (subst IsCopy is copies.0)), of_copies requests copies.1)
+
+front : (P : Request → Type 0) (xs ys : List Request) → AllByRecursion P (xs ++ ys) → AllByRecursion P xs
+front P [] ys all = tt
+front P (x ∷ xs) ys all = (all.0, front P xs ys all.1)
+
+-- what holds of the requests of each sender holds of all
+of_each : (P : Request → Type 0) (requests : List Request) → ((sender : ℕ) → AllByRecursion P (of sender requests)) → AllByRecursion P requests
+of_each P [] each = tt
+of_each P (q ∷ requests) each =
+    let Q : ℕ → Bool → Type 0 = λ sender mine. AllByRecursion P (cond mine (q ∷ of sender requests) (of sender requests)) in (
+      elim (eqb_tells q.writer q.writer) [
+        | inl same ↦ (subst (Q q.writer) same.0 (each q.writer)).0
+        | inr other ↦ absurd (other.1 refl)
+      ],
+      of_each P requests (λ sender. elim (eqb_tells q.writer sender) [
+        | inl same ↦ (subst (Q sender) same.0 (each sender)).1
+        | inr other ↦ subst (Q sender) other.0 (each sender)
+      ]),
+    )
+
+-- an Unmount that was refused is the control's
+refused_one : (replies : List Reply) (cause : Cause) → AllByRecursion IsControls (requests_in replies) → RefusesUnmount replies cause → AnswersUnmount replies (Refused cause)
+refused_one [] cause all refuses = refuses
+refused_one (r ∷ replies) cause all refuses = elim refuses [
+  | inl here ↦ inl (all.0 here.0, here.1)
+  | inr later ↦ inr (refused_one replies cause all.1 later)
+]
+
+-- only an Unmount is answered Closed
+unmount_wish : (w : Wish) → is_unmount_wish w ≡ true → w ≡ Unmount
+unmount_wish (MakeDir path) is = absurd (cc)
+unmount_wish (Create path) is = absurd (cc)
+unmount_wish (Write path offset bytes) is = absurd (cc)
+unmount_wish (Truncate path size) is = absurd (cc)
+unmount_wish (Rename from to) is = absurd (cc)
+unmount_wish (Remove path) is = absurd (cc)
+unmount_wish (Copy source parent name offset bytes) is = absurd (cc)
+unmount_wish Unmount is = refl
+
+closes_unmount : (o : Outcome) (t : Turn) (q : Request) (copies own : List Node) → OutcomeIs o t q copies own → is_closed o ≡ true → (q.wish ≡ Unmount) × (o ≡ Closed)
+closes_unmount (Appended inode version) t q copies own so closed = absurd (cc)
+closes_unmount (Copied version) t q copies own so closed = absurd (cc)
+closes_unmount Closed t q copies own so closed = (unmount_wish q.wish so.0, refl)
+closes_unmount (Refused cause) t q copies own so closed = absurd (cc)
+
+closed_one :
+    (volume : Volume) (past after : List Node) (replies : List Reply)
+    → AreAnswered volume past (requests_in replies) (map answer_in replies) after
+    → AllByRecursion IsControls (requests_in replies) → any_closed (map answer_in replies) ≡ true → AnswersUnmount replies Closed
+closed_one volume past after [] lawful all closed = absurd (cc)
+closed_one volume past after (r ∷ replies) lawful all closed =
+    let step = lawful.1.step in
+    let here : is_closed r.step.outcome ≡ true → AnswersUnmount (r ∷ replies) Closed = λ is.
+    let so = closes_unmount r.step.outcome lawful.1.turn r.request step.copies step.own step.outcome is in
+    inl (all.0 so.0, so.1) in
+    let later : any_closed (map answer_in replies) ≡ true → AnswersUnmount (r ∷ replies) Closed = λ is. inr (closed_one volume lawful.0 after replies lawful.2 all.1 is) in
+    either (is_closed r.step.outcome) (any_closed (map answer_in replies)) here later closed
+  where
+    either : {P : Type 0} (a b : Bool) → (a ≡ true → P) → (b ≡ true → P) → (a || b) ≡ true → P
+    either true b f g is = f refl
+    either false b f g is = g is
+
+-- where the Unmount was answered, the control has handed it in
+asked : (replies : List Reply) (outcome : Outcome) → AnswersUnmount replies outcome → of 10 (requests_in replies) ≡ [] → ⊥
+asked [] outcome answers none = answers
+asked (r ∷ replies) outcome answers none = elim answers [
+  | inl here ↦
+      let mine : of 10 (request 10 1 Unmount ∷ requests_in replies) ≡ [] = ap (λ (q : Request). of 10 (q ∷ requests_in replies)) (sym here.0) ∙ none in
+      cc
+  | inr later ↦ asked replies outcome later (others r.request (requests_in replies) none)
+]
+  where
+    others : (q : Request) (requests : List Request) → of 10 (q ∷ requests) ≡ [] → of 10 requests ≡ []
+    others q requests none = elim (eqb_tells q.writer 10) [
+      | inl same ↦ absurd (let mine : q ∷ of 10 requests ≡ [] = ap (λ (b : Bool). cond b (q ∷ of 10 requests) (of 10 requests)) (sym same.0) ∙ none in cc)
+      | inr other ↦ ap (λ (b : Bool). cond b (q ∷ of 10 requests) (of 10 requests)) (sym other.0) ∙ none
+    ]
+
+take-all : {X : Type 0} (xs : List X) → take (length xs) xs ≡ xs
+take-all [] = refl
+take-all (x ∷ xs) = ap (λ l. x ∷ l) (take-all xs)
+
+nothing : {X : Type 0} (xs ys : List X) → xs ++ ys ≡ [] → xs ≡ []
+nothing [] ys is = refl
+nothing (x ∷ xs) ys is = absurd (cc)
+
+module _ {start : Standing} {script : List Writer} {statements : List ReaderStatement} {accepted : ℕ → List Request} {answers : List Answer} {waiting : List Request} {ends : List ReaderEnd}
+    {served : Served} {sectors sector_size : ℕ} {image : List ℕ} {erase_failed : Bool}
+    (run : IsRun start script statements accepted answers waiting ends served sectors sector_size image erase_failed) where
+  -- each request for an Unmount that was accepted is the control's
+  accepted_unmounts : (sender : ℕ) → AllByRecursion IsControls (accepted sender)
+  accepted_unmounts sender =
+      elim (eqb_tells sender 9) [
+        | inl nine ↦ subst (λ (s : ℕ). AllByRecursion IsControls (accepted s)) (sym nine.1) (of_copies (accepted 9) run.cleaner)
+        | inr not_nine ↦ elim (eqb_tells sender 10) [
+          | inl ten ↦ subst (λ (s : ℕ). AllByRecursion IsControls (accepted s)) (sym ten.1) (elim run.control [
+            | inl none ↦ subst (AllByRecursion IsControls) (sym none) tt
+            | inr one ↦ subst (AllByRecursion IsControls) (sym one) ((λ is. refl), tt)
+          ])
+          | inr not_ten ↦ of_writers sender not_nine.1 not_ten.1
+        ]
+      ]
+    where
+      of_writers : (sender : ℕ) → sender ≢ 9 → sender ≢ 10 → AllByRecursion IsControls (accepted sender)
+      of_writers zero not_nine not_ten = subst (AllByRecursion IsControls) (sym (run.others zero (λ place below is. absurd (omega arith)) not_nine not_ten)) tt
+      of_writers (suc place) not_nine not_ten = elim (cases_lt place (length script)) [
+        | inl below ↦
+            let same : place + 1 ≡ suc place = omega arith in
+            subst (λ (s : ℕ). AllByRecursion IsControls (accepted s)) same
+            (subst (AllByRecursion IsControls) (sym (run.writers place below)) (of_commands (place + 1) 1 (length (accepted (place + 1))) (commands_at script place)))
+        | inr beyond ↦ subst (AllByRecursion IsControls) (sym (run.others (suc place) (λ other below is. absurd (omega arith)) not_nine not_ten)) tt
+      ]
+
+  answered_unmounts : AllByRecursion IsControls (requests_in run.replies)
+  answered_unmounts = of_each IsControls (requests_in run.replies)
+      (λ sender. front IsControls (of sender (requests_in run.replies)) (of sender waiting) (subst (AllByRecursion IsControls) (sym (run.each sender)) (accepted_unmounts sender)))
+
+  -- where the Unmount was answered, all commands were accepted
+  took_all : (outcome : Outcome) → AnswersUnmount run.replies outcome → TookAll script accepted
+  took_all outcome answers = elim run.offered [
+    | inl idle ↦ absurd (asked run.replies outcome answers (nothing (of 10 (requests_in run.replies)) (of 10 waiting) (run.each 10 ∙ idle)))
+    | inr all ↦ λ place below.
+        let wishes : List Wish = wishes_of (commands_at script place) in
+        let many : length (accepted (place + 1)) ≡ length wishes = all place below ∙ sym (length-map (commands_at script place) wish_of) in
+        run.writers place below ∙ ap (numbered (place + 1) 1) (ap (λ (k : ℕ). take k wishes) many ∙ take-all wishes)
+  ]
+
+pub runs_end_unmounted : RunsEndUnmounted
+runs_end_unmounted count len faults before had_failed start script statements accepted answers waiting ends served sectors sector_size image erase_failed fresh run =
+    elim served as (λ (s : Served). FitsServed s (any_closed answers) run.replies → FitsEnd s script accepted run.replies) [
+      | ending.Closed ↦ λ closed.
+          let mounted = past_of fresh.scanned.log in
+          let ran = run.lawful mounted mounted fresh.stands in
+          let now : any_closed (map answer_in run.replies) ≡ true = sym (ap any_closed run.answers_are) ∙ closed in
+          let answered = closed_one (volume_of start) mounted ran.after run.replies ran.lawful.each (answered_unmounts run) now in
+          (answered, took_all run Closed answered)
+      | ending.NotClosed cause ↦ λ refuses.
+          let answered = refused_one run.replies cause (answered_unmounts run) refuses in
+          (answered, took_all run (Refused cause) answered)
+      | ending.Ended ↦ λ ended. tt
+      | ending.Memory ↦ λ refused. tt
+    ] run.ending

@@ -1,0 +1,43 @@
+-- What the end of a run tells of what was accepted.
+use Rattle.std.specs.Prelude.{◌≡◌, ℕ, Bool, ◌+◌, ◌<◌, ◌⊎◌, List, [], ◌∷◌, length}
+use Rattle.jffs_tree.specs.declared.wish.Wish.TheVariants.{Unmount}
+use Rattle.jffs_tree.specs.declared.wish.Outcome.{Outcome}
+use Rattle.jffs_tree.specs.declared.wish.Outcome.TheVariants.{Closed, Refused}
+use Rattle.jffs_line.specs.declared.request.Request.{Request}
+use Rattle.jffs_line.specs.Requests.{request}
+use Rattle.jffs_core.specs.Standing.{Standing}
+use Rattle.jffs_core.specs.Past.{IsFresh}
+use Rattle.jffs_core.specs.declared.answer.Answer.{Answer}
+use Rattle.jffs_serve.specs.declared.session.Served.{Served}
+use Rattle.jffs_serve.specs.declared.session.Served.TheVariants as served
+use Rattle.jffs_serve.specs.Replies.{Reply}
+use Rattle.jffs_text.specs.declared.script.Writer.{Writer}
+use Rattle.jffs_text.specs.declared.script.ReaderStatement.{ReaderStatement}
+use Rattle.jffs_run.specs.Wishes.{wishes_of}
+use Rattle.jffs_run.specs.Numbered.{numbered}
+use Rattle.jffs_run.specs.Ends.{commands_at}
+use Rattle.jffs_run.specs.Headline.{IsRun}
+use Rattle.jffs_run.specs.declared.reader.ReaderEnd.{ReaderEnd}
+
+-- all commands of every writer were accepted
+abbrev pub TookAll : List Writer → (ℕ → List Request) → Type 0
+TookAll script accepted = (place : ℕ) → place < length script → accepted (place + 1) ≡ numbered (place + 1) 1 (wishes_of (commands_at script place))
+
+-- the control's Unmount was answered so
+abbrev pub AnswersUnmount : List Reply → Outcome → Type 0
+AnswersUnmount [] outcome = ⊥
+AnswersUnmount (r ∷ replies) outcome = ((r.request ≡ request 10 1 Unmount) × (r.step.outcome ≡ outcome)) ⊎ AnswersUnmount replies outcome
+
+-- where Closed or NotClosed was served, that is how the Unmount was answered, and all commands were accepted before it was handed in
+abbrev pub FitsEnd : Served → List Writer → (ℕ → List Request) → List Reply → Type 0
+FitsEnd served.Closed script accepted replies = AnswersUnmount replies Closed × TookAll script accepted
+FitsEnd (served.NotClosed cause) script accepted replies = AnswersUnmount replies (Refused cause) × TookAll script accepted
+FitsEnd served.Ended script accepted replies = Unit {0}
+FitsEnd served.Memory script accepted replies = Unit {0}
+
+-- Each run from a mount on ends so.
+abbrev pub RunsEndUnmounted : Type 0
+RunsEndUnmounted = (count len faults : ℕ) (before : List ℕ) (had_failed : Bool) (start : Standing) (script : List Writer) (statements : List ReaderStatement) (accepted : ℕ → List Request)
+    (answers : List Answer) (waiting : List Request) (ends : List ReaderEnd) (served : Served) (sectors sector_size : ℕ) (image : List ℕ) (erase_failed : Bool)
+    → (fresh : IsFresh count len before faults had_failed start) (run : IsRun start script statements accepted answers waiting ends served sectors sector_size image erase_failed)
+    → FitsEnd served script accepted run.replies

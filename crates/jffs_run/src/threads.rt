@@ -178,56 +178,41 @@ pub fn run_threads<R: Threads + Wait + Sync, F: Flash + Send + Drop, G: Gate + S
             return Err(RunFault::with_flash(RunWhy::Mount, flash));
         }
     };
+    run_mounted(rt, alloc, script, core, gate)
+}
+
+/// A run of a core that was mounted, over the line that the script chooses.
+fn run_mounted<R: Threads + Wait + Sync, F: Flash + Send + Drop, G: Gate + Sync>(
+    rt: &R,
+    alloc: Global,
+    script: &Script,
+    core: Core<F>,
+    gate: &G,
+) -> Result<Run<F>, RunFault<F>>
+    requires core { (core.answers ≡ []) × (core.closed ≡ false) }
+    ensures fault { IfErr result (λ fault. fault.flash ≡ None → fault.why ≡ RunWhy.Spawn) }
+    ensures run { IfOk result (λ run. IsRun core script.now.writers.items script.now.readers.items (accepted_of run.accepted) run.answers.items run.waiting.items run.readers.items run.served (F.sector_count run.flash) (F.sector_len run.flash) (F.image run.flash) (F.erase_failed run.flash)) }
+{
+    let writers = script.writers.len();
+    if writers > WRITERS_MAX {
+        return Err(RunFault::with_flash(RunWhy::Line, core.into_flash()));
+    }
+    let writers = writers as u16;
+    let capacity = script.line.capacity as usize;
     match script.line.form {
-        LineForm::Shared => run_shared(rt, alloc, script, core, gate),
-        LineForm::Rings => run_rings(rt, alloc, script, core, gate),
+        LineForm::Shared => {
+            let Ok(line) = shared_line(rt, alloc, capacity, writers) else {
+                return Err(RunFault::with_flash(RunWhy::Line, core.into_flash()));
+            };
+            let (accepted, run) = run_over(rt, alloc, script, line, core, gate)?;
+            Ok(run.with_accepted(AcceptedBy::Shared(accepted)))
+        }
+        LineForm::Rings => {
+            let Ok(line) = ring_line(alloc, capacity, writers) else {
+                return Err(RunFault::with_flash(RunWhy::Line, core.into_flash()));
+            };
+            let (accepted, run) = run_over(rt, alloc, script, line, core, gate)?;
+            Ok(run.with_accepted(AcceptedBy::Rings(accepted)))
+        }
     }
-}
-
-/// A run over a shared line.
-fn run_shared<R: Threads + Wait + Sync, F: Flash + Send + Drop, G: Gate + Sync>(
-    rt: &R,
-    alloc: Global,
-    script: &Script,
-    core: Core<F>,
-    gate: &G,
-) -> Result<Run<F>, RunFault<F>>
-    requires core { (core.answers ≡ []) × (core.closed ≡ false) }
-    ensures fault { IfErr result (λ fault. fault.flash ≡ None → fault.why ≡ RunWhy.Spawn) }
-    ensures run { IfOk result (λ run. IsRun core script.now.writers.items script.now.readers.items (accepted_of run.accepted) run.answers.items run.waiting.items run.readers.items run.served (F.sector_count run.flash) (F.sector_len run.flash) (F.image run.flash) (F.erase_failed run.flash)) }
-{
-    let writers = script.writers.len();
-    if writers > WRITERS_MAX {
-        return Err(RunFault::with_flash(RunWhy::Line, core.into_flash()));
-    }
-    let capacity = script.line.capacity as usize;
-    let Ok(line) = shared_line(rt, alloc, capacity, writers as u16) else {
-        return Err(RunFault::with_flash(RunWhy::Line, core.into_flash()));
-    };
-    let (accepted, run) = run_over(rt, alloc, script, line, core, gate)?;
-    Ok(run.with_accepted(AcceptedBy::Shared(accepted)))
-}
-
-/// A run over a ring for each sender.
-fn run_rings<R: Threads + Wait + Sync, F: Flash + Send + Drop, G: Gate + Sync>(
-    rt: &R,
-    alloc: Global,
-    script: &Script,
-    core: Core<F>,
-    gate: &G,
-) -> Result<Run<F>, RunFault<F>>
-    requires core { (core.answers ≡ []) × (core.closed ≡ false) }
-    ensures fault { IfErr result (λ fault. fault.flash ≡ None → fault.why ≡ RunWhy.Spawn) }
-    ensures run { IfOk result (λ run. IsRun core script.now.writers.items script.now.readers.items (accepted_of run.accepted) run.answers.items run.waiting.items run.readers.items run.served (F.sector_count run.flash) (F.sector_len run.flash) (F.image run.flash) (F.erase_failed run.flash)) }
-{
-    let writers = script.writers.len();
-    if writers > WRITERS_MAX {
-        return Err(RunFault::with_flash(RunWhy::Line, core.into_flash()));
-    }
-    let capacity = script.line.capacity as usize;
-    let Ok(line) = ring_line(alloc, capacity, writers as u16) else {
-        return Err(RunFault::with_flash(RunWhy::Line, core.into_flash()));
-    };
-    let (accepted, run) = run_over(rt, alloc, script, line, core, gate)?;
-    Ok(run.with_accepted(AcceptedBy::Rings(accepted)))
 }

@@ -37,7 +37,7 @@ IsLeftBy core count len image erase_failed = HasSizes count len core.book × (im
 -- Of each writer the first of its commands were accepted, and all of them where an Unmount was accepted; of the control one Unmount at most, of the cleaner copies alone, and no others
 -- From whatever history the core stood for at the start, the answers are lawful for these requests, and the core at the end, which left the device as it is, stands for the history after them
 -- What was served is told by the answers
--- Each reader saw what its path reads in the opening tree after a beginning of the answers, or counts as one that saw nothing
+-- Each reader saw what its path reads after a beginning of the answers, from the tree at the start on, or counts as one that saw nothing
 pub record IsRun (start : Standing) (script : List Writer) (statements : List ReaderStatement) (accepted : ℕ → List Request) (answers : List Answer) (waiting : List Request) (ends : List ReaderEnd) (served : Served) (count len : ℕ) (image : List ℕ) (erase_failed : Bool) : Type 0 where
   pub replies : List Reply
   pub each_replies : AllReply replies

@@ -28,7 +28,7 @@ abbrev pub AnswersUnmount : List Reply → Outcome → Type 0
 AnswersUnmount [] outcome = ⊥
 AnswersUnmount (r ∷ replies) outcome = ((r.request ≡ request 10 1 Unmount) × (r.step.outcome ≡ outcome)) ⊎ AnswersUnmount replies outcome
 
--- where Closed or NotClosed was served, that is how the Unmount was answered, and all commands were accepted before it was handed in
+-- where Closed or NotClosed was served, the Unmount was answered so, and all commands were accepted
 abbrev pub FitsEnd : Served → List Writer → (ℕ → List Request) → List Reply → Type 0
 FitsEnd served.Closed script accepted replies = AnswersUnmount replies Closed × TookAll script accepted
 FitsEnd (served.NotClosed cause) script accepted replies = AnswersUnmount replies (Refused cause) × TookAll script accepted

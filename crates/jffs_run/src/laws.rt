@@ -12,7 +12,7 @@ pub fn runs_leave_contents()
 {}
 
 /// What `run_threads` serves tells how the control's Unmount was answered: Closed, or refused for that cause. In both
-/// cases all commands of every writer had been accepted.
+/// cases all commands of every writer were accepted.
 pub fn runs_end_unmounted()
     ensures { RunsEndUnmounted }
 {}

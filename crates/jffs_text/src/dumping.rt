@@ -1,10 +1,18 @@
 //! The lines that tell of a tree.
 
+ghost use Rattle.std.specs.Prelude.{◌≡◌, ◌<◌, ◌++◌, true, false, codes, length, OnOk};
+ghost use Rattle.std.specs.Io.KnownBytes.{Appends};
+ghost use Rattle.jffs_tree.specs.State.{is_directory_in, bytes_of, at};
+ghost use Rattle.jffs_tree.specs.Origin.{state_in};
+ghost use Rattle.jffs_tree.specs.Look.{bytes_in};
+ghost use Rattle.jffs_text.specs.Added.{IsBegun};
+ghost use Rattle.jffs_text.specs.Dump.{hex, hex_digit as digit_of, shown_bytes, directory_line, file_line, path_of, below, dump_text};
+
 use jffs_node::{Kind, Name, NoMemory, PATH_DEPTH_MAX, ROOT_INODE};
 use jffs_tree::Tree;
 use std::alloc::{AllocError, Global};
 use std::io;
-use std::io::Write;
+use std::io::{ErrorKind, Write};
 use thiserror::Error;
 
 /// Why a dump ended early. What was written until then is the beginning of the text.
@@ -40,9 +48,13 @@ impl From<AllocError> for DumpFault {
 const CHUNK_LEN: usize = 256;
 
 /// Writes a line for each directory, `d PATH`, and for each file, `f PATH SIZE HEX` with `-`
-/// for no bytes: a directory before its names, names in the order of their bytes.
-pub fn dump<W: Write>(alloc: Global, tree: &Tree, out: &mut W) -> Result<(), DumpFault> {
-    out.write_all(b"d /\n")?;
+/// for no bytes: a directory before its names, names in the order of their bytes. After an error
+/// a beginning of that text is written.
+pub fn dump<W: Write>(alloc: Global, tree: &Tree, out: &mut W) -> Result<(), DumpFault>
+    ensures whole { OnOk result (Appends (W.contents out.old) (W.contents out.new) (dump_text (state_in tree.now))) }
+    ensures begun { IsBegun (W.contents out.old) (W.contents out.new) (dump_text (state_in tree.now)) }
+{
+    put(b"d /\n", out)?;
     let mut path = Vec::new(alloc);
     dump_names(tree, ROOT_INODE, PATH_DEPTH_MAX, &mut path, out)
 }
@@ -55,7 +67,12 @@ fn dump_names<W: Write>(
     levels: usize,
     path: &mut Vec<u8>,
     out: &mut W,
-) -> Result<(), DumpFault> {
+) -> Result<(), DumpFault>
+    requires { is_directory_in (state_in tree.now) directory ≡ true }
+    ensures path { OnOk result (path.new.items ≡ path.old.items) }
+    ensures whole { OnOk result (Appends (W.contents out.old) (W.contents out.new) (below levels (state_in tree.now) path.old.items directory)) }
+    ensures begun { IsBegun (W.contents out.old) (W.contents out.new) (below levels (state_in tree.now) path.old.items directory) }
+{
     if levels == 0 {
         return Ok(());
     }
@@ -63,48 +80,122 @@ fn dump_names<W: Write>(
     for (name, inode) in names.iter() {
         let above = path.len();
         push_name(path, name)?;
-        if tree.kind(*inode) == Some(Kind::Directory) {
-            dump_line(b"d ", path, out)?;
-            out.write_all(b"\n")?;
+        if is_directory(tree, *inode) {
+            dump_directory(path, out)?;
             dump_names(tree, *inode, levels - 1, path, out)?;
         } else {
-            dump_line(b"f ", path, out)?;
-            dump_file(tree, *inode, out)?;
+            dump_file(tree, *inode, path, out)?;
         }
         path.truncate(above);
     }
     Ok(())
 }
 
-fn push_name(path: &mut Vec<u8>, name: &Name) -> Result<(), AllocError> {
+fn is_directory(tree: &Tree, inode: u32) -> bool
+    ensures { result ≡ is_directory_in (state_in tree.now) inode }
+{
+    matches!(tree.kind(inode), Some(Kind::Directory))
+}
+
+fn push_name(path: &mut Vec<u8>, name: &Name) -> Result<(), AllocError>
+    ensures { OnOk result (path.new.items ≡ path_of path.old.items name.now) }
+{
     path.push(b'/')?;
     path.extend_from_slice(name.bytes())
 }
 
-fn dump_line<W: Write>(head: &[u8], path: &Vec<u8>, out: &mut W) -> io::Result<()> {
-    out.write_all(head)?;
-    out.write_all(path)
+/// The line of a directory.
+fn dump_directory<W: Write>(path: &Vec<u8>, out: &mut W) -> io::Result<()>
+    ensures whole { OnOk result (Appends (W.contents out.old) (W.contents out.new) (directory_line path.now.items)) }
+    ensures begun { IsBegun (W.contents out.old) (W.contents out.new) (directory_line path.now.items) }
+{
+    put(b"d ", out)?;
+    put(path, out)?;
+    put(b"\n", out)
 }
 
-/// The size of a file and its bytes, and the end of the line.
-fn dump_file<W: Write>(tree: &Tree, inode: u32, out: &mut W) -> io::Result<()> {
+/// The line of a file: its path, its size and its bytes.
+fn dump_file<W: Write>(
+    tree: &Tree,
+    inode: u32,
+    path: &Vec<u8>,
+    out: &mut W,
+) -> Result<(), DumpFault>
+    requires { is_directory_in (state_in tree.now) inode ≡ false }
+    ensures whole { OnOk result (Appends (W.contents out.old) (W.contents out.new) (file_line path.now.items (bytes_of (at (state_in tree.now) inode)))) }
+    ensures begun { IsBegun (W.contents out.old) (W.contents out.new) (file_line path.now.items (bytes_of (at (state_in tree.now) inode))) }
+{
     let size = tree.size(inode).unwrap_or(0);
-    write!(out, " {size} ")?;
+    let size_text = format!(in *path.allocator(); " {size} ")?;
+    put(b"f ", out)?;
+    put(path, out)?;
+    put(size_text.as_bytes(), out)?;
+    dump_bytes(tree, inode, size, out)?;
+    put(b"\n", out)?;
+    Ok(())
+}
+
+/// The bytes of a file of that size in hex, `-` for none.
+fn dump_bytes<W: Write>(tree: &Tree, inode: u32, size: u32, out: &mut W) -> io::Result<()>
+    requires { size ≡ length (bytes_in tree.now inode) }
+    ensures whole { OnOk result (Appends (W.contents out.old) (W.contents out.new) (shown_bytes (bytes_in tree.now inode))) }
+    ensures begun { IsBegun (W.contents out.old) (W.contents out.new) (shown_bytes (bytes_in tree.now inode)) }
+{
     if size == 0 {
-        return out.write_all(b"-\n");
+        return put(b"-", out);
     }
     let mut chunk = [0u8; CHUNK_LEN];
-    for offset in (0..size).step_by(CHUNK_LEN) {
+    let mut offset = 0;
+    while offset < size {
         let count = tree.read(inode, offset, &mut chunk);
         write_hex(&chunk[..count], out)?;
-    }
-    out.write_all(b"\n")
-}
-
-/// Bytes in lower case hex.
-pub fn write_hex<W: Write>(bytes: &[u8], out: &mut W) -> io::Result<()> {
-    for byte in bytes {
-        write!(out, "{byte:02x}")?;
+        offset += count as u32;
     }
     Ok(())
+}
+
+/// Bytes in lower case hex. After an error a beginning of that is written.
+pub fn write_hex<W: Write>(bytes: &[u8], out: &mut W) -> io::Result<()>
+    ensures whole { OnOk result (Appends (W.contents out.old) (W.contents out.new) (hex bytes.now)) }
+    ensures begun { IsBegun (W.contents out.old) (W.contents out.new) (hex bytes.now) }
+{
+    for byte in bytes {
+        put(&[hex_digit(*byte / 16), hex_digit(*byte % 16)], out)?;
+    }
+    Ok(())
+}
+
+fn hex_digit(value: u8) -> u8
+    requires { value < 16 }
+    ensures { result ≡ digit_of value }
+{
+    if value < 10 {
+        value + b'0'
+    } else {
+        value - 10 + b'a'
+    }
+}
+
+/// Writes bytes as `write_all` does, whose contract doesn't say what stands after an error: a
+/// beginning of them.
+fn put<W: Write>(bytes: &[u8], out: &mut W) -> io::Result<()>
+    ensures whole { OnOk result (Appends (W.contents out.old) (W.contents out.new) bytes.now) }
+    ensures begun { IsBegun (W.contents out.old) (W.contents out.new) bytes.now }
+{
+    let mut sent = 0;
+    'writes: for _ in 0..u64::MAX {
+        if sent >= bytes.len() {
+            return Ok(());
+        }
+        match out.write(&bytes[sent..]) {
+            Ok(0) => return Err(io::Error::from(ErrorKind::WriteZero)),
+            Ok(count) => sent += count,
+            Err(fault) => {
+                if fault.kind() != ErrorKind::Interrupted {
+                    return Err(fault);
+                }
+            }
+        }
+    }
+    Err(io::Error::from(ErrorKind::TimedOut))
 }

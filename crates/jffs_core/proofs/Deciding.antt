@@ -241,7 +241,7 @@ copies_below past (c ∷ copies) v h low =
     (present_below (copies ++ past) c.inode v there.0 there.1.present before, before)
 
 -- Own copies change no state, so a decision that is no Copy stays.
-copies_state : (past copies : List Node) → AreOwnCopies past copies → state_of_past (copies ++ past) ≡ state_of_past past
+pub copies_state : (past copies : List Node) → AreOwnCopies past copies → state_of_past (copies ++ past) ≡ state_of_past past
 copies_state past [] h = refl
 copies_state past (c ∷ copies) h = true_copy_keeps_state (copies ++ past) c h.1.3.0 h.1.3.1 ∙ copies_state past copies h.0
 

@@ -101,7 +101,7 @@ module _ (past : List Node) (room : Room) (n : Node) (old new : List ℕ) (b c d
       put_log e = e ∙ ap (λ k. put k room n (layout_in old c)) same.sector_size ∙ ap (put b.sector_size room n) (same_layout old c b same.sectors same.sector_size)
 
 -- The device failed while a node was put.
-pub put_failed : (room : Room) (n : Node) (cause : Cause) (old new : Standing) → cause ≡ Device → new.failed ≡ true → old.faults < new.faults → ((past : List Node) → Knows past old → MayPut past old.book.sector_size room n → HasFailed past new) → PutRefused room n cause old new
+pub put_failed : (room : Room) (n : Node) (cause : Cause) (old new : Standing) → cause ≡ Device → new.failed ≡ true → old.faults < new.faults → ((past : List Node) → Knows past old → MayPut past old.book.sector_size room n → HasFailed (λ m. m ≡ n) past new) → PutRefused room n cause old new
 put_failed room n cause old new device fails faults left = subst (λ c. PutRefused room n c old new) (sym device) (record {
   stands = λ past known may. record { fails = fails; faults = faults; left = left past known may };
   no_room = λ is. absurd (other is);

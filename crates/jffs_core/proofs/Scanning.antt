@@ -1,14 +1,23 @@
 -- A scan of a core's image.
-use Rattle.std.proofs.Common.{inl, inr, ◌∷◌, refl, sym, ap, ◌∙◌}
-use Rattle.jffs_tree.specs.State.{state_of_past}
-use Rattle.jffs_tree.specs.Origin.{tree_of}
+use Rattle.std.proofs.Common.{◌≡◌, ◌⊎◌, inl, inr, false, List, ◌∷◌, ◌++◌, Ok, refl, sym, ap, subst, ◌∙◌}
+use Rattle.jffs_node.specs.declared.node.Node.{Node}
+use Rattle.jffs_tree.specs.State.{State, apply, state_of_past}
+use Rattle.jffs_tree.specs.Origin.{tree_of, state_in}
+use Rattle.jffs_tree.proofs.TrueCopy.{true_copy_keeps_state}
 use Rattle.jffs_tree.proofs.Copies.{state_of_tree}
 use Rattle.jffs_log.specs.Image.{is_clean}
-use Rattle.jffs_log.specs.Volume.{sectors_in}
+use Rattle.jffs_log.specs.Volume.{split, sectors_in}
+use Rattle.jffs_log.specs.Scan.{Scanned, scan}
 use Rattle.jffs_log.specs.Live.{live_log}
 use Rattle.jffs_log.proofs.Histories.{histories_are_scanned}
-use Rattle.jffs_core.specs.Past.{ScansFindContents, FailedScansFind}
+use Rattle.jffs_core.specs.Standing.{Standing}
+use Rattle.jffs_core.specs.History.{IsOwnCopy, Grows, contents}
+use Rattle.jffs_core.specs.Step.{IsNodeFor}
+use Rattle.jffs_core.specs.Past.{ScansFindContents, FailedScansFind, HasFailed}
+use Rattle.jffs_core.specs.Acting.{turn_of}
+use Rattle.jffs_core.specs.Finding.{FindsWith, DeviceScansFind}
 use Rattle.jffs_core.proofs.Contents.{contents_are_state}
+use Rattle.jffs_core.proofs.Deciding.{copies_state}
 
 pub scans_find : ScansFindContents
 scans_find mounted past c h works =
@@ -31,3 +40,46 @@ failed_scans_find mounted past c h fails intact =
       | inl same ↦ inl (_, histories_are_scanned c.book.sectors c.book.sector_size c.image past same, refl)
       | inr more ↦ inr (more.0, more.1, (_, histories_are_scanned c.book.sectors c.book.sector_size c.image (more.0 ∷ past) more.2, refl))
     ]
+
+-- After a failure, by the node in hand.
+failed_found : (One : Node → Type 0) (past : List Node) (c : Standing) → HasFailed (λ n. IsOwnCopy past n ⊎ One n) past c → c.erase_failed ≡ false
+    → (scanned : Scanned) × (scan c.book.sector_size (split c.book.sectors c.book.sector_size c.image) ≡ Ok scanned)
+    × ((state_in scanned.tree ≡ state_of_past past) ⊎ ((n : Node) × One n × (state_in scanned.tree ≡ apply (state_of_past past) n)))
+failed_found One past c h intact = elim (h.left intact) [
+  | inl same ↦ (_, histories_are_scanned c.book.sectors c.book.sector_size c.image past same, inl (state_of_tree past (state_of_past past)))
+  | inr more ↦
+      let n = more.0 in
+      let is = state_of_tree (n ∷ past) (state_of_past (n ∷ past)) in (
+        _,
+        histories_are_scanned c.book.sectors c.book.sector_size c.image (n ∷ past) more.2,
+        elim more.1 [
+          | inl copy ↦ inl (is ∙ true_copy_keeps_state past n copy.3.0 copy.3.1)
+          | inr one ↦ inr (n, one, is)
+        ],
+      )
+]
+
+-- the same in words of the contents of a history with that state
+found_with : (One : Node → Type 0) (mounted past before : List Node) (c : Standing) → Grows mounted before → state_of_past past ≡ state_of_past before → HasFailed (λ n. IsOwnCopy past n ⊎ One n) past c → c.erase_failed ≡ false
+    → FindsWith One mounted before c.book.sectors c.book.sector_size c.image
+found_with One mounted past before c g same h intact =
+    let f = failed_found One past c h intact in
+    let state : state_of_past past ≡ contents mounted g.added = same ∙ ap state_of_past g.joined ∙ sym (contents_are_state mounted g.added g.grown) in
+    record {
+      scanned = f.0;
+      found = f.1;
+      added = g.added;
+      since = g.joined;
+      state_is = subst (λ (s : State). (state_in f.0.tree ≡ s) ⊎ ((n : Node) × One n × (state_in f.0.tree ≡ apply s n))) state f.2;
+    }
+
+pub failed_finds_with : (One : Node → Type 0) (mounted past : List Node) (c : Standing) → Grows mounted past → HasFailed (λ n. IsOwnCopy past n ⊎ One n) past c → c.erase_failed ≡ false
+    → FindsWith One mounted past c.book.sectors c.book.sector_size c.image
+failed_finds_with One mounted past c g h intact = found_with One mounted past past c g refl h intact
+
+pub device_scans_find : DeviceScansFind
+device_scans_find mounted past old new q s h intact =
+    let step = h.step in
+    let same : state_of_past h.after ≡ state_of_past past =
+    ap state_of_past step.joined ∙ ap (λ (own : List Node). state_of_past (own ++ step.copies ++ past)) step.outcome.1 ∙ copies_state past step.copies step.copies_are_true in
+    found_with (IsNodeFor (turn_of past old new) q h.after) mounted h.after past new s.grown same (h.in_hand refl) intact

@@ -11,7 +11,7 @@ use Rattle.jffs_tree.specs.declared.wish.Outcome.TheVariants.{Appended, Copied, 
 use Rattle.jffs_tree.specs.declared.wish.Limits.{Limits}
 use Rattle.jffs_tree.specs.declared.wish.NewNode.{NewNode}
 use Rattle.jffs_tree.specs.State.{Entry}
-use Rattle.jffs_tree.specs.Origin.{IsTrueCopy}
+use Rattle.jffs_tree.specs.Origin.{IsTrueCopy, tree_of}
 use Rattle.jffs_tree.specs.declared.wish.Wish.{Wish}
 use Rattle.jffs_tree.specs.declared.wish.Wish.TheVariants.{MakeDir, Create, Write, Truncate, Rename, Remove, Copy, Unmount}
 use Rattle.jffs_tree.specs.Decide.{decide, decide_on, with, unless, unmount_node}
@@ -22,17 +22,17 @@ use Rattle.jffs_log.specs.declared.room.Room.TheVariants as rooms
 use Rattle.jffs_log.specs.Room.{next_version, heavy, weight, has_room, limits as limits_of}
 use Rattle.jffs_log.specs.Book.{HasSizes, layout_in}
 use Rattle.jffs_core.specs.Standing.{Standing}
-use Rattle.jffs_core.specs.History.{AreOwnCopies, MayFollow, Grows}
+use Rattle.jffs_core.specs.History.{IsOwnCopy, AreOwnCopies, MayFollow, Grows}
 use Rattle.jffs_core.specs.Run.{OnlyCopies, is_failure}
-use Rattle.jffs_core.specs.Step.{Turn, IsStep, OutcomeIs, ends_with_unmount, RefusedBy, HadNoRoom, MakesRoom, decision, takes_no_node, had_room, room_of, is_unmount_wish, is_copy_wish}
+use Rattle.jffs_core.specs.Step.{Turn, IsStep, IsInHand, OutcomeIs, ends_with_unmount, RefusedBy, HadNoRoom, MakesRoom, decision, takes_no_node, had_room, room_of, is_unmount_wish, is_copy_wish}
 use Rattle.jffs_core.specs.RoomSteps.{UnmountsHaveRoom}
-use Rattle.jffs_core.specs.Past.{session, Knows, HasPast, HasFailed, has_room_for}
-use Rattle.jffs_core.specs.Acting.{RefusedAt, MayPut, HasPut, PutRefused, IsNodeOf, HasAnswered, HasMadeRoom, Answers, KeepsAnswer, KeepsTwo, keeps_two, turn_of}
+use Rattle.jffs_core.specs.Past.{session, Knows, HasPast, HasFailed, OrOneMore, has_room_for}
+use Rattle.jffs_core.specs.Acting.{FailsIn, RefusedWith, MayPut, HasPut, PutRefused, IsNodeOf, HasAnswered, HasMadeRoom, Answers, KeepsAnswer, KeepsTwo, keeps_two, turn_of}
 use Rattle.jffs_log.specs.Image.{log_sectors}
 use Rattle.jffs_log.specs.Volume.{sectors_in}
 use Rattle.jffs_log.specs.Cleaning.{Layout, fresh_has_room, room_made}
 use Rattle.jffs_log.specs.RoomLaws.{Holds, suits_room}
-use Rattle.jffs_log.specs.History.{KeepsRules}
+use Rattle.jffs_log.specs.History.{IsHistory, KeepsRules}
 use Rattle.jffs_log.proofs.MountedLog.{log_nodes}
 use Rattle.jffs_log.proofs.Appended.{sizes_small}
 use Rattle.jffs_log.proofs.Copied.{opposite, copies_take_over, unmounts_are_dead}
@@ -46,26 +46,60 @@ use Rattle.jffs_core.proofs.Mounting.{clean_ends}
 pub works_past : (after : List Node) (new : Standing) → new.failed ≡ false → Knows after new → HasPast after new
 works_past after new works known = record { working = λ w. known; broken = λ f. absurd (opposite new.failed f works) }
 
-pub fails_past : (after : List Node) (new : Standing) → new.failed ≡ true → HasFailed after new → HasPast after new
+pub fails_past : (after : List Node) (new : Standing) → new.failed ≡ true → HasFailed (MayFollow after) after new → HasPast after new
 fails_past after new fails left = record { working = λ w. absurd (opposite new.failed fails w); broken = λ f. left }
 
-pub refused_past : (cause : Cause) (after : List Node) (old new : Standing) → RefusedAt cause after old new → HasPast after new
-refused_past causes.VersionsSpent after old new h = works_past after new h.0.works h.0.knows
-refused_past causes.Memory after old new h = works_past after new h.works h.knows
-refused_past causes.NoSpace after old new h = works_past after new h.works h.knows
-refused_past causes.Device after old new h = fails_past after new h.fails h.left
-refused_past causes.RootFixed after old new h = absurd h
-refused_past causes.NoParent after old new h = absurd h
-refused_past causes.NameTaken after old new h = absurd h
-refused_past causes.NotFound after old new h = absurd h
-refused_past causes.IsDirectory after old new h = absurd h
-refused_past causes.DataLong after old new h = absurd h
-refused_past causes.FileLong after old new h = absurd h
-refused_past causes.NotEmpty after old new h = absurd h
-refused_past causes.NotNeeded after old new h = absurd h
-refused_past causes.Stale after old new h = absurd h
-refused_past causes.InodesSpent after old new h = absurd h
-refused_past causes.Failed after old new h = absurd h
+-- One kind of node in hand is also of another.
+more_kinds : (P Q : Node → Type 0) → ((n : Node) → P n → Q n) → (past : List Node) (R : List Node → Type 0) → OrOneMore P past R → OrOneMore Q past R
+more_kinds P Q f past R (inl h) = inl h
+more_kinds P Q f past R (inr h) = inr (h.0, f h.0 h.1, h.2)
+
+pub failed_more : (P Q : Node → Type 0) → ((n : Node) → P n → Q n) → (after : List Node) (c : Standing) → HasFailed P after c → HasFailed Q after c
+failed_more P Q f after c h = record {
+  clean = h.clean;
+  tree = more_kinds P Q f after (λ found. c.tree ≡ tree_of found) h.tree;
+  left = λ intact. more_kinds P Q f after (λ found. IsHistory c.image c.book found) (h.left intact);
+}
+
+pub refused_more : (P Q : Node → Type 0) → ((n : Node) → P n → Q n) → (cause : Cause) (after : List Node) (old new : Standing) → RefusedWith P cause after old new → RefusedWith Q cause after old new
+refused_more P Q f causes.VersionsSpent after old new h = h
+refused_more P Q f causes.Memory after old new h = h
+refused_more P Q f causes.NoSpace after old new h = h
+refused_more P Q f causes.Device after old new h = record { fails = h.fails; faults = h.faults; left = failed_more P Q f after new h.left }
+refused_more P Q f causes.RootFixed after old new h = h
+refused_more P Q f causes.NoParent after old new h = h
+refused_more P Q f causes.NameTaken after old new h = h
+refused_more P Q f causes.NotFound after old new h = h
+refused_more P Q f causes.IsDirectory after old new h = h
+refused_more P Q f causes.DataLong after old new h = h
+refused_more P Q f causes.FileLong after old new h = h
+refused_more P Q f causes.NotEmpty after old new h = h
+refused_more P Q f causes.NotNeeded after old new h = h
+refused_more P Q f causes.Stale after old new h = h
+refused_more P Q f causes.InodesSpent after old new h = h
+refused_more P Q f causes.Failed after old new h = h
+
+-- own copies may follow, and so may the node of a request
+pub copies_follow : (after : List Node) (n : Node) → IsOwnCopy after n → MayFollow after n
+copies_follow after n h = inr (inr h.3)
+
+pub refused_past : (P : Node → Type 0) (after : List Node) → ((n : Node) → P n → MayFollow after n) → (cause : Cause) (old new : Standing) → RefusedWith P cause after old new → HasPast after new
+refused_past P after f causes.VersionsSpent old new h = works_past after new h.0.works h.0.knows
+refused_past P after f causes.Memory old new h = works_past after new h.works h.knows
+refused_past P after f causes.NoSpace old new h = works_past after new h.works h.knows
+refused_past P after f causes.Device old new h = fails_past after new h.fails (failed_more P (MayFollow after) f after new h.left)
+refused_past P after f causes.RootFixed old new h = absurd h
+refused_past P after f causes.NoParent old new h = absurd h
+refused_past P after f causes.NameTaken old new h = absurd h
+refused_past P after f causes.NotFound old new h = absurd h
+refused_past P after f causes.IsDirectory old new h = absurd h
+refused_past P after f causes.DataLong old new h = absurd h
+refused_past P after f causes.FileLong old new h = absurd h
+refused_past P after f causes.NotEmpty old new h = absurd h
+refused_past P after f causes.NotNeeded old new h = absurd h
+refused_past P after f causes.Stale old new h = absurd h
+refused_past P after f causes.InodesSpent old new h = absurd h
+refused_past P after f causes.Failed old new h = absurd h
 
 -- The causes of a decision, by the decision.
 pub by_tree : (cause : Cause) (t : Turn) (q : Request) → is_of_tree cause ≡ true → takes_no_node t q ≡ false → decision t q ≡ Err cause → RefusedBy cause t q []
@@ -86,11 +120,20 @@ by_tree causes.NotNeeded t q h takes is = (takes, is, refl)
 by_tree causes.Stale t q h takes is = (takes, is, refl)
 by_tree causes.InodesSpent t q h takes is = (takes, is, refl)
 
+same_cause : {a b : Cause} → ◌≡◌ {A = Outcome} (Refused a) (Refused b) → a ≡ b
+same_cause e = cc
+
+-- after the answer Device
+device_left : (P Q : Node → Type 0) → ((n : Node) → P n → Q n) → (cause : Cause) (after : List Node) (old new : Standing) → RefusedWith P cause after old new → ◌≡◌ {A = Outcome} (Refused cause) (Refused causes.Device) → HasFailed Q after new
+device_left P Q f cause after old new h is =
+    let d : FailsIn P after old new = subst (λ c. RefusedWith P c after old new) (same_cause is) h in
+    failed_more P Q f after new d.left
+
 not_failed : (cause : Cause) → is_of_tree cause ≡ true → ◌≡◌ {A = Outcome} (Refused cause) (Refused causes.Failed) → ⊥
-not_failed cause h e = opposite (is_of_tree causes.Failed) (ap is_of_tree (sym (same e)) ∙ h) refl
-  where
-    same : {a b : Cause} → ◌≡◌ {A = Outcome} (Refused a) (Refused b) → a ≡ b
-    same e = cc
+not_failed cause h e = opposite (is_of_tree causes.Failed) (ap is_of_tree (sym (same_cause e)) ∙ h) refl
+
+not_device : (cause : Cause) → is_of_tree cause ≡ true → ◌≡◌ {A = Outcome} (Refused cause) (Refused causes.Device) → ⊥
+not_device cause h e = opposite (is_of_tree causes.Device) (ap is_of_tree (sym (same_cause e)) ∙ h) refl
 
 -- A core has failed exactly where the answer says so.
 no_failure : (cause : Cause) → is_of_tree cause ≡ true → is_failure (Refused cause) ≡ false
@@ -111,23 +154,23 @@ no_failure causes.NoSpace h = refl
 no_failure causes.Device h = cc
 no_failure causes.Failed h = cc
 
-fails_as : (cause : Cause) (after : List Node) (old new : Standing) → RefusedAt cause after old new → new.failed ≡ is_failure (Refused cause)
-fails_as causes.VersionsSpent after old new h = h.0.works
-fails_as causes.Memory after old new h = h.works
-fails_as causes.NoSpace after old new h = h.works
-fails_as causes.Device after old new h = h.fails
-fails_as causes.RootFixed after old new h = absurd h
-fails_as causes.NoParent after old new h = absurd h
-fails_as causes.NameTaken after old new h = absurd h
-fails_as causes.NotFound after old new h = absurd h
-fails_as causes.IsDirectory after old new h = absurd h
-fails_as causes.DataLong after old new h = absurd h
-fails_as causes.FileLong after old new h = absurd h
-fails_as causes.NotEmpty after old new h = absurd h
-fails_as causes.NotNeeded after old new h = absurd h
-fails_as causes.Stale after old new h = absurd h
-fails_as causes.InodesSpent after old new h = absurd h
-fails_as causes.Failed after old new h = absurd h
+fails_as : (P : Node → Type 0) (cause : Cause) (after : List Node) (old new : Standing) → RefusedWith P cause after old new → new.failed ≡ is_failure (Refused cause)
+fails_as P causes.VersionsSpent after old new h = h.0.works
+fails_as P causes.Memory after old new h = h.works
+fails_as P causes.NoSpace after old new h = h.works
+fails_as P causes.Device after old new h = h.fails
+fails_as P causes.RootFixed after old new h = absurd h
+fails_as P causes.NoParent after old new h = absurd h
+fails_as P causes.NameTaken after old new h = absurd h
+fails_as P causes.NotFound after old new h = absurd h
+fails_as P causes.IsDirectory after old new h = absurd h
+fails_as P causes.DataLong after old new h = absurd h
+fails_as P causes.FileLong after old new h = absurd h
+fails_as P causes.NotEmpty after old new h = absurd h
+fails_as P causes.NotNeeded after old new h = absurd h
+fails_as P causes.Stale after old new h = absurd h
+fails_as P causes.InodesSpent after old new h = absurd h
+fails_as P causes.Failed after old new h = absurd h
 
 -- Two sectors stay erased.
 pub fresh_put_keeps : (node : Node) (old new : Standing) → HasPut rooms.Fresh node old new → KeepsTwo old new
@@ -136,23 +179,23 @@ fresh_put_keeps node old new h two = subst (λ (l : Layout). 2 ≤ l.erased) (sy
 pub later_put_keeps : (node : Node) (old middle new : Standing) → KeepsTwo old middle → HasPut rooms.Fresh node middle new → KeepsTwo old new
 later_put_keeps node old middle new before h two = fresh_put_keeps node middle new h (before two)
 
-refused_keeps : (cause : Cause) (after : List Node) (old new : Standing) → RefusedAt cause after old new → (cause ≡ causes.NoSpace → KeepsTwo old new) → keeps_two (Refused cause) ≡ true → KeepsTwo old new
-refused_keeps causes.NoSpace after old new h none k = none refl
-refused_keeps causes.VersionsSpent after old new h none k = absurd (opposite (keeps_two (Refused causes.VersionsSpent)) k refl)
-refused_keeps causes.Memory after old new h none k = absurd (opposite (keeps_two (Refused causes.Memory)) k refl)
-refused_keeps causes.Device after old new h none k = absurd (opposite (keeps_two (Refused causes.Device)) k refl)
-refused_keeps causes.RootFixed after old new h none k = absurd h
-refused_keeps causes.NoParent after old new h none k = absurd h
-refused_keeps causes.NameTaken after old new h none k = absurd h
-refused_keeps causes.NotFound after old new h none k = absurd h
-refused_keeps causes.IsDirectory after old new h none k = absurd h
-refused_keeps causes.DataLong after old new h none k = absurd h
-refused_keeps causes.FileLong after old new h none k = absurd h
-refused_keeps causes.NotEmpty after old new h none k = absurd h
-refused_keeps causes.NotNeeded after old new h none k = absurd h
-refused_keeps causes.Stale after old new h none k = absurd h
-refused_keeps causes.InodesSpent after old new h none k = absurd h
-refused_keeps causes.Failed after old new h none k = absurd h
+refused_keeps : (P : Node → Type 0) (cause : Cause) (after : List Node) (old new : Standing) → RefusedWith P cause after old new → (cause ≡ causes.NoSpace → KeepsTwo old new) → keeps_two (Refused cause) ≡ true → KeepsTwo old new
+refused_keeps P causes.NoSpace after old new h none k = none refl
+refused_keeps P causes.VersionsSpent after old new h none k = absurd (opposite (keeps_two (Refused causes.VersionsSpent)) k refl)
+refused_keeps P causes.Memory after old new h none k = absurd (opposite (keeps_two (Refused causes.Memory)) k refl)
+refused_keeps P causes.Device after old new h none k = absurd (opposite (keeps_two (Refused causes.Device)) k refl)
+refused_keeps P causes.RootFixed after old new h none k = absurd h
+refused_keeps P causes.NoParent after old new h none k = absurd h
+refused_keeps P causes.NameTaken after old new h none k = absurd h
+refused_keeps P causes.NotFound after old new h none k = absurd h
+refused_keeps P causes.IsDirectory after old new h none k = absurd h
+refused_keeps P causes.DataLong after old new h none k = absurd h
+refused_keeps P causes.FileLong after old new h none k = absurd h
+refused_keeps P causes.NotEmpty after old new h none k = absurd h
+refused_keeps P causes.NotNeeded after old new h none k = absurd h
+refused_keeps P causes.Stale after old new h none k = absurd h
+refused_keeps P causes.InodesSpent after old new h none k = absurd h
+refused_keeps P causes.Failed after old new h none k = absurd h
 
 -- Memory, or the decision's cause
 pub which_refusal : (cause : Cause) (r : Result NewNode Cause) → (◌≡◌ {A = Result NewNode Cause} (Err cause) (Err causes.Memory) → ⊥) ⊎ (cause ≡ causes.Memory)
@@ -271,6 +314,11 @@ module _ (past : List Node) (c : Standing) (q : Request) (node : Node) (known : 
       subst (MayPut after c.book.sector_size rooms.Fresh) (sym is)
       (may_put c.book.sectors c.book.sector_size past after q.wish of.new later.version q.writer q.seq known.history.sizes rules fits stays of.wish next of.writer of.seq rooms.Fresh refl (inl fresh))
 
+-- the node in hand is that of the request
+pub own_in_hand : (past : List Node) (c : Standing) (q : Request) → Knows past c → (node next : Node) (of : IsNodeOf c q node) (after : List Node) (new : Standing) → next ≡ with of.new next.version q.writer q.seq → next_version after ≡ Some next.version
+    → IsInHand (turn_of past c new) q after next
+own_in_hand past c q known node next of after new is version = inr (record { new = of.new; decided = decision_is past c q known ∙ of.decided; is = is; next = version })
+
 -- the version that comes next, as the core has it
 pub known_version : (past : List Node) (c : Standing) (o : Option ℕ) → Knows past c → c.limits.next_version ≡ o → next_version past ≡ o
 known_version past c o known is = ap (λ (l : Limits). l.next_version) (sym known.limits_are) ∙ is
@@ -307,6 +355,7 @@ module _ (past : List Node) (old new : Standing) (q : Request) (works : old.fail
     stands = subst (HasPast past) (sym same) (works_past past old works known);
     step = step_of Closed [] [] (λ e. cc) tt (inl refl) (unmounts, refl, inl (clean, refl));
     fails = ap (λ (c : Standing). c.failed) same ∙ works;
+    in_hand = λ e. cc;
     two = λ k. absurd (opposite (keeps_two Closed) k refl);
   }
 
@@ -320,8 +369,12 @@ module _ (past : List Node) (old new : Standing) (q : Request) (works : old.fail
       | inr tree ↦ step_of (Refused cause) [] [] (not_failed cause tree.0) tt (inl refl) (by_tree cause (turn_of past old new) q tree.0 takes (decision_is past old q known ∙ tree.1), refl)
     ];
     fails = ap (λ (c : Standing). c.failed) same ∙ works ∙ sym (elim why [ inl memory ↦ ap (λ c. is_failure (Refused c)) memory | inr tree ↦ no_failure cause tree.0 ]);
+    in_hand = λ e. absurd (elim why [ inl memory ↦ memory_only (ap (λ c. Refused c) (sym memory) ∙ e) | inr tree ↦ not_device cause tree.0 e ]);
     two = λ k e. subst (λ (c : Standing). 2 ≤ (layout_in c.image c.book).erased) (sym same) e;
   }
+    where
+      memory_only : ◌≡◌ {A = Outcome} (Refused causes.Memory) (Refused causes.Device) → ⊥
+      memory_only e = cc
 
   -- a record was put at once
   pub put_copy : (node : Node) → IsNodeOf old q node → is_copy_wish q.wish ≡ true → MayPut past old.book.sector_size rooms.Fresh node → HasPut rooms.Fresh node old new → HasAnswered past old new q (Copied node.version)
@@ -331,6 +384,7 @@ module _ (past : List Node) (old new : Standing) (q : Request) (works : old.fail
     step = step_of (Copied node.version) [] (node ∷ []) (λ e. cc) tt (inl refl)
         (of.new, copies, decision_is past old q known ∙ of.decided, refl, next_of node of, ap (λ (m : Node). m ∷ []) of.is);
     fails = h.works;
+    in_hand = λ e. cc;
     two = λ k. fresh_put_keeps node old new h;
   }
     where
@@ -344,6 +398,7 @@ module _ (past : List Node) (old new : Standing) (q : Request) (works : old.fail
     step = step_of Closed [] (node ∷ []) (λ e. cc) tt (inl refl)
         (unmounts, refl, inr (dirty, (of.new, node.version, decision_is past old q known ∙ of.decided, next, ap (λ (m : Node). m ∷ []) of.is)));
     fails = h.works;
+    in_hand = λ e. cc;
     two = λ k. absurd (opposite (keeps_two Closed) k refl);
   }
     where
@@ -360,7 +415,17 @@ module _ (past : List Node) (old new : Standing) (q : Request) (works : old.fail
   -- a record wasn't put, and nothing was made beside it
   pub put_stopped : (room : Room) (node : Node) (cause : Cause) (of : IsNodeOf old q node) → room ≡ room_of of.new → MayPut past old.book.sector_size room node → PutRefused room node cause old new → (cause ≡ causes.NoSpace → is_fresh (with of.new 0 0 0) ≡ true → ⊥)
       → HasAnswered past old new q (Refused cause)
-  put_stopped room node cause of is may h none = record { after = past; stands = refused_past cause past old new (h.stands past known may); step = by_cause cause h (h.stands past known may) none; fails = fails_as cause past old new (h.stands past known may); two = λ k. refused_keeps cause past old new (h.stands past known may) (λ e two. subst (λ (l : Layout). 2 ≤ l.erased) (sym (h.kept e)) two) k }
+  put_stopped room node cause of is may h none =
+      let P : Node → Type 0 = λ m. m ≡ node in
+      let stands = h.stands past known may in
+      record {
+        after = past;
+        stands = refused_past P past (λ m same. subst (MayFollow past) (sym same) may.follows) cause old new stands;
+        step = by_cause cause h stands none;
+        fails = fails_as P cause past old new stands;
+        in_hand = device_left P (IsInHand (turn_of past old new) q past) (λ m same. subst (IsInHand (turn_of past old new) q past) (sym same) (own_in_hand past old q known node node of past new of.is has_next)) cause past old new stands;
+        two = λ k. refused_keeps P cause past old new stands (λ e two. subst (λ (l : Layout). 2 ≤ l.erased) (sym (h.kept e)) two) k;
+      }
     where
       has_next : next_version past ≡ Some node.version
       has_next = ap (λ (l : Limits). l.next_version) (sym known.limits_are) ∙ of.next
@@ -378,7 +443,7 @@ module _ (past : List Node) (old new : Standing) (q : Request) (works : old.fail
           ∙ ap (λ k. has_room room k log.free log.erased) (ap record_len (sym of.is))
           ∙ e
 
-      by_cause : (c : Cause) → PutRefused room node c old new → RefusedAt c past old new → (c ≡ causes.NoSpace → is_fresh (with of.new 0 0 0) ≡ true → ⊥) → IsStep (turn_of past old new) q (Refused c) past
+      by_cause : (c : Cause) → PutRefused room node c old new → RefusedWith (λ m. m ≡ node) c past old new → (c ≡ causes.NoSpace → is_fresh (with of.new 0 0 0) ≡ true → ⊥) → IsStep (turn_of past old new) q (Refused c) past
       by_cause causes.VersionsSpent h r none = absurd (no_next r.1)
       by_cause causes.Memory h r none = step_of (Refused causes.Memory) [] [] (λ e. cc) tt (inl refl) (tt, refl)
       by_cause causes.NoSpace h r none = step_of (Refused causes.NoSpace) [] [] (λ e. cc) tt (inl refl)
@@ -405,6 +470,7 @@ module _ (past : List Node) (old new : Standing) (q : Request) (works : old.fail
     step = step_of (Appended node.inode node.version) [] (node ∷ []) (λ e. cc) tt (inl refl)
         (of.new, decision_is past old q known ∙ of.decided, fresh, ap (λ (m : Node). m.inode) (sym of.is), its_version past old q node known of, ap (λ (m : Node). m ∷ []) of.is);
     fails = now_works;
+    in_hand = λ e. cc;
     two = λ k. two;
   }
 
@@ -418,18 +484,21 @@ module _ (past : List Node) (old new : Standing) (q : Request) (works : old.fail
         (step_of (Appended next.inode next.version) copies.copies (next ∷ []) (λ e. cc) copies.true_copies room
         (of.new, decision_is past old q known ∙ of.decided, fresh, ap (λ (m : Node). m.inode) (sym is), ap next_version (sym copies.joined) ∙ version, ap (λ (m : Node). m ∷ []) is));
     fails = now_works;
+    in_hand = λ e. cc;
     two = λ k. two;
   }
 
   -- room couldn't be made
-  pub make_stopped : (node : Node) (cause : Cause) (after : List Node) (of : IsNodeOf old q node) → is_fresh (with of.new 0 0 0) ≡ true → had_room (turn_of past old new) of.new ≡ false → OnlyCopies past after → RefusedAt cause after old new
+  pub make_stopped : (P : Node → Type 0) (node : Node) (cause : Cause) (after : List Node) (of : IsNodeOf old q node) → ((m : Node) → P m → IsInHand (turn_of past old new) q after m × MayFollow after m)
+      → is_fresh (with of.new 0 0 0) ≡ true → had_room (turn_of past old new) of.new ≡ false → OnlyCopies past after → RefusedWith P cause after old new
       → (cause ≡ causes.NoSpace → 2 ≤ (layout_in old.image old.book).erased → heavy old.book.sectors old.book.sector_size ≤ weight past) → (cause ≡ causes.NoSpace → KeepsTwo old new) → HasAnswered past old new q (Refused cause)
-  make_stopped node cause after of fresh none copies r bound two = record {
+  make_stopped P node cause after of in_hand fresh none copies r bound two = record {
     after = after;
-    stands = refused_past cause after old new r;
+    stands = refused_past P after (λ m h. (in_hand m h).1) cause old new r;
     step = subst (IsStep (turn_of past old new) q (Refused cause)) (sym copies.joined) (by_cause cause r bound);
-    fails = fails_as cause after old new r;
-    two = λ k. refused_keeps cause after old new r two k;
+    fails = fails_as P cause after old new r;
+    in_hand = device_left P (IsInHand (turn_of past old new) q after) (λ m h. (in_hand m h).0) cause after old new r;
+    two = λ k. refused_keeps P cause after old new r two k;
   }
     where
       no_room : HadNoRoom (turn_of past old new) q of.new
@@ -438,7 +507,7 @@ module _ (past : List Node) (old new : Standing) (q : Request) (works : old.fail
       made : MakesRoom (turn_of past old new) q
       made = (of.new, no_room, fresh)
 
-      by_cause : (c : Cause) → RefusedAt c after old new → (c ≡ causes.NoSpace → 2 ≤ (layout_in old.image old.book).erased → heavy old.book.sectors old.book.sector_size ≤ weight past)
+      by_cause : (c : Cause) → RefusedWith P c after old new → (c ≡ causes.NoSpace → 2 ≤ (layout_in old.image old.book).erased → heavy old.book.sectors old.book.sector_size ≤ weight past)
           → IsStep (turn_of past old new) q (Refused c) (copies.copies ++ past)
       by_cause causes.VersionsSpent r bound = step_of (Refused causes.VersionsSpent) copies.copies [] (λ e. cc) copies.true_copies (inr made) ((of.takes_node, inr (made, ap next_version (sym copies.joined) ∙ r.1)), refl)
       by_cause causes.Memory r bound = step_of (Refused causes.Memory) copies.copies [] (λ e. cc) copies.true_copies (inr made) (tt, refl)
@@ -458,23 +527,23 @@ module _ (past : List Node) (old new : Standing) (q : Request) (works : old.fail
       by_cause causes.Failed r bound = absurd r
 
 -- Seen from before the cleaning.
-pub refused_along : (cause : Cause) (after : List Node) (old middle new : Standing) → middle.faults ≡ old.faults → RefusedAt cause after middle new → RefusedAt cause after old new
-refused_along causes.VersionsSpent after old middle new same h = (record { works = h.0.works; faults = h.0.faults ∙ same; knows = h.0.knows }, h.1)
-refused_along causes.Memory after old middle new same h = record { works = h.works; faults = h.faults ∙ same; knows = h.knows }
-refused_along causes.NoSpace after old middle new same h = record { works = h.works; faults = h.faults ∙ same; knows = h.knows }
-refused_along causes.Device after old middle new same h = record { fails = h.fails; faults = subst (λ k. k < new.faults) same h.faults; left = h.left }
-refused_along causes.RootFixed after old middle new same h = h
-refused_along causes.NoParent after old middle new same h = h
-refused_along causes.NameTaken after old middle new same h = h
-refused_along causes.NotFound after old middle new same h = h
-refused_along causes.IsDirectory after old middle new same h = h
-refused_along causes.DataLong after old middle new same h = h
-refused_along causes.FileLong after old middle new same h = h
-refused_along causes.NotEmpty after old middle new same h = h
-refused_along causes.NotNeeded after old middle new same h = h
-refused_along causes.Stale after old middle new same h = h
-refused_along causes.InodesSpent after old middle new same h = h
-refused_along causes.Failed after old middle new same h = h
+pub refused_along : (P : Node → Type 0) (cause : Cause) (after : List Node) (old middle new : Standing) → middle.faults ≡ old.faults → RefusedWith P cause after middle new → RefusedWith P cause after old new
+refused_along P causes.VersionsSpent after old middle new same h = (record { works = h.0.works; faults = h.0.faults ∙ same; knows = h.0.knows }, h.1)
+refused_along P causes.Memory after old middle new same h = record { works = h.works; faults = h.faults ∙ same; knows = h.knows }
+refused_along P causes.NoSpace after old middle new same h = record { works = h.works; faults = h.faults ∙ same; knows = h.knows }
+refused_along P causes.Device after old middle new same h = record { fails = h.fails; faults = subst (λ k. k < new.faults) same h.faults; left = h.left }
+refused_along P causes.RootFixed after old middle new same h = h
+refused_along P causes.NoParent after old middle new same h = h
+refused_along P causes.NameTaken after old middle new same h = h
+refused_along P causes.NotFound after old middle new same h = h
+refused_along P causes.IsDirectory after old middle new same h = h
+refused_along P causes.DataLong after old middle new same h = h
+refused_along P causes.FileLong after old middle new same h = h
+refused_along P causes.NotEmpty after old middle new same h = h
+refused_along P causes.NotNeeded after old middle new same h = h
+refused_along P causes.Stale after old middle new same h = h
+refused_along P causes.InodesSpent after old middle new same h = h
+refused_along P causes.Failed after old middle new same h = h
 
 -- The log holds the newest part of the history.
 pub past_holds : (past : List Node) (c : Standing) → Knows past c → (gone : List Node) × Holds (session past c) gone
@@ -520,6 +589,7 @@ failed_answer past c q fails h = record {
     outcome = ((fails, refl), refl);
   };
   fails = fails;
+  in_hand = λ e. cc;
   two = λ k e. e;
 }
 
@@ -542,6 +612,10 @@ answered writer seq o mounted past old middle new q grown h kept =
       };
       step = subst (λ t. IsStep t q o h.after) same h.step;
       fails = ap (λ (c : Standing). c.failed) kept ∙ h.fails;
+      in_hand = λ device.
+          let b = h.in_hand device in
+          subst (λ t. HasFailed (IsInHand t q h.after) h.after new) same
+          (subst (HasFailed (IsInHand (turn_of past old middle) q h.after) h.after) (sym kept) (record { clean = b.clean; tree = b.tree; left = b.left }));
       two = λ k e. subst (λ (c : Standing). 2 ≤ (layout_in c.image c.book).erased) (sym kept) (h.two k e);
     }
 

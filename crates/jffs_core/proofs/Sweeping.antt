@@ -32,12 +32,13 @@ use Rattle.jffs_log.proofs.Copied.{copies_take_over, live_present}
 use Rattle.jffs_log.proofs.Parts.{versions_follow}
 use Rattle.jffs_log.proofs.Bound.{erasing_keeps_sound}
 use Rattle.jffs_core.specs.Standing.{Standing}
+use Rattle.jffs_core.specs.History.{IsOwnCopy}
 use Rattle.jffs_core.specs.Past.{IsPast, Knows, is_clean_in, session}
 use Rattle.jffs_core.specs.Acting.{FailsIn, RefusedAt, MayPut, HasPut, PutRefused, HasHandled, CopyStopped}
 use Rattle.jffs_core.proofs.Deciding.{next_is_newest}
-use Rattle.jffs_core.proofs.Stepping.{known_version}
+use Rattle.jffs_core.proofs.Stepping.{known_version, refused_more}
 
-pub refused_device : (cause : Cause) (past : List Node) (old new : Standing) → cause ≡ causes.Device → FailsIn past old new → RefusedAt cause past old new
+pub refused_device : (cause : Cause) (past : List Node) (old new : Standing) → cause ≡ causes.Device → FailsIn (IsOwnCopy past) past old new → RefusedAt cause past old new
 refused_device cause past old new is h = subst (λ c. RefusedAt c past old new) (sym is) h
 
 -- The sectors of the log, and the oldest of them.
@@ -107,6 +108,9 @@ module _ (past : List Node) (c : Standing) (source : Node) (version : ℕ) (know
         next = is_next;
       }
 
+  is_own : IsOwnCopy past (copied past source)
+  is_own = (refl, refl, is_next, (there.0, cleaning_copies_are_true past source there.0 (version_after past) there.1))
+
   pub copy_put : (new : Standing) (node : Node) → node ≡ copied past source → record_len source ≤ c.book.sector_size / 4 → HasPut rooms.Copy node c new → HasHandled past source true c new
   copy_put new node is short h =
       let h2 : HasPut rooms.Copy (copied past source) c new = subst (λ m. HasPut rooms.Copy m c new) is h in
@@ -115,7 +119,7 @@ module _ (past : List Node) (c : Standing) (source : Node) (version : ℕ) (know
         after = copied past source ∷ past;
         added = record {
           copies = copied past source ∷ [];
-          true_copies = (tt, (refl, refl, is_next, (there.0, cleaning_copies_are_true past source there.0 (version_after past) there.1)));
+          true_copies = (tt, is_own);
           joined = refl;
         };
         stands = record { works = h2.works; faults = h2.faults; knows = h2.knows past known (copy_may short) };
@@ -128,7 +132,7 @@ module _ (past : List Node) (c : Standing) (source : Node) (version : ℕ) (know
       let h2 : PutRefused rooms.Copy (copied past source) cause c new = subst (λ m. PutRefused rooms.Copy m cause c new) is h in
       let log = layout_in c.image c.book in
       record {
-        stands = h2.stands past known (copy_may short);
+        stands = refused_more (λ m. m ≡ copied past source) (IsOwnCopy past) (λ m same. subst (IsOwnCopy past) (sym same) is_own) cause past c new (h2.stands past known (copy_may short));
         no_room = λ e. ap (λ t. not t || has_room rooms.Copy (record_len (copied past source)) log.free log.erased) live ∙ h2.no_room e;
       }
 

@@ -23,12 +23,12 @@ use Rattle.jffs_core.specs.Standing.{Standing, SameAnswers}
 use Rattle.jffs_core.specs.Run.{OnlyCopies}
 use Rattle.jffs_core.specs.declared.cleaning.Cleaned.{Cleaned}
 use Rattle.jffs_core.specs.declared.cleaning.Cleaned.TheVariants.{Erased, OneSector}
-use Rattle.jffs_core.specs.History.{Grows}
+use Rattle.jffs_core.specs.History.{IsOwnCopy, Grows}
 use Rattle.jffs_core.specs.Past.{Knows, HasPast, StandsFor, session}
 use Rattle.jffs_core.specs.Acting.{WorksOn, RefusedAt, HasHandled, CopyStopped, HasCopied, HasCleaned, HasErased, HasMadeRoom, CleaningStopped, DidClean, Cleans, Stops, StopIs, KeepsTwo, erased_times}
 use Rattle.jffs_core.proofs.Lawful.{copies_along}
 use Rattle.jffs_core.proofs.RoomMade.{oldest_known}
-use Rattle.jffs_core.proofs.Stepping.{refused_along, sizes_low, works_past, refused_past}
+use Rattle.jffs_core.proofs.Stepping.{refused_along, sizes_low, works_past, copies_follow, refused_past}
 use Rattle.jffs_core.proofs.Contents.{grows_along, only_copies_grow}
 use Rattle.jffs_core.proofs.Sweeping.{oldest_is}
 
@@ -139,7 +139,7 @@ pub copying_has_room : (nodes past after : List Node) (k copies : ℕ) (node : N
     → 2 ≤ length (layout_in old.image old.book).sectors → k < length nodes → node ≡ get_or nodes k node → HasCopied (take k nodes) past after copies old middle → CopyStopped cause after node middle new → CleaningStopped cause past after old new
 copying_has_room nodes past after k copies node cause old middle new known oldest several below is h stopped = record {
   copies = h.added;
-  stands = refused_along cause after old middle new h.stands.faults stopped.stands;
+  stands = refused_along (IsOwnCopy after) cause after old middle new h.stands.faults stopped.stands;
   no_room = λ e two.
       let z = old.book.sector_size in
       let s = session past old in
@@ -254,7 +254,7 @@ turning_goes_on len left copies past after later old middle new sizes h none sev
 pub turning_stopped : (len left : ℕ) (past after later : List Node) (cause : Cause) (old middle new : Standing) → HasTurned len left past after old middle → CleaningStopped cause after later middle new → CleaningStopped cause past later old new
 turning_stopped len left past after later cause old middle new h c = record {
   copies = copies_along past after later h.copies c.copies;
-  stands = refused_along cause later old middle new h.stands.faults c.stands;
+  stands = refused_along (IsOwnCopy later) cause later old middle new h.stands.faults c.stands;
   no_room = λ e two. c.no_room e (h.two two);
 }
 
@@ -376,7 +376,7 @@ did_stop mounted past cause old new works s h =
     record {
       after = h.0;
       added = c.copies;
-      stands = stands_after mounted past h.0 new s.grown c.copies (refused_past cause h.0 old new c.stands);
+      stands = stands_after mounted past h.0 new s.grown c.copies (refused_past (IsOwnCopy h.0) h.0 (copies_follow h.0) cause old new c.stands);
       why = stop_is cause h.0 old new works c.stands c.no_room;
     }
 
@@ -385,7 +385,7 @@ stopped_before mounted past c fails s = record { after = past; added = record { 
 
 pub device_stop : (mounted past : List Node) (cause : Cause) (old new : Standing) → old.failed ≡ false → StandsFor mounted past old → cause ≡ causes.Device → RefusedAt cause past old new → StandsFor mounted past new × StopIs cause past old new
 device_stop mounted past cause old new works s is h =
-    (record { grown = s.grown; stands = refused_past cause past old new h }, stop_is cause past old new works h (λ e. absurd (other (sym e ∙ is))))
+    (record { grown = s.grown; stands = refused_past (IsOwnCopy past) past (copies_follow past) cause old new h }, stop_is cause past old new works h (λ e. absurd (other (sym e ∙ is))))
   where
     other : ◌≡◌ {A = Cause} causes.NoSpace causes.Device → ⊥
     other e = cc

@@ -20,10 +20,10 @@ use Rattle.jffs_log.specs.RoomLaws.{suits_room}
 use Rattle.jffs_core.specs.declared.cleaning.Cleaned.{Cleaned}
 use Rattle.jffs_core.specs.declared.cleaning.Cleaned.TheVariants.{Erased, OneSector}
 use Rattle.jffs_core.specs.Standing.{Standing}
-use Rattle.jffs_core.specs.History.{HasNextVersion, MayFollow}
+use Rattle.jffs_core.specs.History.{HasNextVersion, IsOwnCopy, MayFollow}
 use Rattle.jffs_core.specs.Run.{OnlyCopies, is_failure}
 use Rattle.jffs_core.specs.Past.{session, Knows, HasFailed, HasPast, StandsFor, has_room_for}
-use Rattle.jffs_core.specs.Step.{Turn, IsStep, is_unmount_wish}
+use Rattle.jffs_core.specs.Step.{Turn, IsStep, IsInHand, is_unmount_wish}
 
 -- The core works with this history, and no call of the device failed.
 pub record WorksOn (after : List Node) (old new : Standing) : Type 0 where
@@ -31,19 +31,23 @@ pub record WorksOn (after : List Node) (old new : Standing) : Type 0 where
   pub faults : new.faults ≡ old.faults
   pub knows : Knows after new
 
--- A call of the device failed, and so has the core.
-pub record FailsIn (after : List Node) (old new : Standing) : Type 0 where
+-- A call of the device failed, and so has the core, with a node of this kind in hand.
+pub record FailsIn (InHand : Node → Type 0) (after : List Node) (old new : Standing) : Type 0 where
   pub fails : new.failed ≡ true
   pub faults : old.faults < new.faults
-  pub left : HasFailed after new
+  pub left : HasFailed InHand after new
 
--- what stands where a call was refused with this cause
+-- what stands where a call was refused with this cause, with a node of this kind in hand
+abbrev pub RefusedWith : (Node → Type 0) → Cause → List Node → Standing → Standing → Type 0
+RefusedWith InHand VersionsSpent after old new = WorksOn after old new × (next_version after ≡ None)
+RefusedWith InHand Memory after old new = WorksOn after old new
+RefusedWith InHand NoSpace after old new = WorksOn after old new
+RefusedWith InHand Device after old new = FailsIn InHand after old new
+RefusedWith InHand _ after old new = ⊥
+
+-- the same of a call that makes no nodes but own copies
 abbrev pub RefusedAt : Cause → List Node → Standing → Standing → Type 0
-RefusedAt VersionsSpent after old new = WorksOn after old new × (next_version after ≡ None)
-RefusedAt Memory after old new = WorksOn after old new
-RefusedAt NoSpace after old new = WorksOn after old new
-RefusedAt Device after old new = FailsIn after old new
-RefusedAt _ after old new = ⊥
+RefusedAt cause after old new = RefusedWith (IsOwnCopy after) cause after old new
 
 -- the node may be the next of the history, and its record may stand where that room is
 pub record MayPut (past : List Node) (sector_size : ℕ) (room : Room) (n : Node) : Type 0 where
@@ -63,7 +67,7 @@ pub record HasPut (room : Room) (n : Node) (old new : Standing) : Type 0 where
 
 -- why a node wasn't put
 pub record PutRefused (room : Room) (n : Node) (cause : Cause) (old new : Standing) : Type 0 where
-  pub stands : (past : List Node) → Knows past old → MayPut past old.book.sector_size room n → RefusedAt cause past old new
+  pub stands : (past : List Node) → Knows past old → MayPut past old.book.sector_size room n → RefusedWith (λ m. m ≡ n) cause past old new
   pub no_room : cause ≡ NoSpace → has_room_for old room (record_len n) ≡ false
   pub kept : cause ≡ NoSpace → layout_in new.image new.book ≡ layout_in old.image old.book
 
@@ -149,12 +153,13 @@ turn_of past old new = record {
   device_faulted = nat_lt old.faults new.faults;
 }
 
--- The answer is a lawful step from this history to another, which the core has then. The core has failed exactly where the answer is Device or Failed.
+-- The answer is a lawful step from this history to another, which the core has then. The core has failed exactly where the answer is Device or Failed, and after Device only the node in hand may stand beside that history.
 pub record HasAnswered (past : List Node) (old new : Standing) (q : Request) (o : Outcome) : Type 0 where
   pub after : List Node
   pub stands : HasPast after new
   pub step : IsStep (turn_of past old new) q o after
   pub fails : new.failed ≡ is_failure o
+  pub in_hand : o ≡ Refused Device → HasFailed (IsInHand (turn_of past old new) q after) after new
   pub two : keeps_two o ≡ true → KeepsTwo old new
 
 -- the same of the history since a mount
@@ -163,6 +168,7 @@ pub record Answers (mounted past : List Node) (old new : Standing) (q : Request)
   pub stands : StandsFor mounted after new
   pub step : IsStep (turn_of past old new) q o after
   pub fails : new.failed ≡ is_failure o
+  pub in_hand : o ≡ Refused Device → HasFailed (IsInHand (turn_of past old new) q after) after new
   pub two : keeps_two o ≡ true → KeepsTwo old new
 
 -- an answer that ends the session
@@ -215,6 +221,7 @@ pub record IsDeadOldest (c : Standing) : Type 0 where
 -- So many of the oldest sectors were erased, none of which held a live record; the history is the same, and the oldest sector that is left may not be erased.
 pub record ErasesDead (mounted past : List Node) (count : ℕ) (old new : Standing) : Type 0 where
   pub works : old.failed ≡ false
+  pub still_works : new.failed ≡ false
   pub stands : StandsFor mounted past new
   pub log : layout_in new.image new.book ≡ erased_times count (layout_in old.image old.book)
   pub last : IsDeadOldest new → ⊥

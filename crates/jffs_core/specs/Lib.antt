@@ -4,6 +4,7 @@ pub mod Step
 pub mod Run
 pub mod Past
 pub mod Acting
+pub mod Finding
 pub mod RoomSteps
 pub mod Rows
 pub mod Nodes

@@ -47,20 +47,20 @@ session past c = record { past = past; log = layout_in c.image c.book }
 abbrev pub has_room_for : Standing → Room → ℕ → Bool
 has_room_for c room len = has_room room len (layout_in c.image c.book).free (layout_in c.image c.book).erased
 
--- of the history, or of it and one node more that may follow
-abbrev pub OrOneMore : List Node → (List Node → Type 0) → Type 0
-OrOneMore past P = P past ⊎ ((n : Node) × MayFollow past n × P (n ∷ past))
+-- of the history, or of it and one node more of this kind
+abbrev pub OrOneMore : (Node → Type 0) → List Node → (List Node → Type 0) → Type 0
+OrOneMore More past P = P past ⊎ ((n : Node) × More n × P (n ∷ past))
 
--- What stands of a core whose device failed. Tree and image may each have one node more, and of an image nothing is known once an erase failed.
-pub record HasFailed (past : List Node) (c : Standing) : Type 0 where
+-- What stands of a core whose device failed. Tree and image may each have one node more, of this kind, and of an image nothing is known once an erase failed.
+pub record HasFailed (More : Node → Type 0) (past : List Node) (c : Standing) : Type 0 where
   pub clean : c.clean ≡ true → ends_with_unmount past ≡ true
-  pub tree : OrOneMore past (λ found. c.tree ≡ tree_of found)
-  pub left : c.erase_failed ≡ false → OrOneMore past (λ found. IsHistory c.image c.book found)
+  pub tree : OrOneMore More past (λ found. c.tree ≡ tree_of found)
+  pub left : c.erase_failed ≡ false → OrOneMore More past (λ found. IsHistory c.image c.book found)
 
 -- what stands of a core with this history, whether or not its device failed
 pub record HasPast (past : List Node) (c : Standing) : Type 0 where
   pub working : c.failed ≡ false → Knows past c
-  pub broken : c.failed ≡ true → HasFailed past c
+  pub broken : c.failed ≡ true → HasFailed (MayFollow past) past c
 
 -- A core stands for the log that was mounted and the history since.
 pub record StandsFor (mounted past : List Node) (c : Standing) : Type 0 where
@@ -98,4 +98,4 @@ ScansFindContents = (mounted past : List Node) (c : Standing) → StandsFor moun
 -- After a failure, but for that of an erase, a scan finds the history, or it and one node more that may follow.
 abbrev pub FailedScansFind : Type 0
 FailedScansFind = (mounted past : List Node) (c : Standing) → StandsFor mounted past c → c.failed ≡ true → c.erase_failed ≡ false
-    → OrOneMore past (λ found. (scanned : Scanned) × (scan c.book.sector_size (split c.book.sectors c.book.sector_size c.image) ≡ Ok scanned) × (scanned.tree ≡ tree_of found))
+    → OrOneMore (MayFollow past) past (λ found. (scanned : Scanned) × (scan c.book.sector_size (split c.book.sectors c.book.sector_size c.image) ≡ Ok scanned) × (scanned.tree ≡ tree_of found))

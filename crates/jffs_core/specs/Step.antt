@@ -14,7 +14,7 @@ use Rattle.jffs_line.specs.declared.request.Request.{Request}
 use Rattle.jffs_log.specs.declared.room.Room.{Room}
 use Rattle.jffs_log.specs.declared.room.Room.TheVariants as rooms
 use Rattle.jffs_log.specs.Room.{has_room, limits, next_version, weight, heavy}
-use Rattle.jffs_core.specs.History.{AreOwnCopies}
+use Rattle.jffs_core.specs.History.{HasNextVersion, IsOwnCopy, AreOwnCopies}
 
 pub record Volume : Type 0 where
   pub sectors : ℕ
@@ -44,6 +44,17 @@ is_copy_wish _ = false
 abbrev pub is_unmount_wish : Wish → Bool
 is_unmount_wish Unmount = true
 is_unmount_wish _ = false
+
+-- the node that was decided for the request, with the version that comes next
+pub record IsNodeFor (t : Turn) (q : Request) (after : List Node) (n : Node) : Type 0 where
+  pub new : NewNode
+  pub decided : decision t q ≡ Ok new
+  pub is : n ≡ node_of new q n.version
+  pub next : HasNextVersion after n
+
+-- the node that is written while the request is answered: a copy made beside it, or its own
+abbrev pub IsInHand : Turn → Request → List Node → Node → Type 0
+IsInHand t q after n = IsOwnCopy after n ⊎ IsNodeFor t q after n
 
 -- an Unmount of a clean log takes no node
 abbrev pub takes_no_node : Turn → Request → Bool

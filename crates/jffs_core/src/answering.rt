@@ -35,12 +35,15 @@ impl<F: Flash> Core<F> {
     /// Answers a request and keeps the answer, for which a place is reserved: the caller's condition.
     ///
     /// The answer is a lawful step from the history before to the one after. Failed: nothing was
-    /// changed, and no call of the device was made. After Device or Failed the core is failed.
+    /// changed, and no call of the device was made. After Device or Failed the core is failed; after
+    /// Device the image holds that history, or that and the node in hand: a copy that makes room for
+    /// the request, or the node that was decided for it. Nothing is said of it once an erase failed.
     pub fn answer(&mut self, request: Request) -> Outcome
         requires reserved { length self.old.answers < self.old.places }
         ensures kept { self.new.answers ≡ self.old.answers ++ record { writer = request.writer; seq = request.seq; outcome = result } ∷ [] }
         ensures step { (mounted past : List Node) → StandsFor mounted past self.old → Answers mounted past self.old self.new request result }
         ensures closed { self.new.closed ≡ self.old.closed || is_closed result }
+        ensures failed { self.old.failed ≡ true → KeepsAnswer request.writer request.seq result self.old self.new }
         ensures sizes { HasSizes self.old.book.sectors self.old.book.sector_size self.new.book }
         ensures erases { self.new.book.erases ≤ self.old.book.erases + self.old.book.held }
     {
@@ -54,6 +57,7 @@ impl<F: Flash> Core<F> {
         ensures step { (mounted past : List Node) → StandsFor mounted past self.old → Answers mounted past self.old self.new request result.outcome }
         ensures node { HasNode result.outcome result.node }
         ensures closed { self.new.closed ≡ self.old.closed || is_closed result.outcome }
+        ensures failed { self.old.failed ≡ true → KeepsAnswer request.writer request.seq result.outcome self.old self.new }
         ensures sizes { HasSizes self.old.book.sectors self.old.book.sector_size self.new.book }
         ensures erases { self.new.book.erases ≤ self.old.book.erases + self.old.book.held }
     {

@@ -3,6 +3,7 @@
 ghost use Rattle.jffs_core.specs.History.{ContentsAreState};
 ghost use Rattle.jffs_core.specs.RoomSteps.{CleaningOnlyCopies, StoppedOnlyCopies, MakingRoomOnlyCopies, NoSpaceIsAStep, UnmountsHaveRoom};
 ghost use Rattle.jffs_core.specs.Past.{ScansFindContents, FailedScansFind};
+ghost use Rattle.jffs_core.specs.Finding.{DeviceScansFind};
 ghost use Rattle.jffs_core.specs.Rows.{Cleaning, LastOfHundred, Numbers, Growing, Spent, Filled};
 ghost use Rattle.jffs_core.specs.Run.{RunsGoOn, LawfulRunsGrow};
 
@@ -37,8 +38,10 @@ pub fn cleaning_is_lawful()
 {}
 
 /// A scan of a core's image finds what the fresh nodes since the mount made. After a failure, but for
-/// that of an erase, it finds that, or that with one node more.
+/// that of an erase, it finds that, or that with one node more; and after the answer Device the state
+/// before the request, or that after it.
 pub fn scans_find_contents()
     ensures works { ScansFindContents }
     ensures failed { FailedScansFind }
+    ensures device { DeviceScansFind }
 {}

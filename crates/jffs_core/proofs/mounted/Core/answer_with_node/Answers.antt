@@ -1,8 +1,9 @@
 use Rattle.std.proofs.Common.{◌∙◌, sym, ap, subst}
+use Rattle.jffs_log.proofs.Copied.{opposite}
 use Rattle.jffs_tree.specs.declared.wish.Outcome.{Outcome}
 use Rattle.jffs_core.specs.Standing.{Standing}
 use Rattle.jffs_core.specs.declared.answer.Answered.{Answered}
-use Rattle.jffs_core.specs.Acting.{HasAnswered}
+use Rattle.jffs_core.specs.Acting.{HasAnswered, KeepsAnswer}
 use Rattle.jffs_core.proofs.Stepping.{failed_answer, answered}
 use Rattle.jffs_core.proofs.mounted.Core.answer_with_node.Goals as goal
 use Rattle.jffs_core.proofs.mounted.Core.answer_with_node.Goals.{then-self, else-self}
@@ -23,3 +24,11 @@ returns-clause-step g c = λ mounted past stands.
           (subst (λ (o : Outcome). HasAnswered past old w.act-answered.new.self q o) (sym (ap (λ (a : Answered). a.outcome) w.answered-is)) (w.act-answered.ensures.acted past (stands.stands.working works)))
     ] in
     answered q.writer q.seq c.if-self.answered.outcome mounted past old c.if-self.self c.keep_answer.new.self q stands.grown acted c.keep_answer.ensures
+
+pub returns-clause-failed : goal.returns-clause-failed
+returns-clause-failed g c = λ fails.
+    let q = c.args.request in
+    elim c.if-self.branch [
+      | then-self w ↦ subst (λ (v : Standing). KeepsAnswer q.writer q.seq c.if-self.answered.outcome v c.keep_answer.new.self) w.self-is c.keep_answer.ensures
+      | else-self w ↦ absurd (opposite c.args.self.now.failed fails (ap (λ (v : Standing). v.failed) (sym c.self.view_is) ∙ w.if-self.false))
+    ]

@@ -98,8 +98,8 @@ returns-in-Err-clause-refused g c =
     let found = e.history past before may.rules in
     record {
       clean = λ is. clean_ends past old b c.self.inside.tree c.self.inside.limits c.self.inside.clean h is;
-      tree = inr (n, may.follows, c.in_ok-apply.ensures.ok past h.tree_is);
-      left = λ intact. elim found [ inl same ↦ inl same | inr more ↦ inr (n, may.follows, more) ];
+      tree = inr (n, refl, c.in_ok-apply.ensures.ok past h.tree_is);
+      left = λ intact. elim found [ inl same ↦ inl same | inr more ↦ inr (n, refl, more) ];
     })
 
 true_false : true ≡ false → ⊥

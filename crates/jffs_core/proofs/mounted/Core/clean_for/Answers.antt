@@ -1,12 +1,15 @@
-use Rattle.std.proofs.Common.{◌≡◌, ◌∙◌, false, ◌/◌, ◌≤◌, inr, Some, None, ap, sym, subst}
+use Rattle.std.proofs.Common.{◌≡◌, ◌∙◌, false, ◌/◌, ◌≤◌, inl, inr, Some, None, ap, sym, subst}
 use Rattle.jffs_node.specs.declared.node.Node.{Node}
 use Rattle.jffs_tree.specs.declared.wish.Cause.{Cause}
 use Rattle.jffs_tree.specs.declared.wish.Cause.TheVariants as causes
 use Rattle.jffs_log.specs.declared.room.Room.TheVariants as rooms
 use Rattle.jffs_log.specs.Cleaning.{Layout}
 use Rattle.jffs_core.specs.Standing.{Standing}
+use Rattle.jffs_core.specs.History.{IsOwnCopy, MayFollow}
+use Rattle.jffs_core.specs.Step.{IsInHand}
 use Rattle.jffs_core.specs.Past.{has_room_for}
-use Rattle.jffs_core.proofs.Stepping.{make_stopped, later_put_keeps, known_version, may_later, its_makes_room, its_len, its_short, its_full, fresh_is, fresh_room, put_fresh, works_past, refused_along, turn_was_full, none_left}
+use Rattle.jffs_core.specs.Acting.{turn_of}
+use Rattle.jffs_core.proofs.Stepping.{make_stopped, own_in_hand, copies_follow, later_put_keeps, known_version, may_later, its_makes_room, its_len, its_short, its_full, fresh_is, fresh_room, put_fresh, works_past, refused_along, turn_was_full, none_left}
 use Rattle.jffs_core.proofs.mounted.Core.clean_for.Goals as goal
 
 pub record_len-requires : goal.record_len-requires
@@ -19,7 +22,7 @@ returns-in-Err-clause-acted g c = λ past known.
     let n = c.args.node in
     let made = c.in-Err.ensures.refused past known in
     let stopped = made.1 in
-    make_stopped past _ _ q c.requires.working known n c.in-Err.cause made.0 d (fresh_is past _ q n known d c.requires.no_copy c.requires.no_unmount)
+    make_stopped past _ _ q c.requires.working known (IsOwnCopy made.0) n c.in-Err.cause made.0 d (λ m own. (inl own, copies_follow made.0 m own)) (fresh_is past _ q n known d c.requires.no_copy c.requires.no_unmount)
     (its_full past _ q n known d c.make_room.new.self (fresh_room past _ q n known d c.requires.no_copy c.requires.no_unmount) c.requires.no_room) stopped.copies stopped.stands (λ is two. absurd (stopped.no_room is two)) (λ is two. absurd (stopped.no_room is two))
 
 pub returns-in_default-next_version-clause-acted : goal.returns-in_default-next_version-clause-acted
@@ -31,7 +34,7 @@ returns-in_default-next_version-clause-acted g c = λ past known.
     let h = m.1 in
     let none = none_left _ c.in_default-next_version.not-Some in
     let spent = known_version m.0 c.make_room.new.self None h.stands.knows (ap (λ (v : Standing). v.limits.next_version) (sym c.self.view_is) ∙ none) in
-    make_stopped past _ _ q c.requires.working known n causes.VersionsSpent m.0 d (fresh_is past _ q n known d c.requires.no_copy c.requires.no_unmount)
+    make_stopped past _ _ q c.requires.working known (IsOwnCopy m.0) n causes.VersionsSpent m.0 d (λ m2 own. (inl own, copies_follow m.0 m2 own)) (fresh_is past _ q n known d c.requires.no_copy c.requires.no_unmount)
     (its_full past _ q n known d c.make_room.new.self (fresh_room past _ q n known d c.requires.no_copy c.requires.no_unmount) c.requires.no_room) h.copies (h.stands, spent) (λ is two. absurd (other is)) (λ is. absurd (other is))
   where
     other : ◌≡◌ {A = Cause} causes.VersionsSpent causes.NoSpace → ⊥
@@ -78,9 +81,12 @@ returns-in-Err-append-clause-acted g c = λ past known.
     let next = ap (λ (v : Standing). v.limits.next_version) (sym c.self.view_is) ∙ c.in-Some.is in
     let may = may_later past m.0 _ c.make_room.new.self q n d c.in-Some.version known c.requires.no_copy c.requires.no_unmount h.copies h.stands.knows c.make_room.ensures.sizes next in
     let len = c.record_len.ensures in
-    make_stopped past _ _ q c.requires.working known n c.in-Err-append.cause m.0 d (fresh_is past _ q n known d c.requires.no_copy c.requires.no_unmount)
+    let own : IsInHand (turn_of past c.args.self.now c.append.new.self) q m.0 later = own_in_hand past c.args.self.now q known n later d m.0 c.append.new.self (ap (λ (x : Node). record x { version = c.in-Some.version }) d.is)
+    (known_version m.0 c.make_room.new.self (Some c.in-Some.version) h.stands.knows next) in
+    make_stopped past _ _ q c.requires.working known (λ x. x ≡ later) n c.in-Err-append.cause m.0 d
+    (λ x same. (subst (IsInHand (turn_of past c.args.self.now c.append.new.self) q m.0) (sym same) own, subst (MayFollow m.0) (sym same) may.follows)) (fresh_is past _ q n known d c.requires.no_copy c.requires.no_unmount)
     (its_full past _ q n known d c.append.new.self (fresh_room past _ q n known d c.requires.no_copy c.requires.no_unmount) c.requires.no_room) h.copies
-    (refused_along c.in-Err-append.cause m.0 _ c.make_room.new.self _ h.stands.faults (r.stands m.0 h.stands.knows may))
+    (refused_along (λ x. x ≡ later) c.in-Err-append.cause m.0 _ c.make_room.new.self _ h.stands.faults (r.stands m.0 h.stands.knows may))
     (λ is two. turn_was_full c.record_len.result past m.0 _ c.make_room.new.self known h (subst (λ k. k ≤ c.args.self.now.book.sector_size / 4) (sym len) (its_short past _ q n known d))
     (subst (λ k. has_room_for c.make_room.new.self rooms.Fresh k ≡ false) (sym len) (r.no_room is)) two)
     (λ is two. subst (λ (l : Layout). 2 ≤ l.erased) (sym (r.kept is)) (h.two two))

@@ -12,6 +12,7 @@ returns-clause-erased g c =
     let e = h past (let k = s.stands in k.working works) in
     record {
       works = works;
+      still_works = e.stands.works;
       stands = record { grown = s.grown; stands = works_past past _ e.stands.works e.stands.knows };
       log = e.log;
       last = e.last;

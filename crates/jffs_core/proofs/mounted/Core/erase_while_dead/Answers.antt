@@ -1,6 +1,7 @@
 use Rattle.std.proofs.Common.{◌≡◌, ◌∙◌, true, false, length, sym, ap, arith}
 use Rattle.jffs_log.specs.Book.{layout_in}
 use Rattle.jffs_log.specs.Cleaning.{Layout}
+use Rattle.jffs_core.specs.History.{IsOwnCopy}
 use Rattle.jffs_core.specs.Acting.{IsDeadOldest}
 use Rattle.jffs_core.proofs.Stepping.{refused_along}
 use Rattle.jffs_core.proofs.Turning.{erasing_goes_on, one_fewer}
@@ -31,7 +32,7 @@ returns-clause-erased g c = λ past known.
 pub returns-in-Err-clause-stopped : goal.returns-in-Err-clause-stopped
 returns-in-Err-clause-stopped g c = λ past known.
     let d = c.loop-self.invariant.done past known in
-    refused_along c.in-Err.cause past c.args.self.now c.loop-self.self c.erase_oldest.new.self d.faults (c.in-Err.ensures.refused past d.knows)
+    refused_along (IsOwnCopy past) c.in-Err.cause past c.args.self.now c.loop-self.self c.erase_oldest.new.self d.faults (c.in-Err.ensures.refused past d.knows)
 
 pub loop-self-smaller : goal.loop-self-smaller
 loop-self-smaller g c =

@@ -46,6 +46,7 @@ impl<F: Flash> Core<F> {
         ensures failed { self.old.failed ≡ true → KeepsAnswer request.writer request.seq result self.old self.new }
         ensures sizes { HasSizes self.old.book.sectors self.old.book.sector_size self.new.book }
         ensures erases { self.new.book.erases ≤ self.old.book.erases + self.old.book.held }
+        ensures few { self.new.book.erases ≤ self.old.book.erases + self.old.book.sectors }
     {
         self.answer_with_node(request).outcome
     }
@@ -60,6 +61,7 @@ impl<F: Flash> Core<F> {
         ensures failed { self.old.failed ≡ true → KeepsAnswer request.writer request.seq result.outcome self.old self.new }
         ensures sizes { HasSizes self.old.book.sectors self.old.book.sector_size self.new.book }
         ensures erases { self.new.book.erases ≤ self.old.book.erases + self.old.book.held }
+        ensures few { self.new.book.erases ≤ self.old.book.erases + self.old.book.sectors }
     {
         let answered = if self.failed {
             Answered {

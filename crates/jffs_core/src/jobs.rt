@@ -30,6 +30,7 @@ impl<F: Flash> Core<F> {
         ensures works { IfOk result (λ _. self.new.failed ≡ false) }
         ensures memory { IfErr result (λ cause. cause ≡ Cause.Memory → self.new ≡ self.old) }
         ensures device { IfErr result (λ cause. cause ≡ Cause.Device → (self.new.failed ≡ true) × (self.old.faults < self.new.faults)) }
+        ensures failed { IfErr result (λ cause. cause ≡ Cause.Failed → self.old.failed ≡ true) }
     {
         if self.failed {
             return Err(Cause::Failed);

@@ -1,13 +1,13 @@
 -- What a run leaves on its device.
-use Rattle.std.proofs.Common.{◌≡◌, ℕ, List, inl, inr, sym, subst, ◌∙◌}
+use Rattle.std.proofs.Common.{◌≡◌, ℕ, List, sym, subst, ◌∙◌}
 use Rattle.jffs_log.specs.Image.{past_of}
 use Rattle.jffs_log.specs.Volume.{split}
 use Rattle.jffs_log.specs.Scan.{scan}
 use Rattle.jffs_core.specs.Run.{IsLawful}
 use Rattle.jffs_core.specs.Standing.{Standing}
 use Rattle.jffs_core.specs.declared.answer.Answer.{Answer}
-use Rattle.jffs_core.proofs.Scanning.{scans_find, failed_scans_find}
-use Rattle.jffs_serve.specs.Answered.{volume_of}
+use Rattle.jffs_core.proofs.Scanning.{scans_find, failed_finds_with}
+use Rattle.jffs_serve.specs.Answered.{volume_of, IsRequested}
 use Rattle.jffs_run.specs.Headline.{IsLeftBy, requests_in}
 use Rattle.jffs_run.specs.Scanned.{RunsLeaveContents, FailedRunsLeaveHistory}
 
@@ -35,12 +35,15 @@ pub failed_runs_leave_history : FailedRunsLeaveHistory
 failed_runs_leave_history count len faults before had_failed start script statements accepted answers waiting ends served sectors sector_size image erase_failed fresh run fails intact =
     let mounted = past_of fresh.scanned.log in
     let ran = run.lawful mounted mounted fresh.stands in
-    let same = same_scan run.core sectors sector_size image erase_failed run.left in
+    let f = failed_finds_with (IsRequested (volume_of start) run.replies ran.after) mounted ran.after run.core (let s = ran.stands in s.grown) (ran.in_hand fresh.works fails) (sym run.left.2 ∙ intact) in
     record {
       after = ran.after;
       lawful = subst (λ (given : List Answer). IsLawful (volume_of start) mounted (requests_in run.replies) given ran.after) (sym run.answers_are) ran.lawful;
-      found = elim (failed_scans_find mounted ran.after run.core ran.stands fails (sym run.left.2 ∙ intact)) [
-        | inl h ↦ inl (h.0, same ∙ h.1, h.2)
-        | inr more ↦ inr (more.0, more.1, (more.2.0, same ∙ more.2.1, more.2.2))
-      ];
+      finds = record {
+        scanned = f.scanned;
+        found = same_scan run.core sectors sector_size image erase_failed run.left ∙ f.found;
+        added = f.added;
+        since = f.since;
+        state_is = f.state_is;
+      };
     }

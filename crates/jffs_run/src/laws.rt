@@ -5,7 +5,7 @@ ghost use Rattle.jffs_run.specs.Unmounted.{RunsEndUnmounted};
 
 /// What the contract of `run_threads` says of the core, said of the device: the answers are lawful for their requests,
 /// and a scan finds what the fresh nodes appended since the mount made. Where the device failed, but not in an erase,
-/// a scan finds that history, or it and one node more.
+/// a scan finds that, or what the node of the request that was answered Device makes of it.
 pub fn runs_leave_contents()
     ensures works { RunsLeaveContents }
     ensures failed { FailedRunsLeaveHistory }

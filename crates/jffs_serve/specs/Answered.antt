@@ -1,15 +1,18 @@
 -- What a session has answered since some moment, and what it has sent of it.
-use Rattle.std.specs.Prelude.{◌≡◌, ℕ, Bool, true, List, ◌++◌, map, Option, Some, None}
+use Rattle.std.specs.Prelude.{◌≡◌, ◌⊎◌, ℕ, Bool, true, false, List, ◌++◌, map, Contains, Option, Some, None}
 use Rattle.std.specs.List.{list_any}
 use Rattle.jffs_node.specs.declared.node.Node.{Node}
+use Rattle.jffs_tree.specs.declared.wish.Outcome.TheVariants.{Refused}
+use Rattle.jffs_tree.specs.declared.wish.Cause.TheVariants.{Device}
 use Rattle.jffs_line.specs.declared.request.Request.{Request}
 use Rattle.jffs_line.specs.Requests.{of}
 use Rattle.jffs_index.specs.declared.step.Step.{Step}
 use Rattle.jffs_log.specs.Book.{HasSizes}
-use Rattle.jffs_core.specs.Standing.{Standing}
-use Rattle.jffs_core.specs.Step.{Volume}
-use Rattle.jffs_core.specs.Past.{StandsFor}
-use Rattle.jffs_core.specs.Run.{IsLawful, is_failure}
+use Rattle.jffs_core.specs.Standing.{Standing, IsSameButPlaces}
+use Rattle.jffs_core.specs.History.{IsOwnCopy}
+use Rattle.jffs_core.specs.Step.{Volume, Turn, IsNodeFor}
+use Rattle.jffs_core.specs.Past.{Knows, StandsFor, HasFailed}
+use Rattle.jffs_core.specs.Run.{IsLawful, OnlyCopies, is_failure}
 use Rattle.jffs_core.specs.declared.answer.Answer.{Answer}
 use Rattle.jffs_serve.specs.declared.session.Kept.{Kept}
 use Rattle.jffs_serve.specs.declared.session.Served.{Served}
@@ -31,12 +34,23 @@ volume_of c = record { sectors = c.book.sectors; sector_size = c.book.sector_siz
 abbrev pub any_failure : List Answer → Bool
 any_failure answers = list_any (λ (a : Answer). is_failure a.outcome) answers
 
--- From this history to another: the answers are lawful for their requests, and the core stands for the history after them. Where one tells of a failure, the core has failed.
+-- the node that was decided for one of these requests, the one that was answered Device, after copies alone
+pub record IsRequested (volume : Volume) (replies : List Reply) (after : List Node) (n : Node) : Type 0 where
+  pub reply : Reply
+  pub among : Contains replies reply
+  pub device : reply.step.outcome ≡ Refused Device
+  pub turn : Turn
+  pub same_volume : turn.volume ≡ volume
+  pub copies : OnlyCopies turn.past after
+  pub node : IsNodeFor turn reply.request after n
+
+-- From this history to another: the answers are lawful for their requests, and the core stands for the history after them. Where one tells of a failure, the core has failed. A core that fails meanwhile has nothing else in hand than an own copy, or the node of the request that was answered Device.
 pub record RunsTo (start core : Standing) (mounted past : List Node) (replies : List Reply) : Type 0 where
   pub after : List Node
   pub stands : StandsFor mounted after core
   pub lawful : IsLawful (volume_of start) past (map (λ (r : Reply). r.request) replies) (map answer_in replies) after
   pub failed : any_failure (map answer_in replies) ≡ true → core.failed ≡ true
+  pub in_hand : start.failed ≡ false → core.failed ≡ true → HasFailed (λ n. IsOwnCopy after n ⊎ IsRequested (volume_of start) replies after n) after core
 
 -- These replies were made since: all that was taken, each of them once; and each is put, or kept, in order. They are lawful from whatever history the core stood for.
 pub record HasReplied (start : Start) (core : Standing) (kept : Option Kept) (put : List Step) (taken : ℕ → List Request) (replies : List Reply) : Type 0 where
@@ -49,10 +63,11 @@ pub record HasReplied (start : Start) (core : Standing) (kept : Option Kept) (pu
   pub sizes : HasSizes start.standing.book.sectors start.standing.book.sector_size core.book
   pub lawful : (mounted past : List Node) → StandsFor mounted past start.standing → RunsTo start.standing core mounted past replies
 
--- The core stands for the history that it stood for, on a device of the same sizes, and has failed where it had.
+-- The core stands for the history that it stood for, on a device of the same sizes. Where it had failed, nothing is changed; where it fails now, nothing else than an own copy was in hand.
 pub record KeepsHistory (old new : Standing) : Type 0 where
   pub sizes : HasSizes old.book.sectors old.book.sector_size new.book
-  pub failed : old.failed ≡ true → new.failed ≡ true
+  pub failed : old.failed ≡ true → IsSameButPlaces old new
+  pub fails : old.failed ≡ false → new.failed ≡ true → (past : List Node) → Knows past old → HasFailed (IsOwnCopy past) past new
   pub stands : (mounted past : List Node) → StandsFor mounted past old → StandsFor mounted past new
 
 -- where serving ends, it ends as the replies say

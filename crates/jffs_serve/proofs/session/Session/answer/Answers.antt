@@ -17,6 +17,6 @@ returns-clause-replies g c put before now took start replies was =
       r ∷ [],
       subst (λ (e : Option Served). HasReplied start core (Some (Unput r.step e)) put now (replies ++ r ∷ [])) (sym c.ending_after.ensures)
           (replied_more start c.args.self.now.core core c.args.request answered.outcome answered.node c.is_unmount-unmounts.result
-          put before now replies c.requires.opened made.kept made.closed made.node c.is_unmount-unmounts.ensures took made.sizes made.step nothing),
+          put before now replies c.requires.opened made.kept made.closed made.node c.is_unmount-unmounts.ensures took made.sizes made.step made.failed nothing),
       tt,
     )

@@ -1,9 +1,8 @@
 //! Looks at a published index, and what a publish costs.
 
-ghost use Rattle.std.specs.Prelude.{◌≡◌, true, IfOk, OnOk};
+ghost use Rattle.std.specs.Prelude.{◌≡◌, IfOk};
 ghost use Rattle.jffs_index.specs.Histories.{view_of};
 ghost use Rattle.jffs_index.specs.Ends.{all_put};
-ghost use Rattle.jffs_index.specs.Shown.{fits_node, tree_with};
 
 use crate::fault::Fault;
 use crate::measure::Measure;

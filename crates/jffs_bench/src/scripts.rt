@@ -4,7 +4,7 @@ use crate::fault::Fault;
 use crate::measure::Measure;
 use crate::volume::{Sizes, Volume, WRITE_LEN};
 use jffs_flash::MemoryFlash;
-use jffs_run::{NoGate, Run, Script, Served, run_threads};
+use jffs_run::{NoGate, Script, Served, run_threads};
 use jffs_text::WRITERS_MAX;
 use jffs_tree::Wish;
 use std::alloc::Global;

@@ -1,6 +1,6 @@
 //! Which sizes a volume may have.
 
-ghost use Rattle.std.specs.Prelude.{◌≡◌, ◌↔◌, IsTrue, true};
+ghost use Rattle.std.specs.Prelude.{◌≡◌, ◌↔◌, IsTrue};
 ghost use Rattle.jffs_flash.specs.Sizes.{is_geometry as allows_geometry, is_sector_size as allows_sector_size};
 
 /// The fewest sectors that a volume may have.

@@ -1,5 +1,5 @@
 -- Each step of an index keeps its rule.
-use Rattle.std.proofs.Common.{◌≡◌, ℕ, ◌+◌, ◌≤◌, ◌<◌, ◌≢◌, ◌⊎◌, Bool, true, false, ◌&&◌, List, [], ◌∷◌, ◌++◌, length, drop, set, fold, refl, sym, ap, subst, ◌∙◌, ⊎_elim, append_assoc, append-nil, length-append, Option, Some, None, Result, Ok, Err, MatchResult, MatchBool, zero, suc, arith}
+use Rattle.std.proofs.Common.{◌≡◌, ℕ, ◌+◌, ◌≤◌, ◌≢◌, ◌⊎◌, Bool, true, false, ◌&&◌, List, [], ◌∷◌, ◌++◌, length, drop, set, fold, refl, sym, ap, subst, ◌∙◌, ⊎_elim, append_assoc, append-nil, length-append, Option, Some, None, Result, Ok, Err, MatchResult, MatchBool, zero, suc, arith}
 use Rattle.std.proofs.lemmas.List.Sums.{fold-append}
 use Rattle.std.proofs.lemmas.Bool.{false≢true}
 use Rattle.std.proofs.lemmas.Bool.Decides.{nat_tests}
@@ -18,10 +18,10 @@ use Rattle.jffs_index.specs.declared.page.Change.{Change}
 use Rattle.jffs_index.specs.declared.page.Change.TheVariants.{Put, Reach}
 use Rattle.jffs_tree.specs.Origin.{Tree}
 use Rattle.jffs_index.specs.Shown.{Shown, opened, after_step, after_tested, fits, all_fit}
-use Rattle.jffs_index.specs.Histories.{view_of, extended, BeginsWith, LooksAt, opening_of}
+use Rattle.jffs_index.specs.Histories.{view_of, extended, BeginsWith}
 use Rattle.jffs_index.specs.Pages.{page_index, history_of, IsFaithful, after_change, steps_of, Knows, Keeps, Sees}
 use Rattle.jffs_index.specs.Sights.{Sighted, sighted, opened_tree}
-use Rattle.jffs_index.specs.Writing.{IsSound, held, Held}
+use Rattle.jffs_index.specs.Writing.{IsSound, held}
 use Rattle.jffs_index.specs.Books.{head_of}
 use Rattle.jffs_index.proofs.Fronts.{prefix_shorter, prefix_rest, nothing_left, whole_of}
 

@@ -1,5 +1,5 @@
 //! How requests were answered, by their sender and number.
-ghost use Rattle.std.specs.Prelude.{◌≡◌, [], OnOk, OnErr, IsSome, None};
+ghost use Rattle.std.specs.Prelude.{◌≡◌, [], OnOk, OnErr, None};
 ghost use Rattle.jffs_index.specs.Outcomes.{outcome_at, with_outcome, without_outcome};
 
 use jffs_tree::Outcome;

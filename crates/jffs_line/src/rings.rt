@@ -37,7 +37,7 @@ pub struct RingHand {
 }
 
 impl RingHand {
-    ghost use Rattle.std.specs.Prelude.{◌≡◌, ℕ, ◌+◌, ◌↔◌, List, [], ◌∷◌, ◌++◌, length, IfOk, IfErr, IsErrAnd};
+    ghost use Rattle.std.specs.Prelude.{◌≡◌, ℕ, ◌+◌, ◌↔◌, [], ◌∷◌, ◌++◌, length, IfOk, IfErr, IsErrAnd};
     ghost use Rattle.jffs_line.specs.Requests.{of, request};
     ghost use Rattle.jffs_line.specs.Rings.{ring_line, ring_accepted};
     ghost use Rattle.jffs_line.specs.declared.request.Why.TheVariants.{Spent, Full};

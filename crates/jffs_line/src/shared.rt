@@ -104,8 +104,7 @@ pub struct SharedHand {
 }
 
 impl SharedHand {
-    ghost use Rattle.std.specs.Prelude.{◌≡◌, ℕ, ◌+◌, ◌↔◌, List, [], ◌∷◌, ◌++◌, length, IfOk, IfErr, IsErr, IsErrAnd};
-    ghost use Rattle.crossbeam_channel.specs.Fifo.{Held};
+    ghost use Rattle.std.specs.Prelude.{◌≡◌, ℕ, ◌+◌, ◌↔◌, [], ◌∷◌, ◌++◌, length, IfOk, IfErr, IsErr, IsErrAnd};
     ghost use Rattle.jffs_line.specs.Requests.{of, request};
     ghost use Rattle.jffs_line.specs.Shared.{shared_line, shared_accepted, shared_capacity, WasFull};
     ghost use Rattle.jffs_line.specs.declared.request.Why.TheVariants.{Spent, Full};

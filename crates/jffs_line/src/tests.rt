@@ -5,7 +5,7 @@ ghost use Rattle.std.specs.Prelude.{◌≡◌, map, [], ◌∷◌, ◌++◌};
 mod sessions;
 
 use crate::hand::{Ends, Hand, Settle, Taker};
-use crate::request::{LineFault, NotTaken, Request, Settled, Why};
+use crate::request::{LineFault, NotTaken, Settled, Why};
 use crate::rings::{self, ring_line};
 use crate::shared::{self, shared_line};
 use crate::tests::sessions::{Session, run_session};

@@ -1,6 +1,6 @@
 //! The oldest sector: its bytes, and how it is erased.
 
-ghost use Rattle.std.specs.Prelude.{◌≡◌, ℕ, ◌+◌, ◌-◌, ◌*◌, ◌<◌, ◌≤◌, ◌^◌, ◌++◌, ◌⊎◌, ◌↔◌, ◌==◌, List, true, false, not, IsTrue, min, IfOk, OnOk, IfErr, MatchResult};
+ghost use Rattle.std.specs.Prelude.{◌≡◌, ◌+◌, ◌-◌, ◌*◌, ◌<◌, ◌≤◌, ◌^◌, ◌++◌, ◌⊎◌, ◌↔◌, ◌==◌, List, true, false, not, IsTrue, min, IfOk, OnOk, IfErr, MatchResult};
 ghost use Rattle.std.specs.List.{AllByRecursion, list_all, take_while};
 ghost use Rattle.jffs_tree.specs.Look.{holds_version};
 ghost use Rattle.jffs_flash.specs.Image.{erased, IsHalfErased};

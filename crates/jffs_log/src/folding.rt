@@ -1,7 +1,7 @@
 //! What the nodes of a log make: the numbers that come next, and the tree.
 
-ghost use Rattle.std.specs.Prelude.{◌≡◌, ◌⊎◌, ◌&&◌, ◌-◌, ◌/◌, true, false, reverse, IsTrue, IfOk, IfErr, if◌then◌else◌};
-ghost use Rattle.std.specs.List.{AllByRecursion, list_any};
+ghost use Rattle.std.specs.Prelude.{◌≡◌, ◌⊎◌, ◌&&◌, ◌-◌, ◌/◌, true, false, reverse, IsTrue, IfOk, IfErr};
+ghost use Rattle.std.specs.List.{AllByRecursion};
 ghost use Rattle.jffs_node.specs.Record.{is_lawful};
 ghost use Rattle.jffs_tree.specs.Origin.{tree_of};
 ghost use Rattle.jffs_tree.specs.Check.{makes_tree};

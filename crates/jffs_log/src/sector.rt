@@ -1,7 +1,7 @@
 //! What a sector reads as.
 
-ghost use Rattle.std.specs.Prelude.{◌≡◌, ◌<◌, ◌≤◌, ◌+◌, ◌^◌, ◌++◌, ◌==◌, List, length, map, drop, sum_by, IsTrue, IfOk, OnOk};
-ghost use Rattle.std.specs.List.{AllByRecursion, list_all};
+ghost use Rattle.std.specs.Prelude.{◌≡◌, ◌<◌, ◌+◌, ◌^◌, ◌++◌, ◌==◌, length, map, sum_by, IsTrue, IfOk, OnOk};
+ghost use Rattle.std.specs.List.{AllByRecursion};
 ghost use Rattle.jffs_node.specs.Record.{is_lawful, record_len as length_of};
 ghost use Rattle.jffs_node.specs.Reading.{is_erased as erased_test};
 ghost use Rattle.jffs_log.specs.Image.{sector_of, records_in, placed_from};

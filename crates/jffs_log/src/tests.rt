@@ -1,6 +1,6 @@
 //! The log on concrete devices: what each call leaves, seen by a further scan.
 
-ghost use Rattle.std.specs.Prelude.{◌≡◌, ◌≤◌, IsTrue, OnOk};
+ghost use Rattle.std.specs.Prelude.{OnOk};
 ghost use Rattle.jffs_log.specs.Book.{IsBook, HasSizes};
 
 use super::*;

@@ -1,6 +1,6 @@
 //! A record is written in two programs: with its gate open, and then the gate.
 
-ghost use Rattle.std.specs.Prelude.{◌≡◌, ℕ, ◌+◌, ◌<◌, ◌≤◌, length, replicate, IsTrue, OnOk, IfErr, MatchResult};
+ghost use Rattle.std.specs.Prelude.{◌≡◌, ◌+◌, ◌<◌, ◌≤◌, length, replicate, IsTrue, OnOk, IfErr, MatchResult};
 ghost use Rattle.jffs_flash.specs.Image.{window, replaced, IsHalfProgrammed};
 ghost use Rattle.jffs_node.specs.Record.{record_len as length_of, spelling, is_lawful};
 ghost use Rattle.jffs_log.specs.Gate.{IsWritten};

@@ -1,10 +1,8 @@
 //! Reading the header of a closed record, rule by rule: each function gives what it read, or the rule that is broken.
 
-ghost use Rattle.std.specs.Prelude.{◌≡◌, ◌==◌, ◌+◌, ◌≤◌, length, Ok, Err, if◌then◌else◌, bytes_eq, is_some, take};
-ghost use Rattle.std.specs.Int.{w16, w32};
-ghost use Rattle.std.specs.List.{list_all};
+ghost use Rattle.std.specs.Prelude.{◌≡◌, ◌==◌, ◌≤◌, length, Ok, Err, bytes_eq, is_some, take};
 ghost use Rattle.jffs_node.specs.Record.{magic, is_unmount};
-ghost use Rattle.jffs_node.specs.Reading.{number_at, byte_at, kind_at, flags_hold, name_holds, form_holds, form_at, spare_holds, node_at, first_broken};
+ghost use Rattle.jffs_node.specs.Reading.{kind_at, flags_hold, name_holds, form_holds, form_at, spare_holds, node_at, first_broken};
 ghost use Rattle.jffs_node.specs.Header.{checked, flags_at, labels_at, label_rules, labels_or_why, head_at};
 
 use crate::bytes::Bytes;

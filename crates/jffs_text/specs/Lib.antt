@@ -1,2 +1,4 @@
+pub mod Wishes
+pub mod Causes
 pub mod Dump
 pub mod Added

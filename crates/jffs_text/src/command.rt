@@ -1,5 +1,8 @@
 //! What a script's writer asks for.
 
+ghost use Rattle.std.specs.Prelude.{◌≡◌, IfOk};
+ghost use Rattle.jffs_text.specs.Wishes.{wish_of};
+
 use crate::fault::ScriptWhy;
 use crate::keyword::{Edit, Keyword};
 use crate::word::Words;
@@ -90,8 +93,11 @@ impl Command {
         })
     }
 
-    /// The wish of a command. The command stays, so the wish has bytes of its own.
-    pub fn wish(&self, alloc: Global) -> Result<Wish, NoMemory> {
+    /// The wish of a command. The command stays, so the wish has a path and bytes of its own.
+    /// `NoMemory` where a growth was refused.
+    pub fn wish(&self, alloc: Global) -> Result<Wish, NoMemory>
+        ensures { IfOk result (λ wish. wish ≡ wish_of self.now) }
+    {
         Ok(match self {
             Command::MakeDir(path) => Wish::MakeDir(path.clone()?),
             Command::Create(path) => Wish::Create(path.clone()?),

@@ -1,6 +1,6 @@
 //! The lines that tell of a tree.
 
-ghost use Rattle.std.specs.Prelude.{◌≡◌, ◌<◌, ◌++◌, true, false, codes, length, OnOk};
+ghost use Rattle.std.specs.Prelude.{◌≡◌, ◌<◌, true, false, length, OnOk};
 ghost use Rattle.std.specs.Io.KnownBytes.{Appends};
 ghost use Rattle.jffs_tree.specs.State.{is_directory_in, bytes_of, at};
 ghost use Rattle.jffs_tree.specs.Origin.{state_in};

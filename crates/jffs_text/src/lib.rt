@@ -3,6 +3,7 @@
 //! `Script::parse` carries the script's grammar, `dump` the tree's text.
 #![tactic(auto)]
 
+mod cause;
 mod command;
 mod dumping;
 mod fault;
@@ -12,6 +13,7 @@ mod script;
 mod tests;
 mod word;
 
+pub use cause::cause_name;
 pub use command::{Command, FILL_MAX};
 pub use dumping::{DumpFault, dump, write_hex};
 pub use fault::{ScriptFault, ScriptWhy};

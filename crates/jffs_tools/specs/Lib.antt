@@ -1,4 +1,3 @@
-pub mod Causes
 pub mod Rules
 pub mod Refusals
 pub mod Texts

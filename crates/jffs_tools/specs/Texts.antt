@@ -6,7 +6,7 @@ use Rattle.jffs_tools.specs.declared.did.Did.{Did}
 use Rattle.jffs_tools.specs.declared.did.Did.TheVariants.{Appended, Copied, ClosedAt, Closed, Cleaned, OneSector, Erased, Refused}
 use Rattle.jffs_tools.specs.declared.did.Totals.{Totals}
 use Rattle.jffs_tools.specs.declared.did.Answered.{Answered}
-use Rattle.jffs_tools.specs.Causes.{cause_text}
+use Rattle.jffs_text.specs.Causes.{cause_text}
 
 -- a number that comes next, where one is left
 abbrev pub number_text : Option ℕ → List ℕ

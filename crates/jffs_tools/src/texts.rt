@@ -3,13 +3,14 @@
 ghost use Rattle.std.specs.Prelude.{◌≡◌, ◌++◌, IfOk, codes, decimal, string_bytes};
 ghost use Rattle.hex.specs.Hex.{encode_lower};
 ghost use Rattle.sha2.specs.Sha256.{sha256};
-ghost use Rattle.jffs_tools.specs.Causes.{cause_text};
+ghost use Rattle.jffs_text.specs.Causes.{cause_text};
 ghost use Rattle.jffs_tools.specs.Refusals.{why_text};
 ghost use Rattle.jffs_tools.specs.Texts.{number_text as text_of_number, next_text as text_of_next, mounted_text as text_of_mounted, life_text as text_of_life, record_text as text_of_record, refused_text as text_of_refused, did_text as text_of_did, copies_text as text_of_copies, totals_text as text_of_totals, rest_text as text_of_rest, answered_text as text_of_answered, ring_text, sector_behind};
 
 use crate::did::{Answered, Did, Totals};
-use crate::names::{cause_name, rule_name};
+use crate::names::rule_name;
 use jffs_log::{Kept, ScanWhy};
+use jffs_text::cause_name;
 use jffs_tree::{Cause, Limits};
 use sha2::{Digest, Sha256};
 use std::alloc::{AllocError, Global};

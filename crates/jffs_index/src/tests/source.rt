@@ -7,7 +7,6 @@ use crate::publisher::Publisher;
 use crate::step::Step;
 use crate::view::{apply_fitting, node_fits};
 use jffs_tree::{Limits, Outcome, Tree, Wish};
-use std::alloc::Global;
 use std::sync::Wait;
 use std::test::Fail;
 

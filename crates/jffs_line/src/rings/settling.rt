@@ -1,5 +1,5 @@
 //! The end of all rings: what waits is taken out of each, beside its hand.
-ghost use Rattle.std.specs.Prelude.{◌≡◌, ◌≢◌, ℕ, ◌+◌, [], ◌∷◌, ◌++◌, map, All, Contains, IfOk, OnOk, List};
+ghost use Rattle.std.specs.Prelude.{◌≡◌, ◌≢◌, ℕ, ◌+◌, [], ◌++◌, map, All, Contains, IfOk, OnOk, List};
 ghost use Rattle.jffs_line.specs.declared.request.Request.{Request};
 ghost use Rattle.jffs_line.specs.Requests.{of, IsNumbered};
 ghost use Rattle.jffs_line.specs.Rings.{ring_end, ring_hand_end, ring_accepted, ring_taken, rings_ends, rings_taken, taken_in, all_ring_hands, Apart};

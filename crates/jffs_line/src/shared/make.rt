@@ -1,8 +1,8 @@
 //! The making of a shared line: the first pass speaks for all senders, and each hand gets its own from it.
-ghost use Rattle.std.specs.Prelude.{◌≡◌, ◌≢◌, ℕ, ◌+◌, ◌-◌, ◌<◌, ◌≤◌, ◌⊎◌, ◌↔◌, [], ◌∷◌, ◌++◌, true, map, drop, All, OnOk, IfOk, IsErrAnd};
+ghost use Rattle.std.specs.Prelude.{◌≡◌, ◌≢◌, ℕ, ◌+◌, ◌-◌, ◌<◌, ◌≤◌, ◌⊎◌, ◌↔◌, [], ◌∷◌, true, map, drop, All, OnOk, IfOk, IsErrAnd};
 ghost use Rattle.std.specs.List.{range_with_len};
 ghost use Rattle.crossbeam_channel.specs.Claims.{view, IsSeatAt};
-ghost use Rattle.crossbeam_channel.specs.Ends.{sends_on, receives_on, ruled_capacity};
+ghost use Rattle.crossbeam_channel.specs.Ends.{sends_on, ruled_capacity};
 ghost use Rattle.jffs_line.specs.InOrder.{knows, sent_by, silent, without_first};
 ghost use Rattle.jffs_line.specs.Line.{senders};
 ghost use Rattle.jffs_line.specs.Shared.{channel_line, shared_end, shared_accepted, shared_capacity, shared_ends, shared_taken, all_hands};

@@ -1,6 +1,6 @@
 //! The index of children, by which a name is found without a walk over all inodes.
 
-ghost use Rattle.std.specs.Prelude.{◌≡◌, ◌==◌, ◌&&◌, ◌≤◌, ℕ, true, false, Some, None, List, Option, IfSome, IfNone, IfOk};
+ghost use Rattle.std.specs.Prelude.{◌≡◌, ◌==◌, ◌&&◌, ◌≤◌, ℕ, true, false, Some, None, Option, IfSome, IfNone, IfOk};
 ghost use Rattle.std.specs.List.Sorted.{IsStrictlySortedBy};
 ghost use Rattle.jffs_tree.specs.Index.{Place, has_place, is_named, names_under};
 ghost use Rattle.jffs_tree.specs.Look.{name_cmp};

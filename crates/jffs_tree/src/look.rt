@@ -1,9 +1,8 @@
 //! Looks into a tree.
 
-ghost use Rattle.std.specs.Prelude.{◌≡◌, ◌==◌, ◌+◌, ◌^◌, Some, ◌-◌, ◌++◌, ◌<◌, ◌≤◌, min, length, take, drop, List, None, option_map, option_and_then, option_copied, bytes_eq, ◌&&◌, slice_index_or, unwrap_or};
-ghost use Rattle.std.specs.List.{list_any};
+ghost use Rattle.std.specs.Prelude.{◌≡◌, ◌==◌, ◌+◌, Some, ◌-◌, ◌++◌, ◌<◌, ◌≤◌, min, length, take, drop, List, None, option_map, option_copied, slice_index_or, unwrap_or};
 ghost use Rattle.jffs_node.specs.declared.node.Node.{Node};
-ghost use Rattle.jffs_tree.specs.State.{child, resolve, resolve_from};
+ghost use Rattle.jffs_tree.specs.State.{child, resolve};
 ghost use Rattle.jffs_tree.specs.Origin.{tree_of, state_in, size_in, origin, newest, version_of, is_live};
 ghost use Rattle.jffs_tree.specs.After.{held_in};
 ghost use Rattle.jffs_tree.specs.Look.{kind_in, size_of, bytes_in, writers_in, parent_name_in, holds_version, IsVersionOf};

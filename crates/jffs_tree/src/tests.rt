@@ -1,18 +1,22 @@
+//! Wishes one by one on a tree, without a log.
+
+mod look_ups;
+mod wishes;
+
+use crate::tests::wishes::{path, wish_of};
 use crate::{Cause, Limits, Tree, Wish};
-use jffs_node::{Bytes, Kind, Name, NoMemory, Node, Path, PathFault};
-use std::alloc::Global;
+use jffs_node::{Kind, Name, NoMemory, Node};
+use std::alloc::{AllocError, Global};
 use std::process::Abort;
 use std::test::Fail;
 
-mod look_ups;
-
-/// A tree with the numbers that come next. Nothing but memory is ever missing.
+/// A tree with the numbers that come next.
 #[derive(Drop)]
 struct Session {
     alloc: Global,
     tree: Tree,
-    next_inode: u32,
-    next_version: u32,
+    next_inode: Option<u32>,
+    next_version: Option<u32>,
 }
 
 impl Session {
@@ -20,16 +24,16 @@ impl Session {
         Session {
             alloc,
             tree: Tree::new(alloc),
-            next_inode: 2,
-            next_version: 1,
+            next_inode: Some(2),
+            next_version: Some(1),
         }
     }
 
     fn limits(&self) -> Limits {
         Limits {
             data_max: 192,
-            next_inode: Some(self.next_inode),
-            next_version: Some(self.next_version),
+            next_inode: self.next_inode,
+            next_version: self.next_version,
         }
     }
 
@@ -40,22 +44,36 @@ impl Session {
             Err(cause) => return Err(cause),
             Ok(decided) => decided,
         };
-        Ok(decided.with(self.next_version, 1, self.next_version))
+        let version = self.next_version.unwrap_or(0);
+        Ok(decided.with(version, 1, version))
     }
 
-    /// Grants a wish, and gives offset, rsize and size of its node.
-    fn grant(&mut self, rt: &impl Abort, wish: Wish) -> Result<(u32, u32, Option<u32>), Fail> {
-        let node = self.decide(&wish)?;
-        apply(rt, &mut self.tree, &node)?;
-        if node.inode == self.next_inode {
-            self.next_inode = self.next_inode.saturating_add(1);
+    /// Decides what each line wishes for, and applies what is granted. Behind `:` stands what has to
+    /// come of it; a line without that has to be granted.
+    fn play(&mut self, rt: &impl Abort, script: &str) -> Result<(), Fail> {
+        for line in script.lines() {
+            let decided = self.decide(&wish_of(self.alloc, line)?);
+            if let Some((_, wanted)) = line.split_once(" : ") {
+                let text = text_of(self.alloc, &decided)?;
+                assert_eq!(rt; text.as_str(), wanted, "at {line}");
+            } else {
+                assert!(rt; decided.is_ok(), "at {line}");
+            }
+            if let Ok(node) = decided {
+                self.take(rt, &node)?;
+            }
         }
-        self.next_version = self.next_version.saturating_add(1);
-        Ok((node.offset, node.rsize, node.size))
+        Ok(())
     }
 
-    fn refused(&self, rt: &impl Abort, wish: Wish, cause: Cause) {
-        assert_eq!(rt; self.decide(&wish).err(), Some(cause));
+    /// Applies a node, and counts on.
+    fn take(&mut self, rt: &impl Abort, node: &Node) -> Result<(), Fail> {
+        apply(rt, &mut self.tree, node)?;
+        if Some(node.inode) == self.next_inode {
+            self.next_inode = node.inode.checked_add(1);
+        }
+        self.next_version = node.version.checked_add(1);
+        Ok(())
     }
 
     fn contents(&self, rt: &impl Abort, inode: u32, bytes: &[u8]) {
@@ -79,21 +97,21 @@ fn apply(rt: &impl Abort, tree: &mut Tree, node: &Node) -> Result<(), Fail> {
     Ok(())
 }
 
-/// A path; where a growth is refused it is read again.
-fn path(alloc: Global, text: &str) -> Result<Path, Fail> {
-    match Path::parse(alloc, text) {
-        Err(PathFault::Memory) => Ok(Path::parse(alloc, text)?),
-        Err(fault) => Err(fault.into()),
-        Ok(path) => Ok(path),
-    }
+/// What was decided, in words; where a growth is refused it is told again.
+fn text_of(alloc: Global, decided: &Result<Node, Cause>) -> Result<String, AllocError> {
+    tell(alloc, decided).or_else(|_| tell(alloc, decided))
 }
 
-/// Bytes; where a growth is refused they are copied again.
-fn bytes(alloc: Global, bytes: &[u8]) -> Result<Bytes, Fail> {
-    if let Ok(copied) = Bytes::from_slice(alloc, bytes) {
-        return Ok(copied);
+/// Offset, rsize and size of the node, or why there is none. No file here is so long as one without
+/// a size is shown.
+fn tell(alloc: Global, decided: &Result<Node, Cause>) -> Result<String, AllocError> {
+    match decided {
+        Ok(node) => {
+            let size = node.size.unwrap_or(u32::MAX);
+            format!(in alloc; "at {} over {} size {size}", node.offset, node.rsize)
+        }
+        Err(cause) => format!(in alloc; "refused {cause:?}"),
     }
-    Ok(Bytes::from_slice(alloc, bytes)?)
 }
 
 /// The names in a directory; where a growth is refused they are listed again.
@@ -112,135 +130,80 @@ fn copied(tree: &Tree) -> Result<Tree, Fail> {
     Ok(tree.copy_tree()?)
 }
 
-fn make_dir(alloc: Global, text: &str) -> Result<Wish, Fail> {
-    Ok(Wish::MakeDir(path(alloc, text)?))
-}
-
-fn create(alloc: Global, text: &str) -> Result<Wish, Fail> {
-    Ok(Wish::Create(path(alloc, text)?))
-}
-
-fn write(alloc: Global, text: &str, offset: u32, data: &[u8]) -> Result<Wish, Fail> {
-    Ok(Wish::Write {
-        path: path(alloc, text)?,
-        offset,
-        bytes: bytes(alloc, data)?,
-    })
-}
-
-fn truncate(alloc: Global, text: &str, size: u32) -> Result<Wish, Fail> {
-    Ok(Wish::Truncate {
-        path: path(alloc, text)?,
-        size,
-    })
-}
-
-fn rename(alloc: Global, from: &str, to: &str) -> Result<Wish, Fail> {
-    Ok(Wish::Rename {
-        from: path(alloc, from)?,
-        to: path(alloc, to)?,
-    })
-}
-
-fn remove(alloc: Global, text: &str) -> Result<Wish, Fail> {
-    Ok(Wish::Remove(path(alloc, text)?))
-}
-
-/// A copy into the root's directory from offset 0.
-fn copy(alloc: Global, source: u32, name: &[u8], data: &[u8]) -> Result<Wish, Fail> {
-    Ok(Wish::Copy {
-        source,
-        parent: 1,
-        name: Name::from_bytes(name).ok_or("no name")?,
-        offset: 0,
-        bytes: bytes(alloc, data)?,
-    })
-}
-
 /// `/f` holds `hello`: inode 2, versions 1 and 2.
-fn hello(rt: &impl Abort, alloc: Global) -> Result<Session, Fail> {
-    let mut session = Session::new(alloc);
-    session.grant(rt, create(alloc, "/f")?)?;
-    session.grant(rt, write(alloc, "/f", 0, b"hello")?)?;
-    Ok(session)
-}
+const HELLO: &str = "create /f
+     write /f 0 hello";
 
 #[test]
 fn overlapping_writes(rt: HostRuntime) -> Result<(), Fail> {
-    let alloc = rt.alloc();
-    let mut session = hello(&rt, alloc)?;
-    assert_eq!(rt;
-        session.grant(&rt, write(alloc, "/f", 1, b"EY")?)?,
-        (1, 2, Some(5))
-    );
-    assert_eq!(rt;
-        session.grant(&rt, write(alloc, "/f", 5, b"!!")?)?,
-        (5, 0, Some(7))
-    );
-    assert_eq!(rt;
-        session.grant(&rt, write(alloc, "/f", 6, b"abc")?)?,
-        (6, 1, Some(9))
-    );
+    let mut session = Session::new(rt.alloc());
+    session.play(&rt, HELLO)?;
+    session.play(
+        &rt,
+        "write /f 1 EY : at 1 over 2 size 5
+         write /f 5 !! : at 5 over 0 size 7
+         write /f 6 abc : at 6 over 1 size 9",
+    )?;
     session.contents(&rt, 2, b"hEYlo!abc");
-    assert_eq!(rt; session.tree.last_writer(2, 0), Some(2));
-    assert_eq!(rt; session.tree.last_writer(2, 1), Some(3));
-    assert_eq!(rt; session.tree.last_writer(2, 5), Some(4));
-    assert_eq!(rt; session.tree.last_writer(2, 8), Some(5));
-    assert_eq!(rt; session.tree.last_writer(2, 9), None);
-    assert_eq!(rt; session.tree.newest(2), Some(5));
-    assert!(rt; session.tree.live(2, 2) && session.tree.live(2, 5) && !session.tree.live(2, 1));
+    let tree = &session.tree;
+    for (place, writer) in [
+        (0, Some(2)),
+        (1, Some(3)),
+        (5, Some(4)),
+        (8, Some(5)),
+        (9, None),
+    ] {
+        assert_eq!(rt; tree.last_writer(2, place), writer, "at {place}");
+    }
+    assert_eq!(rt; tree.newest(2), Some(5));
+    assert!(rt; tree.live(2, 2) && tree.live(2, 5) && !tree.live(2, 1));
     Ok(())
 }
 
 #[test]
 fn holes_and_growth(rt: HostRuntime) -> Result<(), Fail> {
-    let alloc = rt.alloc();
-    let mut session = hello(&rt, alloc)?;
-    assert_eq!(rt;
-        session.grant(&rt, truncate(alloc, "/f", 5)?)?,
-        (5, 0, Some(5))
-    );
-    assert_eq!(rt;
-        session.grant(&rt, truncate(alloc, "/f", 6)?)?,
-        (5, 0, Some(6))
-    );
+    let mut session = Session::new(rt.alloc());
+    session.play(&rt, HELLO)?;
+    session.play(
+        &rt,
+        "truncate /f 5 : at 5 over 0 size 5
+         truncate /f 6 : at 5 over 0 size 6",
+    )?;
     session.contents(&rt, 2, b"hello\0");
-    assert_eq!(rt;
-        session.grant(&rt, truncate(alloc, "/f", 0)?)?,
-        (0, 6, Some(0))
-    );
-    assert_eq!(rt;
-        session.grant(&rt, write(alloc, "/f", 1, b"A")?)?,
-        (1, 0, Some(2))
-    );
+    session.play(
+        &rt,
+        "truncate /f 0 : at 0 over 6 size 0
+         write /f 1 A : at 1 over 0 size 2",
+    )?;
     session.contents(&rt, 2, b"\0A");
     assert_eq!(rt; session.tree.last_writer(2, 0), None);
-    session.refused(&rt, truncate(alloc, "/f", 1_048_577)?, Cause::FileLong);
-    session.refused(&rt, write(alloc, "/f", 1_048_576, b"A")?, Cause::FileLong);
-    assert_eq!(rt;
-        session.grant(&rt, write(alloc, "/f", 1_048_576, b"")?)?,
-        (2, 0, Some(2))
-    );
-    Ok(())
+    session.play(
+        &rt,
+        "truncate /f 1048577 : refused FileLong
+         write /f 1048576 A : refused FileLong
+         write /f 1048576 - : at 2 over 0 size 2",
+    )
 }
 
 #[test]
 fn stale_and_needless_copies(rt: HostRuntime) -> Result<(), Fail> {
-    let alloc = rt.alloc();
-    let mut session = hello(&rt, alloc)?;
-    session.grant(&rt, write(alloc, "/f", 0, b"J")?)?;
-    session.refused(&rt, copy(alloc, 2, b"f", b"hello")?, Cause::Stale);
-    session.refused(&rt, copy(alloc, 2, b"g", b"Jello")?, Cause::Stale);
-    session.refused(&rt, copy(alloc, 2, b"f", &[0; 193])?, Cause::DataLong);
-    assert_eq!(rt;
-        session.grant(&rt, copy(alloc, 2, b"f", b"Jello")?)?,
-        (0, 5, Some(5))
-    );
+    let mut session = Session::new(rt.alloc());
+    session.play(&rt, HELLO)?;
+    session.play(
+        &rt,
+        "write /f 0 J
+         copy 2 f hello : refused Stale
+         copy 2 g Jello : refused Stale
+         copy 2 f 193*\0 : refused DataLong
+         copy 2 f Jello : at 0 over 5 size 5",
+    )?;
     session.contents(&rt, 2, b"Jello");
-    session.refused(&rt, copy(alloc, 1, b"f", b"")?, Cause::NotNeeded);
-    session.grant(&rt, remove(alloc, "/f")?)?;
-    session.refused(&rt, copy(alloc, 4, b"f", b"Jello")?, Cause::NotNeeded);
-    Ok(())
+    session.play(
+        &rt,
+        "copy 1 f - : refused NotNeeded
+         remove /f
+         copy 4 f Jello : refused NotNeeded",
+    )
 }
 
 /// The copy that cleaning makes of a node that is live.
@@ -252,101 +215,104 @@ fn cleaned(session: &Session, source: &Node) -> Result<Node, Fail> {
         Ok(copied) => copied,
         Err(NoMemory) => session.tree.cleaning_copy(source)?,
     };
-    Ok(copied.with(session.next_version, 0, 0))
+    Ok(copied.with(session.next_version.unwrap_or(0), 0, 0))
+}
+
+/// A copy gives `/g` these bytes, in place of as many.
+fn is_copy(rt: &impl Abort, copied: &Node, bytes: &[u8]) {
+    assert!(rt; copied.copy && copied.name == Name::from_bytes(b"g"));
+    let place = (copied.offset, copied.rsize as usize, copied.size);
+    assert_eq!(rt; place, (0, bytes.len(), Some(copied.rsize)));
+    assert_eq!(rt; copied.bytes.as_slice(), bytes);
 }
 
 #[test]
 fn cleaning_copies_current_names(rt: HostRuntime) -> Result<(), Fail> {
-    let alloc = rt.alloc();
-    let mut session = Session::new(alloc);
-    session.grant(&rt, create(alloc, "/f")?)?;
-    let source = session.decide(&write(alloc, "/f", 0, b"hello")?)?;
-    session.grant(&rt, write(alloc, "/f", 0, b"hello")?)?;
-    session.grant(&rt, rename(alloc, "/f", "/g")?)?;
-    session.grant(&rt, write(alloc, "/g", 1, b"EY")?)?;
+    let mut session = Session::new(rt.alloc());
+    session.play(&rt, "create /f")?;
+    let source = session.decide(&wish_of(session.alloc, "write /f 0 hello")?)?;
+    session.play(
+        &rt,
+        "write /f 0 hello
+         rename /f /g
+         write /g 1 EY",
+    )?;
+    is_copy(&rt, &cleaned(&session, &source)?, b"hEYlo");
+    session.play(&rt, "truncate /g 3")?;
     let copied = cleaned(&session, &source)?;
-    assert!(rt; copied.copy && copied.name == Name::from_bytes(b"g"));
-    assert_eq!(rt; (copied.offset, copied.rsize, copied.size), (0, 5, Some(5)));
-    assert_eq!(rt; copied.bytes.as_slice(), b"hEYlo".as_slice());
-    session.grant(&rt, truncate(alloc, "/g", 3)?)?;
-    let copied = cleaned(&session, &source)?;
-    assert_eq!(rt; copied.bytes.as_slice(), b"hEY".as_slice());
+    is_copy(&rt, &copied, b"hEY");
     apply(&rt, &mut session.tree, &copied)?;
     assert!(rt; !session.tree.live(2, source.version));
     session.contents(&rt, 2, b"hEY");
     Ok(())
 }
 
-/// What stands after these wishes: `/c` (inode 4) and `/c/f` (inode 3).
-fn moved(rt: &impl Abort, alloc: Global) -> Result<Session, Fail> {
-    let mut session = Session::new(alloc);
-    session.grant(rt, make_dir(alloc, "/a")?)?;
-    session.refused(rt, make_dir(alloc, "/a")?, Cause::NameTaken);
-    session.refused(rt, create(alloc, "/n/x")?, Cause::NoParent);
-    session.refused(rt, remove(alloc, "/")?, Cause::RootFixed);
-    session.refused(rt, write(alloc, "/a", 0, &[0])?, Cause::IsDirectory);
-    session.grant(rt, create(alloc, "/a/f")?)?;
-    session.refused(rt, remove(alloc, "/a")?, Cause::NotEmpty);
-    session.grant(rt, rename(alloc, "/a", "/b")?)?;
-    session.grant(rt, make_dir(alloc, "/c")?)?;
-    session.refused(rt, rename(alloc, "/b", "/c/d")?, Cause::IsDirectory);
-    session.grant(rt, rename(alloc, "/b/f", "/c/f")?)?;
-    session.grant(rt, remove(alloc, "/b")?)?;
-    session.refused(rt, write(alloc, "/f", 0, &[0])?, Cause::NotFound);
-    Ok(session)
-}
+/// What stands after this: `/c` (inode 4) and `/c/f` (inode 3).
+const MOVED: &str = "mkdir /a
+     mkdir /a : refused NameTaken
+     create /n/x : refused NoParent
+     remove / : refused RootFixed
+     write /a 0 x : refused IsDirectory
+     create /a/f
+     remove /a : refused NotEmpty
+     rename /a /b
+     mkdir /c
+     rename /b /c/d : refused IsDirectory
+     rename /b/f /c/f
+     remove /b
+     write /f 0 x : refused NotFound";
 
 fn stands_moved(rt: &impl Abort, alloc: Global, tree: &Tree) -> Result<(), Fail> {
     assert!(rt; tree.check());
-    assert_eq!(rt; tree.resolve(&path(alloc, "/")?), Some(1));
-    assert_eq!(rt; tree.resolve(&path(alloc, "/c")?), Some(4));
-    assert_eq!(rt; tree.resolve(&path(alloc, "/c/f")?), Some(3));
-    assert_eq!(rt; tree.resolve(&path(alloc, "/b")?), None);
-    assert_eq!(rt; tree.kind(4), Some(Kind::Directory));
-    assert_eq!(rt; tree.kind(2), None);
+    for (text, inode) in [
+        ("/", Some(1)),
+        ("/c", Some(4)),
+        ("/c/f", Some(3)),
+        ("/b", None),
+    ] {
+        let path = path(alloc, text)?;
+        assert_eq!(rt; tree.resolve(&path), inode, "at {text}");
+    }
+    assert!(rt; tree.kind(4) == Some(Kind::Directory) && tree.kind(2).is_none());
     assert_eq!(rt; tree.size(3), Some(0));
+    assert_eq!(rt; names(tree, 3)?.len(), 0);
+    lists_c(rt, tree)
+}
+
+/// The root holds `/c`, and nothing else.
+fn lists_c(rt: &impl Abort, tree: &Tree) -> Result<(), Fail> {
     let listed = names(tree, 1)?;
     assert_eq!(rt; listed.len(), 1);
-    assert_eq!(rt; listed[0].0.bytes(), b"c".as_slice());
-    assert_eq!(rt; listed[0].1, 4);
-    assert_eq!(rt; names(tree, 3)?.len(), 0);
+    assert!(rt; listed[0].0.bytes() == b"c".as_slice() && listed[0].1 == 4);
     Ok(())
 }
 
 #[test]
 fn every_refusal_of_a_path(rt: HostRuntime) -> Result<(), Fail> {
-    let alloc = rt.alloc();
-    let session = moved(&rt, alloc)?;
-    stands_moved(&rt, alloc, &session.tree)
+    let mut session = Session::new(rt.alloc());
+    session.play(&rt, MOVED)?;
+    stands_moved(&rt, rt.alloc(), &session.tree)
 }
 
 #[test]
 fn a_copied_tree_is_its_source(rt: HostRuntime) -> Result<(), Fail> {
-    let alloc = rt.alloc();
-    let mut session = moved(&rt, alloc)?;
+    let mut session = Session::new(rt.alloc());
+    session.play(&rt, MOVED)?;
     let copied = copied(&session.tree)?;
-    session.grant(&rt, remove(alloc, "/c/f")?)?;
-    stands_moved(&rt, alloc, &copied)
+    session.play(&rt, "remove /c/f")?;
+    stands_moved(&rt, rt.alloc(), &copied)
 }
 
 #[test]
 fn no_number_is_left(rt: HostRuntime) -> Result<(), Fail> {
-    let alloc = rt.alloc();
-    let session = hello(&rt, alloc)?;
-    let mut limits = session.limits();
-    limits.next_inode = None;
-    assert_eq!(rt;
-        session.tree.decide(limits, &create(alloc, "/g")?).err(),
-        Some(Cause::InodesSpent)
-    );
-    limits.next_version = None;
-    assert_eq!(rt;
-        session.tree.decide(limits, &Wish::Unmount).err(),
-        Some(Cause::VersionsSpent)
-    );
-    assert_eq!(rt;
-        session.tree.decide(limits, &create(alloc, "/f")?).err(),
-        Some(Cause::NameTaken)
-    );
-    Ok(())
+    let mut session = Session::new(rt.alloc());
+    session.play(&rt, HELLO)?;
+    session.next_inode = None;
+    session.play(&rt, "create /g : refused InodesSpent")?;
+    session.next_version = None;
+    session.play(
+        &rt,
+        "unmount : refused VersionsSpent
+         create /f : refused NameTaken",
+    )
 }

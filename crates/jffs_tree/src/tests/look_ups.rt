@@ -29,21 +29,21 @@ const PATHS: [&str; 13] = [
 ];
 
 /// A file eight names deep with two holes, another beside its path, and one that is gone.
-fn deep(rt: &impl Abort, alloc: Global) -> Result<Session, Fail> {
-    let mut session = Session::new(alloc);
-    for text in &PATHS[1..8] {
-        session.grant(rt, make_dir(alloc, text)?)?;
-    }
-    session.grant(rt, create(alloc, DEEP)?)?;
-    session.grant(rt, write(alloc, DEEP, 3, b"xyz")?)?;
-    session.grant(rt, truncate(alloc, DEEP, 9)?)?;
-    session.grant(rt, write(alloc, DEEP, 12, b"q")?)?;
-    session.grant(rt, create(alloc, "/a/b/n")?)?;
-    session.grant(rt, write(alloc, "/a/b/n", 0, b"beside")?)?;
-    session.grant(rt, create(alloc, "/gone")?)?;
-    session.grant(rt, remove(alloc, "/gone")?)?;
-    Ok(session)
-}
+const DEEP_TREE: &str = "mkdir /a
+     mkdir /a/b
+     mkdir /a/b/c
+     mkdir /a/b/c/d
+     mkdir /a/b/c/d/e
+     mkdir /a/b/c/d/e/f
+     mkdir /a/b/c/d/e/f/g
+     create /a/b/c/d/e/f/g/h
+     write /a/b/c/d/e/f/g/h 3 xyz
+     truncate /a/b/c/d/e/f/g/h 9
+     write /a/b/c/d/e/f/g/h 12 q
+     create /a/b/n
+     write /a/b/n 0 beside
+     create /gone
+     remove /gone";
 
 /// Each look-up of each inode.
 pub(super) fn are_the_same(rt: &impl Abort, tree: &Tree, other: &Tree) -> Result<(), Fail> {
@@ -87,22 +87,25 @@ fn have_the_same_names(rt: &impl Abort, tree: &Tree, other: &Tree, inode: u32) -
 
 #[test]
 fn a_deep_tree_is_copied_look_up_by_look_up(rt: HostRuntime) -> Result<(), Fail> {
-    let alloc = rt.alloc();
-    let mut session = deep(&rt, alloc)?;
+    let mut session = Session::new(rt.alloc());
+    session.play(&rt, DEEP_TREE)?;
     let copied = copied(&session.tree)?;
     are_the_same(&rt, &session.tree, &copied)?;
-    for text in &PATHS {
-        let path = path(alloc, text)?;
-        assert_eq!(rt;
-            session.tree.resolve(&path),
-            copied.resolve(&path),
-            "at {text}"
-        );
-    }
-    assert_eq!(rt; copied.resolve(&path(alloc, DEEP)?), Some(9));
+    resolve_the_same(&rt, &session, &copied)?;
     assert_eq!(rt; copied.size(9), Some(13));
     session.contents(&rt, 9, b"\0\0\0xyz\0\0\0\0\0\0q");
-    session.grant(&rt, remove(alloc, DEEP)?)?;
+    session.play(&rt, "remove /a/b/c/d/e/f/g/h")?;
     assert_eq!(rt; copied.kind(9), Some(Kind::File));
+    Ok(())
+}
+
+/// Every path leads to the same inode, and the deepest to the ninth.
+fn resolve_the_same(rt: &impl Abort, session: &Session, copied: &Tree) -> Result<(), Fail> {
+    for text in &PATHS {
+        let path = path(session.alloc, text)?;
+        let found = session.tree.resolve(&path);
+        assert_eq!(rt; found, copied.resolve(&path), "at {text}");
+        assert!(rt; (found == Some(9)) == (*text == DEEP), "at {text}");
+    }
     Ok(())
 }

@@ -5,6 +5,9 @@ pub mod Mounting
 pub mod Putting
 pub mod Deciding
 pub mod Stepping
+pub mod Told
+pub mod Trees
 pub mod Sweeping
+pub mod Erasing
 pub mod Turning
 pub mod Scanning

@@ -25,9 +25,10 @@ use Rattle.jffs_core.specs.Standing.{Standing}
 use Rattle.jffs_core.specs.History.{IsOwnCopy, AreOwnCopies, MayFollow, Grows}
 use Rattle.jffs_core.specs.Run.{OnlyCopies, is_failure}
 use Rattle.jffs_core.specs.Step.{Turn, IsStep, IsInHand, OutcomeIs, ends_with_unmount, RefusedBy, HadNoRoom, MakesRoom, decision, takes_no_node, had_room, room_of, is_unmount_wish, is_copy_wish}
+use Rattle.jffs_core.specs.Nodes.{listed}
 use Rattle.jffs_core.specs.RoomSteps.{UnmountsHaveRoom}
 use Rattle.jffs_core.specs.Past.{session, Knows, HasPast, HasFailed, OrOneMore, has_room_for}
-use Rattle.jffs_core.specs.Acting.{FailsIn, RefusedWith, MayPut, HasPut, PutRefused, IsNodeOf, HasAnswered, HasMadeRoom, Answers, KeepsAnswer, KeepsTwo, keeps_two, turn_of}
+use Rattle.jffs_core.specs.Acting.{FailsIn, RefusedWith, MayPut, HasPut, PutRefused, IsNodeOf, HasAnswered, HasMadeRoom, AnswersWith, KeepsAnswer, KeepsTwo, keeps_two, turn_of}
 use Rattle.jffs_log.specs.Image.{log_sectors}
 use Rattle.jffs_log.specs.Volume.{sectors_in}
 use Rattle.jffs_log.specs.Cleaning.{Layout, fresh_has_room, room_made}
@@ -171,6 +172,25 @@ fails_as P causes.NotNeeded after old new h = absurd h
 fails_as P causes.Stale after old new h = absurd h
 fails_as P causes.InodesSpent after old new h = absurd h
 fails_as P causes.Failed after old new h = absurd h
+
+-- While a core works no call of the device failed.
+works_on_faults : (P : Node → Type 0) (cause : Cause) (after : List Node) (old new : Standing) → RefusedWith P cause after old new → new.failed ≡ false → new.faults ≡ old.faults
+works_on_faults P causes.VersionsSpent after old new h w = h.0.faults
+works_on_faults P causes.Memory after old new h w = h.faults
+works_on_faults P causes.NoSpace after old new h w = h.faults
+works_on_faults P causes.Device after old new h w = absurd (opposite new.failed h.fails w)
+works_on_faults P causes.RootFixed after old new h w = absurd h
+works_on_faults P causes.NoParent after old new h w = absurd h
+works_on_faults P causes.NameTaken after old new h w = absurd h
+works_on_faults P causes.NotFound after old new h w = absurd h
+works_on_faults P causes.IsDirectory after old new h w = absurd h
+works_on_faults P causes.DataLong after old new h w = absurd h
+works_on_faults P causes.FileLong after old new h w = absurd h
+works_on_faults P causes.NotEmpty after old new h w = absurd h
+works_on_faults P causes.NotNeeded after old new h w = absurd h
+works_on_faults P causes.Stale after old new h w = absurd h
+works_on_faults P causes.InodesSpent after old new h w = absurd h
+works_on_faults P causes.Failed after old new h w = absurd h
 
 -- Two sectors stay erased.
 pub fresh_put_keeps : (node : Node) (old new : Standing) → HasPut rooms.Fresh node old new → KeepsTwo old new
@@ -335,13 +355,13 @@ module _ (past : List Node) (old new : Standing) (q : Request) (works : old.fail
   clean_so : old.clean ≡ true → ends_with_unmount past ≡ true
   clean_so is = clean_ends past old.image old.book old.tree old.limits old.clean known is
 
-  -- an answer that isn't Failed, after own copies and an own node
-  step_of : (o : Outcome) (copies own : List Node) → (◌≡◌ {A = Outcome} o (Refused causes.Failed) → ⊥) → AreOwnCopies past copies → (copies ≡ []) ⊎ MakesRoom (turn_of past old new) q
-      → OutcomeIs o (turn_of past old new) q copies own → IsStep (turn_of past old new) q o (own ++ copies ++ past)
-  step_of o copies own other true_copies room outcome = record {
+  -- an answer that isn't Failed, after own copies and an own node, which lead to this history
+  abbrev step_to : (o : Outcome) (copies own after : List Node) → after ≡ own ++ copies ++ past → (◌≡◌ {A = Outcome} o (Refused causes.Failed) → ⊥) → AreOwnCopies past copies → (copies ≡ []) ⊎ MakesRoom (turn_of past old new) q
+      → OutcomeIs o (turn_of past old new) q copies own → IsStep (turn_of past old new) q o after
+  step_to o copies own after joined other true_copies room outcome = record {
     copies = copies;
     own = own;
-    joined = refl;
+    joined = joined;
     copies_are_true = true_copies;
     copies_make_room = room;
     clean_is_so = clean_so;
@@ -349,41 +369,54 @@ module _ (past : List Node) (old new : Standing) (q : Request) (works : old.fail
     outcome = outcome;
   }
 
-  pub already_closed : new ≡ old → is_unmount_wish q.wish ≡ true → old.clean ≡ true → HasAnswered past old new q Closed
+  -- the same, to the history that they make
+  abbrev step_of : (o : Outcome) (copies own : List Node) → (◌≡◌ {A = Outcome} o (Refused causes.Failed) → ⊥) → AreOwnCopies past copies → (copies ≡ []) ⊎ MakesRoom (turn_of past old new) q
+      → OutcomeIs o (turn_of past old new) q copies own → IsStep (turn_of past old new) q o (own ++ copies ++ past)
+  step_of o copies own other true_copies room outcome = step_to o copies own (own ++ copies ++ past) refl other true_copies room outcome
+
+  pub already_closed : new ≡ old → is_unmount_wish q.wish ≡ true → old.clean ≡ true → HasAnswered past old new q Closed None
   already_closed same unmounts clean = record {
     after = past;
     stands = subst (HasPast past) (sym same) (works_past past old works known);
     step = step_of Closed [] [] (λ e. cc) tt (inl refl) (unmounts, refl, inl (clean, refl));
+    own = refl;
     fails = ap (λ (c : Standing). c.failed) same ∙ works;
+    faults = λ w. ap (λ (c : Standing). c.faults) same;
     in_hand = λ e. cc;
     two = λ k. absurd (opposite (keeps_two Closed) k refl);
   }
 
   -- by the decision, or for want of memory
-  pub decided_against : (cause : Cause) → new ≡ old → takes_no_node (turn_of past old new) q ≡ false → (cause ≡ causes.Memory) ⊎ ((is_of_tree cause ≡ true) × (decide_on old.tree old.limits q.wish ≡ Err cause)) → HasAnswered past old new q (Refused cause)
-  decided_against cause same takes why = record {
-    after = past;
-    stands = subst (HasPast past) (sym same) (works_past past old works known);
-    step = elim why [
-      | inl memory ↦ subst (λ c. IsStep (turn_of past old new) q (Refused c) past) (sym memory) (step_of (Refused causes.Memory) [] [] (λ e. cc) tt (inl refl) (tt, refl))
-      | inr tree ↦ step_of (Refused cause) [] [] (not_failed cause tree.0) tt (inl refl) (by_tree cause (turn_of past old new) q tree.0 takes (decision_is past old q known ∙ tree.1), refl)
-    ];
-    fails = ap (λ (c : Standing). c.failed) same ∙ works ∙ sym (elim why [ inl memory ↦ ap (λ c. is_failure (Refused c)) memory | inr tree ↦ no_failure cause tree.0 ]);
-    in_hand = λ e. absurd (elim why [ inl memory ↦ memory_only (ap (λ c. Refused c) (sym memory) ∙ e) | inr tree ↦ not_device cause tree.0 e ]);
-    two = λ k e. subst (λ (c : Standing). 2 ≤ (layout_in c.image c.book).erased) (sym same) e;
-  }
+  pub decided_against : (cause : Cause) → new ≡ old → takes_no_node (turn_of past old new) q ≡ false → (cause ≡ causes.Memory) ⊎ ((is_of_tree cause ≡ true) × (decide_on old.tree old.limits q.wish ≡ Err cause)) → HasAnswered past old new q (Refused cause) None
+  decided_against cause same takes why =
+      let step : IsStep (turn_of past old new) q (Refused cause) past = elim why [
+        | inl memory ↦ subst (λ c. IsStep (turn_of past old new) q (Refused c) past) (sym memory) (step_of (Refused causes.Memory) [] [] (λ e. cc) tt (inl refl) (tt, refl))
+        | inr tree ↦ step_of (Refused cause) [] [] (not_failed cause tree.0) tt (inl refl) (by_tree cause (turn_of past old new) q tree.0 takes (decision_is past old q known ∙ tree.1), refl)
+      ] in
+      record {
+        after = past;
+        stands = subst (HasPast past) (sym same) (works_past past old works known);
+        step = step;
+        own = step.outcome.1;
+        fails = ap (λ (c : Standing). c.failed) same ∙ works ∙ sym (elim why [ inl memory ↦ ap (λ c. is_failure (Refused c)) memory | inr tree ↦ no_failure cause tree.0 ]);
+        faults = λ w. ap (λ (c : Standing). c.faults) same;
+        in_hand = λ e. absurd (elim why [ inl memory ↦ memory_only (ap (λ c. Refused c) (sym memory) ∙ e) | inr tree ↦ not_device cause tree.0 e ]);
+        two = λ k e. subst (λ (c : Standing). 2 ≤ (layout_in c.image c.book).erased) (sym same) e;
+      }
     where
       memory_only : ◌≡◌ {A = Outcome} (Refused causes.Memory) (Refused causes.Device) → ⊥
       memory_only e = cc
 
   -- a record was put at once
-  pub put_copy : (node : Node) → IsNodeOf old q node → is_copy_wish q.wish ≡ true → MayPut past old.book.sector_size rooms.Fresh node → HasPut rooms.Fresh node old new → HasAnswered past old new q (Copied node.version)
+  pub put_copy : (node : Node) → IsNodeOf old q node → is_copy_wish q.wish ≡ true → MayPut past old.book.sector_size rooms.Fresh node → HasPut rooms.Fresh node old new → HasAnswered past old new q (Copied node.version) (Some node)
   put_copy node of copies may h = record {
     after = node ∷ past;
     stands = works_past (node ∷ past) new h.works (h.knows past known may);
     step = step_of (Copied node.version) [] (node ∷ []) (λ e. cc) tt (inl refl)
         (of.new, copies, decision_is past old q known ∙ of.decided, refl, next_of node of, ap (λ (m : Node). m ∷ []) of.is);
+    own = refl;
     fails = h.works;
+    faults = λ w. h.faults;
     in_hand = λ e. cc;
     two = λ k. fresh_put_keeps node old new h;
   }
@@ -391,13 +424,15 @@ module _ (past : List Node) (old new : Standing) (q : Request) (works : old.fail
       next_of : (node : Node) → IsNodeOf old q node → next_version past ≡ Some node.version
       next_of node of = ap (λ (l : Limits). l.next_version) (sym known.limits_are) ∙ of.next
 
-  pub put_unmount : (node : Node) → IsNodeOf old q node → is_unmount_wish q.wish ≡ true → MayPut past old.book.sector_size rooms.Unmount node → HasPut rooms.Unmount node old new → HasAnswered past old new q Closed
+  pub put_unmount : (node : Node) → IsNodeOf old q node → is_unmount_wish q.wish ≡ true → MayPut past old.book.sector_size rooms.Unmount node → HasPut rooms.Unmount node old new → HasAnswered past old new q Closed (Some node)
   put_unmount node of unmounts may h = record {
     after = node ∷ past;
     stands = works_past (node ∷ past) new h.works (h.knows past known may);
     step = step_of Closed [] (node ∷ []) (λ e. cc) tt (inl refl)
         (unmounts, refl, inr (dirty, (of.new, node.version, decision_is past old q known ∙ of.decided, next, ap (λ (m : Node). m ∷ []) of.is)));
+    own = refl;
     fails = h.works;
+    faults = λ w. h.faults;
     in_hand = λ e. cc;
     two = λ k. absurd (opposite (keeps_two Closed) k refl);
   }
@@ -414,15 +449,18 @@ module _ (past : List Node) (old new : Standing) (q : Request) (works : old.fail
 
   -- a record wasn't put, and nothing was made beside it
   pub put_stopped : (room : Room) (node : Node) (cause : Cause) (of : IsNodeOf old q node) → room ≡ room_of of.new → MayPut past old.book.sector_size room node → PutRefused room node cause old new → (cause ≡ causes.NoSpace → is_fresh (with of.new 0 0 0) ≡ true → ⊥)
-      → HasAnswered past old new q (Refused cause)
+      → HasAnswered past old new q (Refused cause) None
   put_stopped room node cause of is may h none =
       let P : Node → Type 0 = λ m. m ≡ node in
       let stands = h.stands past known may in
+      let step = by_cause cause h stands none in
       record {
         after = past;
         stands = refused_past P past (λ m same. subst (MayFollow past) (sym same) may.follows) cause old new stands;
-        step = by_cause cause h stands none;
+        step = step;
+        own = step.outcome.1;
         fails = fails_as P cause past old new stands;
+        faults = works_on_faults P cause past old new stands;
         in_hand = device_left P (IsInHand (turn_of past old new) q past) (λ m same. subst (IsInHand (turn_of past old new) q past) (sym same) (own_in_hand past old q known node node of past new of.is has_next)) cause past old new stands;
         two = λ k. refused_keeps P cause past old new stands (λ e two. subst (λ (l : Layout). 2 ≤ l.erased) (sym (h.kept e)) two) k;
       }
@@ -463,27 +501,30 @@ module _ (past : List Node) (old new : Standing) (q : Request) (works : old.fail
       by_cause causes.Failed h r none = absurd r
 
   -- a fresh record was put at once
-  pub put_now : (node : Node) (of : IsNodeOf old q node) → is_fresh (with of.new 0 0 0) ≡ true → new.failed ≡ false → KeepsTwo old new → HasPast (node ∷ past) new → HasAnswered past old new q (Appended node.inode node.version)
-  put_now node of fresh now_works two stands = record {
+  pub put_now : (node : Node) (of : IsNodeOf old q node) → is_fresh (with of.new 0 0 0) ≡ true → new.failed ≡ false → new.faults ≡ old.faults → KeepsTwo old new → HasPast (node ∷ past) new → HasAnswered past old new q (Appended node.inode node.version) (Some node)
+  put_now node of fresh now_works no_fault two stands = record {
     after = node ∷ past;
     stands = stands;
     step = step_of (Appended node.inode node.version) [] (node ∷ []) (λ e. cc) tt (inl refl)
         (of.new, decision_is past old q known ∙ of.decided, fresh, ap (λ (m : Node). m.inode) (sym of.is), its_version past old q node known of, ap (λ (m : Node). m ∷ []) of.is);
+    own = refl;
     fails = now_works;
+    faults = λ w. no_fault;
     in_hand = λ e. cc;
     two = λ k. two;
   }
 
   -- a fresh record was put, after own copies
   pub put_fresh : (node next : Node) (after : List Node) (of : IsNodeOf old q node) → is_fresh (with of.new 0 0 0) ≡ true → (copies : OnlyCopies past after) → (copies.copies ≡ []) ⊎ MakesRoom (turn_of past old new) q
-      → next ≡ with of.new next.version q.writer q.seq → next_version after ≡ Some next.version → new.failed ≡ false → KeepsTwo old new → HasPast (next ∷ after) new → HasAnswered past old new q (Appended next.inode next.version)
-  put_fresh node next after of fresh copies room is version now_works two stands = record {
+      → next ≡ with of.new next.version q.writer q.seq → next_version after ≡ Some next.version → new.failed ≡ false → new.faults ≡ old.faults → KeepsTwo old new → HasPast (next ∷ after) new → HasAnswered past old new q (Appended next.inode next.version) (Some next)
+  put_fresh node next after of fresh copies room is version now_works no_fault two stands = record {
     after = next ∷ after;
     stands = stands;
-    step = subst (IsStep (turn_of past old new) q (Appended next.inode next.version)) (ap (λ (nodes : List Node). next ∷ nodes) (sym copies.joined))
-        (step_of (Appended next.inode next.version) copies.copies (next ∷ []) (λ e. cc) copies.true_copies room
-        (of.new, decision_is past old q known ∙ of.decided, fresh, ap (λ (m : Node). m.inode) (sym is), ap next_version (sym copies.joined) ∙ version, ap (λ (m : Node). m ∷ []) is));
+    step = step_to (Appended next.inode next.version) copies.copies (next ∷ []) (next ∷ after) (ap (λ (nodes : List Node). next ∷ nodes) copies.joined) (λ e. cc) copies.true_copies room
+        (of.new, decision_is past old q known ∙ of.decided, fresh, ap (λ (m : Node). m.inode) (sym is), ap next_version (sym copies.joined) ∙ version, ap (λ (m : Node). m ∷ []) is);
+    own = refl;
     fails = now_works;
+    faults = λ w. no_fault;
     in_hand = λ e. cc;
     two = λ k. two;
   }
@@ -491,15 +532,19 @@ module _ (past : List Node) (old new : Standing) (q : Request) (works : old.fail
   -- room couldn't be made
   pub make_stopped : (P : Node → Type 0) (node : Node) (cause : Cause) (after : List Node) (of : IsNodeOf old q node) → ((m : Node) → P m → IsInHand (turn_of past old new) q after m × MayFollow after m)
       → is_fresh (with of.new 0 0 0) ≡ true → had_room (turn_of past old new) of.new ≡ false → OnlyCopies past after → RefusedWith P cause after old new
-      → (cause ≡ causes.NoSpace → 2 ≤ (layout_in old.image old.book).erased → heavy old.book.sectors old.book.sector_size ≤ weight past) → (cause ≡ causes.NoSpace → KeepsTwo old new) → HasAnswered past old new q (Refused cause)
-  make_stopped P node cause after of in_hand fresh none copies r bound two = record {
-    after = after;
-    stands = refused_past P after (λ m h. (in_hand m h).1) cause old new r;
-    step = subst (IsStep (turn_of past old new) q (Refused cause)) (sym copies.joined) (by_cause cause r bound);
-    fails = fails_as P cause after old new r;
-    in_hand = device_left P (IsInHand (turn_of past old new) q after) (λ m h. (in_hand m h).0) cause after old new r;
-    two = λ k. refused_keeps P cause after old new r two k;
-  }
+      → (cause ≡ causes.NoSpace → 2 ≤ (layout_in old.image old.book).erased → heavy old.book.sectors old.book.sector_size ≤ weight past) → (cause ≡ causes.NoSpace → KeepsTwo old new) → HasAnswered past old new q (Refused cause) None
+  make_stopped P node cause after of in_hand fresh none copies r bound two =
+      let step : IsStep (turn_of past old new) q (Refused cause) after = subst (IsStep (turn_of past old new) q (Refused cause)) (sym copies.joined) (by_cause cause r bound) in
+      record {
+        after = after;
+        stands = refused_past P after (λ m h. (in_hand m h).1) cause old new r;
+        step = step;
+        own = step.outcome.1;
+        fails = fails_as P cause after old new r;
+        faults = works_on_faults P cause after old new r;
+        in_hand = device_left P (IsInHand (turn_of past old new) q after) (λ m h. (in_hand m h).0) cause after old new r;
+        two = λ k. refused_keeps P cause after old new r two k;
+      }
     where
       no_room : HadNoRoom (turn_of past old new) q of.new
       no_room = record { decided = decision_is past old q known ∙ of.decided; none = none }
@@ -574,7 +619,7 @@ none_left None h = refl
 none_left (Some k) h = absurd (h k refl)
 
 -- A core that failed answers nothing else.
-pub failed_answer : (past : List Node) (c : Standing) (q : Request) → c.failed ≡ true → HasPast past c → HasAnswered past c c q (Refused causes.Failed)
+pub failed_answer : (past : List Node) (c : Standing) (q : Request) → c.failed ≡ true → HasPast past c → HasAnswered past c c q (Refused causes.Failed) None
 failed_answer past c q fails h = record {
   after = past;
   stands = h;
@@ -588,7 +633,9 @@ failed_answer past c q fails h = record {
     failed_says_so = ((λ f. refl), (λ e. fails));
     outcome = ((fails, refl), refl);
   };
+  own = refl;
   fails = fails;
+  faults = λ w. refl;
   in_hand = λ e. cc;
   two = λ k e. e;
 }
@@ -600,23 +647,28 @@ kept_past writer seq o after middle new kept h = subst (HasPast after) (sym kept
   broken = λ f. let b = h.broken f in record { clean = b.clean; tree = b.tree; left = b.left };
 })
 
-pub answered : (writer seq : ℕ) (o : Outcome) (mounted past : List Node) (old middle new : Standing) (q : Request) → Grows mounted past → HasAnswered past old middle q o → KeepsAnswer writer seq o middle new → Answers mounted past old new q o
-answered writer seq o mounted past old middle new q grown h kept =
+pub answered : (writer seq : ℕ) (o : Outcome) (node : Option Node) (mounted past : List Node) (old middle new : Standing) (q : Request) → Grows mounted past → HasAnswered past old middle q o node → KeepsAnswer writer seq o middle new → AnswersWith mounted past old new q o node
+answered writer seq o node mounted past old middle new q grown h kept =
     let faults : middle.faults ≡ new.faults = ap (λ (c : Standing). c.faults) (sym kept) in
     let same : turn_of past old middle ≡ turn_of past old new = ap (λ k. record (turn_of past old middle) { device_faulted = ltb old.faults k }) faults in
+    let step : (s : IsStep (turn_of past old new) q o h.after) × (s.own ≡ listed node) = subst (λ t. (s : IsStep t q o h.after) × (s.own ≡ listed node)) same (h.step, h.own) in
     record {
-      after = h.after;
-      stands = record {
-        grown = grows_along mounted past h.after grown (step_grows (turn_of past old middle) q o h.after h.step);
-        stands = kept_past writer seq o h.after middle new kept h.stands;
+      answers = record {
+        after = h.after;
+        stands = record {
+          grown = grows_along mounted past h.after grown (step_grows (turn_of past old middle) q o h.after h.step);
+          stands = kept_past writer seq o h.after middle new kept h.stands;
+        };
+        step = step.0;
+        fails = ap (λ (c : Standing). c.failed) kept ∙ h.fails;
+        faults = λ w. sym faults ∙ h.faults (sym (ap (λ (c : Standing). c.failed) kept) ∙ w);
+        in_hand = λ device.
+            let b = h.in_hand device in
+            subst (λ t. HasFailed (IsInHand t q h.after) h.after new) same
+            (subst (HasFailed (IsInHand (turn_of past old middle) q h.after) h.after) (sym kept) (record { clean = b.clean; tree = b.tree; left = b.left }));
+        two = λ k e. subst (λ (c : Standing). 2 ≤ (layout_in c.image c.book).erased) (sym kept) (h.two k e);
       };
-      step = subst (λ t. IsStep t q o h.after) same h.step;
-      fails = ap (λ (c : Standing). c.failed) kept ∙ h.fails;
-      in_hand = λ device.
-          let b = h.in_hand device in
-          subst (λ t. HasFailed (IsInHand t q h.after) h.after new) same
-          (subst (HasFailed (IsInHand (turn_of past old middle) q h.after) h.after) (sym kept) (record { clean = b.clean; tree = b.tree; left = b.left }));
-      two = λ k e. subst (λ (c : Standing). 2 ≤ (layout_in c.image c.book).erased) (sym kept) (h.two k e);
+      own = step.1;
     }
 
 pub unmounts_have_room : UnmountsHaveRoom

@@ -11,7 +11,7 @@ use Rattle.jffs_tree.specs.declared.wish.Cause.TheVariants as causes
 use Rattle.jffs_tree.specs.Origin.{Tree, is_live, tree_of}
 use Rattle.jffs_log.specs.Image.{Placed}
 use Rattle.jffs_log.specs.Book.{HasSizes, layout_in, oldest_in, lives_in}
-use Rattle.jffs_log.specs.Cleaning.{Layout, Session, without_oldest, handled, handled_each, copy_has_room, copies_have_room, cleaned, oldest_records, erase_oldest, fresh_has_room, room_made, stands_from, versions_fall}
+use Rattle.jffs_log.specs.Cleaning.{Layout, Session, handled, handled_each, copy_has_room, copies_have_room, cleaned, oldest_records, erase_oldest, fresh_has_room, room_made, stands_from, versions_fall}
 use Rattle.jffs_log.specs.RoomLaws.{Among}
 use Rattle.jffs_log.proofs.Sectors.{stands_among}
 use Rattle.jffs_log.proofs.SectorSpellings.{in_place_fits, record_long}
@@ -267,50 +267,6 @@ full_has_several len after c known none =
     let six = low.0 in
     let all = known.sound.counted in
     omega arith
-
--- Dead sectors are erased one after another.
-pub record IsErasing (count : ℕ) (old now : Standing) : Type 0 where
-  pub works : now.failed ≡ false
-  pub same : SameAnswers old now
-  pub sizes : HasSizes old.book.sectors old.book.sector_size now.book
-  pub log : layout_in now.image now.book ≡ erased_times count (layout_in old.image old.book)
-  pub left : count + length (layout_in now.image now.book).sectors ≡ length (layout_in old.image old.book).sectors
-  pub done : (past : List Node) → Knows past old → WorksOn past old now
-
-pub erasing_begins : (c : Standing) → c.failed ≡ false → IsErasing 0 c c
-erasing_begins c works = record {
-  works = works;
-  same = record { answers = refl; places = refl; closed = refl };
-  sizes = (refl, refl);
-  log = refl;
-  left = omega arith;
-  done = λ past known. record { works = works; faults = refl; knows = known };
-}
-
-pub one_fewer : (sectors : List (List Node)) → 2 ≤ length sectors → length (without_oldest sectors) + 1 ≡ length sectors
-one_fewer [] h = absurd (omega arith)
-one_fewer (s ∷ sectors) h = omega arith
-
-pub erasing_goes_on : (count : ℕ) (old middle new : Standing) → IsErasing count old middle → 2 ≤ length (layout_in middle.image middle.book).sectors → new.failed ≡ false → SameAnswers middle new → HasSizes middle.book.sectors middle.book.sector_size new.book
-    → layout_in new.image new.book ≡ erase_oldest (layout_in middle.image middle.book) → ((past : List Node) → Knows past middle → HasErased past middle new) → IsErasing (count + 1) old new
-erasing_goes_on count old middle new h several works same sizes log erased =
-    let more : suc count ≡ count + 1 = omega arith in
-    record {
-      works = works;
-      same = record { answers = same.answers ∙ h.same.answers; places = same.places ∙ h.same.places; closed = same.closed ∙ h.same.closed };
-      sizes = (h.sizes.0 ∙ sizes.0, h.sizes.1 ∙ sizes.1);
-      log = log ∙ ap erase_oldest h.log ∙ ap (λ k. erased_times k (layout_in old.image old.book)) more;
-      left =
-          let e = ap (λ (l : Layout). length l.sectors) log in
-          let f = one_fewer (layout_in middle.image middle.book).sectors several in
-          let k = h.left in
-          omega arith;
-      done = λ past known.
-          let d = h.done past known in
-          let e = erased past d.knows in
-          let s = e.stands in
-          record { works = s.works; faults = s.faults ∙ d.faults; knows = s.knows };
-    }
 
 -- What a core stands for after cleaning.
 pub stands_after : (mounted past after : List Node) (new : Standing) → Grows mounted past → OnlyCopies past after → HasPast after new → StandsFor mounted after new

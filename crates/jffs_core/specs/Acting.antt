@@ -1,5 +1,5 @@
 -- What a call of a core did.
-use Rattle.std.specs.Prelude.{◌≡◌, ℕ, zero, suc, ◌+◌, ◌<◌, ◌≤◌, ◌^◌, ◌/◌, Bool, true, false, ◌&&◌, ◌||◌, nat_lt, List, [], ◌∷◌, ◌++◌, length, if◌then◌else◌, Some, None, Ok}
+use Rattle.std.specs.Prelude.{◌≡◌, ℕ, zero, suc, ◌+◌, ◌<◌, ◌≤◌, ◌^◌, ◌/◌, Bool, true, false, ◌&&◌, ◌||◌, nat_lt, List, [], ◌∷◌, ◌++◌, length, if◌then◌else◌, Option, Some, None, Ok}
 use Rattle.std.specs.List.{AllByRecursion}
 use Rattle.jffs_node.specs.declared.node.Node.{Node}
 use Rattle.jffs_node.specs.Record.{record_len}
@@ -24,6 +24,7 @@ use Rattle.jffs_core.specs.History.{HasNextVersion, IsOwnCopy, MayFollow}
 use Rattle.jffs_core.specs.Run.{OnlyCopies, is_failure}
 use Rattle.jffs_core.specs.Past.{session, Knows, HasFailed, HasPast, StandsFor, has_room_for}
 use Rattle.jffs_core.specs.Step.{Turn, IsStep, IsInHand, is_unmount_wish}
+use Rattle.jffs_core.specs.Nodes.{listed}
 
 -- The core works with this history, and no call of the device failed.
 pub record WorksOn (after : List Node) (old new : Standing) : Type 0 where
@@ -153,23 +154,31 @@ turn_of past old new = record {
   device_faulted = nat_lt old.faults new.faults;
 }
 
--- The answer is a lawful step from this history to another, which the core has then. The core has failed exactly where the answer is Device or Failed, and after Device only the node in hand may stand beside that history.
-pub record HasAnswered (past : List Node) (old new : Standing) (q : Request) (o : Outcome) : Type 0 where
+-- The answer is a lawful step from this history to another, which the core has then, and this node is what it appended for the request itself. The core has failed exactly where the answer is Device or Failed, and while it works the device failed no call. After Device only the node in hand may stand beside that history.
+pub record HasAnswered (past : List Node) (old new : Standing) (q : Request) (o : Outcome) (node : Option Node) : Type 0 where
   pub after : List Node
   pub stands : HasPast after new
   pub step : IsStep (turn_of past old new) q o after
+  pub own : step.own ≡ listed node
   pub fails : new.failed ≡ is_failure o
+  pub faults : new.failed ≡ false → new.faults ≡ old.faults
   pub in_hand : o ≡ Refused Device → HasFailed (IsInHand (turn_of past old new) q after) after new
   pub two : keeps_two o ≡ true → KeepsTwo old new
 
--- the same of the history since a mount
+-- the same of the history since a mount, but for the node
 pub record Answers (mounted past : List Node) (old new : Standing) (q : Request) (o : Outcome) : Type 0 where
   pub after : List Node
   pub stands : StandsFor mounted after new
   pub step : IsStep (turn_of past old new) q o after
   pub fails : new.failed ≡ is_failure o
+  pub faults : new.failed ≡ false → new.faults ≡ old.faults
   pub in_hand : o ≡ Refused Device → HasFailed (IsInHand (turn_of past old new) q after) after new
   pub two : keeps_two o ≡ true → KeepsTwo old new
+
+-- the answer with the node that was appended for the request itself
+pub record AnswersWith (mounted past : List Node) (old new : Standing) (q : Request) (o : Outcome) (node : Option Node) : Type 0 where
+  pub answers : Answers mounted past old new q o
+  pub own : answers.step.own ≡ listed node
 
 -- an answer that ends the session
 abbrev pub is_closed : Outcome → Bool
@@ -222,6 +231,7 @@ pub record IsDeadOldest (c : Standing) : Type 0 where
 pub record ErasesDead (mounted past : List Node) (count : ℕ) (old new : Standing) : Type 0 where
   pub works : old.failed ≡ false
   pub still_works : new.failed ≡ false
+  pub faults : new.faults ≡ old.faults
   pub stands : StandsFor mounted past new
   pub log : layout_in new.image new.book ≡ erased_times count (layout_in old.image old.book)
   pub last : IsDeadOldest new → ⊥

@@ -4,8 +4,10 @@ pub mod Step
 pub mod Run
 pub mod Past
 pub mod Acting
+pub mod Erases
 pub mod Finding
 pub mod RoomSteps
 pub mod Rows
 pub mod Nodes
+pub mod Trees
 pub mod Jobs

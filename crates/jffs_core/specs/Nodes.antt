@@ -1,8 +1,13 @@
 -- An answer and the node that was appended for it.
-use Rattle.std.specs.Prelude.{◌≡◌, Option, Some, None}
+use Rattle.std.specs.Prelude.{◌≡◌, Option, Some, None, List, [], ◌∷◌}
 use Rattle.jffs_node.specs.declared.node.Node.{Node}
 use Rattle.jffs_tree.specs.declared.wish.Outcome.{Outcome}
 use Rattle.jffs_tree.specs.declared.wish.Outcome.TheVariants.{Appended, Copied, Closed, Refused}
+
+-- the node, where there is one
+abbrev pub listed : Option Node → List Node
+listed None = []
+listed (Some node) = node ∷ []
 
 -- a node that was appended or copied has the outcome's numbers
 abbrev pub HasNumbers : Outcome → Node → Type 0

@@ -1,8 +1,5 @@
 //! Answers.
 
-ghost use Rattle.std.specs.Prelude.{◌≡◌};
-ghost use Rattle.jffs_core.specs.Nodes.{HasNode, HasNumbers};
-
 use jffs_node::Node;
 use jffs_tree::Outcome;
 
@@ -22,19 +19,4 @@ pub struct Answer {
 pub struct Answered {
     pub outcome: Outcome,
     pub node: Option<Node>,
-}
-
-impl Answered {
-    /// What a request was answered for which this node was to be appended.
-    pub(crate) fn of(outcome: Outcome, node: Node) -> Answered
-        requires { HasNumbers outcome node }
-        ensures outcome { result.outcome ≡ outcome }
-        ensures node { HasNode result.outcome result.node }
-    {
-        let node = match outcome {
-            Outcome::Refused(_) => None,
-            _ => Some(node),
-        };
-        Answered { outcome, node }
-    }
 }

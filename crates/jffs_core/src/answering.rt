@@ -1,11 +1,11 @@
 //! One request, one answer.
 
-ghost use Rattle.std.specs.Prelude.{◌≡◌, ◌<◌, ◌≤◌, ◌+◌, ◌^◌, ◌++◌, ◌∷◌, ◌||◌, ◌&&◌, [], List, length, true, false, OnOk, IfErr, Ok};
+ghost use Rattle.std.specs.Prelude.{◌≡◌, ◌<◌, ◌≤◌, ◌+◌, ◌++◌, ◌∷◌, ◌||◌, ◌&&◌, [], List, length, true, false, OnOk, IfErr, Ok};
 ghost use Rattle.jffs_node.specs.Record.{record_len as length_of};
 ghost use Rattle.jffs_core.specs.Standing.{IsSameButPlaces};
 ghost use Rattle.jffs_core.specs.Step.{is_copy_wish, is_unmount_wish};
 ghost use Rattle.jffs_core.specs.Acting.{is_closed};
-ghost use Rattle.jffs_core.specs.Nodes.{HasNode, HasNumbers};
+ghost use Rattle.jffs_core.specs.Nodes.{HasNode};
 
 use crate::answer::{Answer, Answered};
 use crate::mounted::Core;
@@ -20,7 +20,9 @@ impl<F: Flash> Core<F> {
     ghost use Rattle.jffs_log.specs.Book.{HasSizes};
     ghost use Rattle.jffs_core.specs.Standing.{SameAnswers};
     ghost use Rattle.jffs_core.specs.Past.{Knows, StandsFor, has_room_for};
-    ghost use Rattle.jffs_core.specs.Acting.{Answers, HasAnswered, IsNodeOf, KeepsAnswer};
+    ghost use Rattle.jffs_core.specs.Acting.{Answers, AnswersWith, HasAnswered, IsNodeOf, KeepsAnswer};
+    ghost use Rattle.jffs_core.specs.Erases.{ErasesAtMost};
+    ghost use Rattle.jffs_core.specs.Trees.{TellsNode};
 
     /// Makes the place for one answer. Memory: nothing is changed.
     pub fn reserve_answer(&mut self) -> Result<(), Cause>
@@ -45,22 +47,25 @@ impl<F: Flash> Core<F> {
         ensures closed { self.new.closed ≡ self.old.closed || is_closed result }
         ensures failed { self.old.failed ≡ true → KeepsAnswer request.writer request.seq result self.old self.new }
         ensures sizes { HasSizes self.old.book.sectors self.old.book.sector_size self.new.book }
-        ensures erases { self.new.book.erases ≤ self.old.book.erases + self.old.book.held }
+        ensures erases { ErasesAtMost self.old.book.sectors self.old self.new }
         ensures few { self.new.book.erases ≤ self.old.book.erases + self.old.book.sectors }
     {
         self.answer_with_node(request).outcome
     }
 
-    /// Answers a request as `answer` does, and gives the node that was appended for it too.
+    /// Answers a request as `answer` does, and gives the node that was appended for it too: it may be
+    /// applied to the tree that the core had, or to any of the same state, and makes the state of the
+    /// tree that it has then.
     pub fn answer_with_node(&mut self, request: Request) -> Answered
         requires reserved { length self.old.answers < self.old.places }
         ensures kept { self.new.answers ≡ self.old.answers ++ record { writer = request.writer; seq = request.seq; outcome = result.outcome } ∷ [] }
-        ensures step { (mounted past : List Node) → StandsFor mounted past self.old → Answers mounted past self.old self.new request result.outcome }
+        ensures step { (mounted past : List Node) → StandsFor mounted past self.old → AnswersWith mounted past self.old self.new request result.outcome result.node }
         ensures node { HasNode result.outcome result.node }
+        ensures tree { TellsNode self.old self.new result.node }
         ensures closed { self.new.closed ≡ self.old.closed || is_closed result.outcome }
         ensures failed { self.old.failed ≡ true → KeepsAnswer request.writer request.seq result.outcome self.old self.new }
         ensures sizes { HasSizes self.old.book.sectors self.old.book.sector_size self.new.book }
-        ensures erases { self.new.book.erases ≤ self.old.book.erases + self.old.book.held }
+        ensures erases { ErasesAtMost self.old.book.sectors self.old self.new }
         ensures few { self.new.book.erases ≤ self.old.book.erases + self.old.book.sectors }
     {
         let answered = if self.failed {
@@ -78,7 +83,8 @@ impl<F: Flash> Core<F> {
     /// Keeps an answer in its place.
     fn keep_answer(&mut self, writer: u16, seq: u32, outcome: Outcome)
         requires reserved { length self.old.answers < self.old.places }
-        ensures { KeepsAnswer writer seq outcome self.old self.new }
+        ensures kept { KeepsAnswer writer seq outcome self.old self.new }
+        ensures held { self.new.failed ≡ false → self.new.book.held ≤ self.new.book.sectors }
     {
         self.closed = self.closed || closes(outcome);
         self.answers.push_reserved(Answer {
@@ -91,8 +97,7 @@ impl<F: Flash> Core<F> {
     /// Answers a request on a core whose device works.
     fn act(&mut self, request: &Request) -> Answered
         requires working { self.old.failed ≡ false }
-        ensures acted { (past : List Node) → Knows past self.old → HasAnswered past self.old self.new request.now result.outcome }
-        ensures node { HasNode result.outcome result.node }
+        ensures acted { (past : List Node) → Knows past self.old → HasAnswered past self.old self.new request.now result.outcome result.node }
         ensures same { SameAnswers self.old self.new }
         ensures sizes { HasSizes self.old.book.sectors self.old.book.sector_size self.new.book }
         ensures erases { self.new.book.erases ≤ self.old.book.erases + self.old.book.held }
@@ -121,82 +126,93 @@ impl<F: Flash> Core<F> {
     fn take(&mut self, request: &Request, node: Node) -> Answered
         requires working { self.old.failed ≡ false }
         requires decided { IsNodeOf self.old request.now node }
-        ensures acted { (past : List Node) → Knows past self.old → HasAnswered past self.old self.new request.now result.outcome }
-        ensures node { HasNode result.outcome result.node }
+        ensures acted { (past : List Node) → Knows past self.old → HasAnswered past self.old self.new request.now result.outcome result.node }
         ensures same { SameAnswers self.old self.new }
         ensures sizes { HasSizes self.old.book.sectors self.old.book.sector_size self.new.book }
         ensures erases { self.new.book.erases ≤ self.old.book.erases + self.old.book.held }
     {
         if unmounts(&request.wish) {
-            let outcome = self.end(request, &node);
-            return Answered::of(outcome, node);
+            return self.end(request, node);
         }
         if copies(&request.wish) {
-            let outcome = self.keep_copy(request, &node);
-            return Answered::of(outcome, node);
+            return self.keep_copy(request, node);
         }
         if !self.has_room(Room::Fresh, record_len(&node)) {
             return self.clean_for(request, node);
         }
-        let outcome = self.keep_fresh(request, &node);
-        Answered::of(outcome, node)
+        self.keep_fresh(request, node)
     }
 
     /// Appends an unmount node.
-    fn end(&mut self, request: &Request, node: &Node) -> Outcome
+    fn end(&mut self, request: &Request, node: Node) -> Answered
         requires working { self.old.failed ≡ false }
-        requires decided { IsNodeOf self.old request.now node.now }
+        requires decided { IsNodeOf self.old request.now node }
         requires unmounts { is_unmount_wish request.now.wish ≡ true }
-        ensures acted { (past : List Node) → Knows past self.old → HasAnswered past self.old self.new request.now result }
-        ensures numbers { HasNumbers result node.now }
+        ensures acted { (past : List Node) → Knows past self.old → HasAnswered past self.old self.new request.now result.outcome result.node }
         ensures same { SameAnswers self.old self.new }
         ensures sizes { HasSizes self.old.book.sectors self.old.book.sector_size self.new.book }
         ensures erases { self.new.book.erases ≤ self.old.book.erases + self.old.book.held }
     {
-        match self.append(Room::Unmount, node) {
-            Ok(()) => Outcome::Closed,
-            Err(cause) => Outcome::Refused(cause),
+        match self.append(Room::Unmount, &node) {
+            Ok(()) => Answered {
+                outcome: Outcome::Closed,
+                node: Some(node),
+            },
+            Err(cause) => Answered {
+                outcome: Outcome::Refused(cause),
+                node: None,
+            },
         }
     }
 
     /// Appends a copy that a sender handed in.
-    fn keep_copy(&mut self, request: &Request, node: &Node) -> Outcome
+    fn keep_copy(&mut self, request: &Request, node: Node) -> Answered
         requires working { self.old.failed ≡ false }
-        requires decided { IsNodeOf self.old request.now node.now }
+        requires decided { IsNodeOf self.old request.now node }
         requires copies { is_copy_wish request.now.wish ≡ true }
-        ensures acted { (past : List Node) → Knows past self.old → HasAnswered past self.old self.new request.now result }
-        ensures numbers { HasNumbers result node.now }
+        ensures acted { (past : List Node) → Knows past self.old → HasAnswered past self.old self.new request.now result.outcome result.node }
         ensures same { SameAnswers self.old self.new }
         ensures sizes { HasSizes self.old.book.sectors self.old.book.sector_size self.new.book }
         ensures erases { self.new.book.erases ≤ self.old.book.erases + self.old.book.held }
     {
-        match self.append(Room::Fresh, node) {
-            Ok(()) => Outcome::Copied {
-                version: node.version,
+        match self.append(Room::Fresh, &node) {
+            Ok(()) => Answered {
+                outcome: Outcome::Copied {
+                    version: node.version,
+                },
+                node: Some(node),
             },
-            Err(cause) => Outcome::Refused(cause),
+            Err(cause) => Answered {
+                outcome: Outcome::Refused(cause),
+                node: None,
+            },
         }
     }
 
     /// Appends a fresh node that has room.
-    fn keep_fresh(&mut self, request: &Request, node: &Node) -> Outcome
+    fn keep_fresh(&mut self, request: &Request, node: Node) -> Answered
         requires working { self.old.failed ≡ false }
-        requires decided { IsNodeOf self.old request.now node.now }
+        requires decided { IsNodeOf self.old request.now node }
         requires no_copy { is_copy_wish request.now.wish ≡ false }
         requires no_unmount { is_unmount_wish request.now.wish ≡ false }
-        requires room { has_room_for self.old Room.Fresh (length_of node.now) ≡ true }
-        ensures acted { (past : List Node) → Knows past self.old → HasAnswered past self.old self.new request.now result }
-        ensures numbers { HasNumbers result node.now }
+        requires room { has_room_for self.old Room.Fresh (length_of node) ≡ true }
+        ensures acted { (past : List Node) → Knows past self.old → HasAnswered past self.old self.new request.now result.outcome result.node }
         ensures same { SameAnswers self.old self.new }
         ensures sizes { HasSizes self.old.book.sectors self.old.book.sector_size self.new.book }
         ensures erases { self.new.book.erases ≤ self.old.book.erases + self.old.book.held }
     {
-        match self.append(Room::Fresh, node) {
-            Ok(()) => Outcome::Appended {
-                inode: node.inode,
-                version: node.version,
+        match self.append(Room::Fresh, &node) {
+            Ok(()) => Answered {
+                outcome: Outcome::Appended {
+                    inode: node.inode,
+                    version: node.version,
+                },
+                node: Some(node),
             },
-            Err(cause) => Outcome::Refused(cause),
+            Err(cause) => Answered {
+                outcome: Outcome::Refused(cause),
+                node: None,
+            },
         }
     }
 
@@ -207,8 +223,7 @@ impl<F: Flash> Core<F> {
         requires no_copy { is_copy_wish request.now.wish ≡ false }
         requires no_unmount { is_unmount_wish request.now.wish ≡ false }
         requires no_room { has_room_for self.old Room.Fresh (length_of node) ≡ false }
-        ensures acted { (past : List Node) → Knows past self.old → HasAnswered past self.old self.new request.now result.outcome }
-        ensures node { HasNode result.outcome result.node }
+        ensures acted { (past : List Node) → Knows past self.old → HasAnswered past self.old self.new request.now result.outcome result.node }
         ensures same { SameAnswers self.old self.new }
         ensures sizes { HasSizes self.old.book.sectors self.old.book.sector_size self.new.book }
         ensures erases { self.new.book.erases ≤ self.old.book.erases + self.old.book.held }

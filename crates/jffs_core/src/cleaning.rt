@@ -1,6 +1,6 @@
 //! Cleaning: what lives in the oldest sector is copied to the tail, and the sector is erased.
 
-ghost use Rattle.std.specs.Prelude.{◌≡◌, ◌≤◌, ◌<◌, ◌+◌, ◌/◌, ◌^◌, List, ℕ, true, false, map, length, if◌then◌else◌, ◌↔◌, IsTrue, OnOk, IfOk, IfErr};
+ghost use Rattle.std.specs.Prelude.{◌≡◌, ◌≤◌, ◌<◌, ◌+◌, ◌/◌, ◌^◌, List, true, false, map, length, if◌then◌else◌, ◌↔◌, ◌⊎◌, IsTrue, OnOk, IfOk, IfErr};
 ghost use Rattle.std.specs.List.{AllByRecursion};
 ghost use Rattle.jffs_node.specs.Record.{record_len as length_of};
 ghost use Rattle.jffs_tree.specs.Look.{holds_version};
@@ -27,7 +27,9 @@ impl<F: Flash> Core<F> {
     ghost use Rattle.jffs_log.specs.RoomLaws.{Among};
     ghost use Rattle.jffs_core.specs.Standing.{SameAnswers};
     ghost use Rattle.jffs_core.specs.Past.{Knows, StandsFor};
-    ghost use Rattle.jffs_core.specs.Acting.{Cleans, Stops, StopIs, ErasesDead, HasErasedDead, IsDeadOldest, DidClean, RefusedAt, HasHandled, CopyStopped, HasCopied, HasCleaned, HasErased, HasMadeRoom, CleaningStopped};
+    ghost use Rattle.jffs_core.specs.Acting.{Cleans, Stops, StopIs, ErasesDead, HasErasedDead, IsDeadOldest, DidClean, RefusedAt, HasHandled, CopyStopped, HasCopied, HasErased, HasMadeRoom, CleaningStopped};
+    ghost use Rattle.jffs_core.specs.Erases.{ErasesAtMost};
+    ghost use Rattle.jffs_core.specs.Trees.{KeepsTree};
 
     /// Copies each record of the oldest sector that is live at its turn, and erases the sector.
     ///
@@ -53,8 +55,11 @@ impl<F: Flash> Core<F> {
     pub fn erase_dead(&mut self) -> Result<u32, Cause>
         ensures erased { IfOk result (λ count. (mounted past : List Node) → StandsFor mounted past self.old → ErasesDead mounted past count self.old self.new) }
         ensures stopped { IfErr result (λ cause. (mounted past : List Node) → StandsFor mounted past self.old → StandsFor mounted past self.new × StopIs cause past self.old self.new) }
+        ensures causes { IfErr result (λ cause. (cause ≡ Cause.Device) ⊎ (cause ≡ Cause.Failed)) }
         ensures same { SameAnswers self.old self.new }
         ensures sizes { HasSizes self.old.book.sectors self.old.book.sector_size self.new.book }
+        ensures erases { ErasesAtMost 0 self.old self.new }
+        ensures tree { KeepsTree self.old self.new }
     {
         if self.failed {
             return Err(Cause::Failed);
@@ -71,6 +76,7 @@ impl<F: Flash> Core<F> {
         ensures device { IfErr result (λ cause. cause ≡ Cause.Device) }
         ensures same { SameAnswers self.old self.new }
         ensures sizes { HasSizes self.old.book.sectors self.old.book.sector_size self.new.book }
+        ensures erases { ErasesAtMost 0 self.old self.new }
     {
         let mut erased = 0u32;
         while self.is_dead_oldest() {
@@ -257,7 +263,8 @@ impl<F: Flash> Core<F> {
         ensures works { OnOk result (self.new.failed ≡ false) }
         ensures same { SameAnswers self.old self.new }
         ensures sizes { HasSizes self.old.book.sectors self.old.book.sector_size self.new.book }
-        ensures erases { self.new.book.erases ≤ self.old.book.erases + 1 }
+        ensures erases { ErasesAtMost 0 self.old self.new }
+        ensures few { self.new.book.erases ≤ self.old.book.erases + 1 }
     {
         match self.log.erase_oldest(&self.tree) {
             Ok(()) => Ok(()),

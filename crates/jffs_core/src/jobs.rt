@@ -1,8 +1,8 @@
 //! What the log side tells a cleaner: whether it is wanted, and the oldest sector's bytes.
 
-ghost use Rattle.std.specs.Prelude.{◌≡◌, ◌≤◌, ◌<◌, true, false, IfOk, IfErr};
+ghost use Rattle.std.specs.Prelude.{◌≡◌, ◌≤◌, false, IfOk, OnOk, IfErr};
 ghost use Rattle.jffs_log.specs.Volume.{sector_bytes};
-ghost use Rattle.jffs_core.specs.Jobs.{wants_cleaning};
+ghost use Rattle.jffs_core.specs.Jobs.{wants_cleaning, ReadRefused};
 
 use crate::mounted::Core;
 use jffs_flash::Flash;
@@ -27,20 +27,19 @@ impl<F: Flash> Core<F> {
         requires some { self.old.failed ≡ false → 1 ≤ self.old.book.held }
         ensures same { self.new ≡ record self.old { failed = self.new.failed; faults = self.new.faults } }
         ensures bytes { IfOk result (λ bytes. bytes.items ≡ sector_bytes self.old.book.sector_size self.old.book.first self.old.image) }
-        ensures works { IfOk result (λ _. self.new.failed ≡ false) }
-        ensures memory { IfErr result (λ cause. cause ≡ Cause.Memory → self.new ≡ self.old) }
-        ensures device { IfErr result (λ cause. cause ≡ Cause.Device → (self.new.failed ≡ true) × (self.old.faults < self.new.faults)) }
-        ensures failed { IfErr result (λ cause. cause ≡ Cause.Failed → self.old.failed ≡ true) }
+        ensures works { OnOk result ((self.new.failed ≡ false) × (self.new ≡ self.old)) }
+        ensures refused { IfErr result (λ cause. ReadRefused cause self.old self.new) }
     {
         if self.failed {
             return Err(Cause::Failed);
         }
         match self.log.oldest_image(self.alloc) {
             Ok(bytes) => Ok(bytes),
-            Err(cause) => {
-                self.failed = cause == Cause::Device;
-                Err(cause)
+            Err(Cause::Device) => {
+                self.failed = true;
+                Err(Cause::Device)
             }
+            Err(_) => Err(Cause::Memory),
         }
     }
 }

@@ -1,6 +1,6 @@
 //! A mounted device.
 
-ghost use Rattle.std.specs.Prelude.{◌≡◌, false, [], IfOk};
+ghost use Rattle.std.specs.Prelude.{◌≡◌, false, IfOk};
 ghost use Rattle.jffs_log.specs.Book.{IsBook, HasSizes};
 
 use crate::answer::Answer;
@@ -51,8 +51,7 @@ impl<F: Flash> Model for Core<F> {
 }
 
 impl<F: Flash> Core<F> {
-    ghost use Rattle.jffs_node.specs.declared.node.Node.{Node};
-    ghost use Rattle.jffs_core.specs.Past.{StandsFor, IsFresh};
+    ghost use Rattle.jffs_core.specs.Past.{IsFresh};
 
     /// Mounts a device. A refusal hands it back.
     ///

@@ -1,37 +1,35 @@
 //! Cleaning.
 
 use crate::cleaning::Cleaned;
-use crate::tests::appended;
-use crate::tests::session::{Session, create, is_blank, part, rename, same_write, write};
+use crate::tests::session::{Session, holds, is_blank, part};
 use jffs_flash::MemoryFlash;
 use jffs_node::Path;
-use jffs_tree::{Cause, Outcome, Wish};
-use std::alloc::Global;
+use std::process::Abort;
 use std::test::Fail;
 
-/// `/f` with nine appending writes of 192 bytes: three sectors full of live records.
-fn filled(alloc: Global) -> Result<Session<MemoryFlash>, Fail> {
-    let mut session = Session::erased(alloc, 6)?;
-    session.ask(create(alloc, "/f")?)?;
-    for part in 0..9 {
-        session.ask(same_write(alloc, part * 192)?)?;
-    }
-    Ok(session)
-}
+/// Nine appending writes of 192 bytes fill three sectors with live records.
+const FILLED: &str = "create /f : appended 2 1
+     write /f 0 192*a : appended 2 2
+     write /f 192 192*a : appended 2 3
+     write /f 384 192*a : appended 2 4
+     write /f 576 192*a : appended 2 5
+     write /f 768 192*a : appended 2 6
+     write /f 960 192*a : appended 2 7
+     write /f 1152 192*a : appended 2 8
+     write /f 1344 192*a : appended 2 9
+     write /f 1536 192*a : appended 2 10";
 
 #[test]
 fn full_of_live_data(rt: HostRuntime) -> Result<(), Fail> {
-    let alloc = rt.alloc();
-    let mut session = filled(alloc)?;
+    let mut session = Session::erased(rt.alloc(), 6)?;
+    session.play(&rt, FILLED)?;
     assert_eq!(rt; session.erased_sectors(), Some(3));
     assert_eq!(rt; session.live_weight(), Some(2304));
-    let tenth = session.ask(same_write(alloc, 1728)?)?;
-    assert_eq!(rt; tenth, Outcome::Refused(Cause::NoSpace));
+    session.play(&rt, "write /f 1728 192*a : refused NoSpace")?;
     assert_eq!(rt; session.erased_sectors(), Some(3));
     assert_eq!(rt; session.core.log().erases(), 3);
     assert_eq!(rt; session.core.tree().size(2), Some(1728));
-    let removed = session.ask(Wish::Remove(Path::parse(alloc, "/f")?))?;
-    assert_eq!(rt; removed, appended(2, 20));
+    session.play(&rt, "remove /f : appended 2 20")?;
     assert_eq!(rt; session.core.erase_dead(), Ok(2));
     let image = session.image()?;
     assert!(rt; is_blank(part(&image, 0, 5120)));
@@ -39,18 +37,14 @@ fn full_of_live_data(rt: HostRuntime) -> Result<(), Fail> {
 }
 
 /// A file that was renamed, and another that is written over and over.
-fn renamed(alloc: Global) -> Result<Session<MemoryFlash>, Fail> {
-    let mut session = Session::erased(alloc, 6)?;
-    session.ask(Wish::MakeDir(Path::parse(alloc, "/d")?))?;
-    session.ask(create(alloc, "/d/a")?)?;
-    session.ask(write(alloc, "/d/a", 0, b"hello")?)?;
-    session.ask(rename(alloc, "/d/a", "/d/b")?)?;
-    session.ask(create(alloc, "/z")?)?;
-    for _ in 0..3 {
-        session.ask(write(alloc, "/z", 0, &[b'a'; 192])?)?;
-    }
-    Ok(session)
-}
+const RENAMED: &str = "mkdir /d : appended 2 1
+     create /d/a : appended 3 2
+     write /d/a 0 hello : appended 3 3
+     rename /d/a /d/b : appended 3 4
+     create /z : appended 4 5
+     write /z 0 192*a : appended 4 6
+     write /z 0 192*a : appended 4 7
+     write /z 0 192*a : appended 4 8";
 
 /// The copy of the write of `hello` under its file's new name.
 const COPIED: [u8; 72] = [
@@ -62,46 +56,40 @@ const COPIED: [u8; 72] = [
 #[test]
 fn cleaning_copies_current_names(rt: HostRuntime) -> Result<(), Fail> {
     let alloc = rt.alloc();
-    let mut session = renamed(alloc)?;
-    let cleaned = Cleaned::Erased {
-        sector: 0,
-        copies: 2,
-    };
-    assert_eq!(rt; session.core.clean_oldest(), Ok(cleaned));
+    let mut session = Session::erased(alloc, 6)?;
+    session.play(&rt, RENAMED)?;
+    cleans(&rt, &mut session, 2);
     assert_eq!(rt; session.core.clean_oldest(), Ok(Cleaned::OneSector));
     let session = session.remounted()?;
     session.contents(&rt, 3, b"hello");
     let found = session.core.tree().resolve(&Path::parse(alloc, "/d/b")?);
     assert_eq!(rt; found, Some(3));
     let image = session.image()?;
-    assert_eq!(rt; part(&image, 1344, 1416), COPIED.as_slice());
+    holds(&rt, &image, 1344, COPIED.as_slice());
     Ok(())
+}
+
+/// Cleaning erases sector 0 after so many copies.
+fn cleans(rt: &impl Abort, session: &mut Session<MemoryFlash>, copies: u32) {
+    let cleaned = Cleaned::Erased { sector: 0, copies };
+    assert_eq!(rt; session.core.clean_oldest(), Ok(cleaned));
 }
 
 #[test]
 fn removed_inode_leaves_no_record(rt: HostRuntime) -> Result<(), Fail> {
-    let alloc = rt.alloc();
-    let mut session = Session::erased(alloc, 6)?;
-    session.ask(create(alloc, "/a")?)?;
-    session.ask(write(alloc, "/a", 0, b"hello")?)?;
-    session.ask(Wish::Remove(Path::parse(alloc, "/a")?))?;
-    session.ask(create(alloc, "/z")?)?;
-    for _ in 0..3 {
-        session.ask(write(alloc, "/z", 0, &[b'a'; 192])?)?;
-    }
-    let cleaned = Cleaned::Erased {
-        sector: 0,
-        copies: 0,
-    };
-    assert_eq!(rt; session.core.clean_oldest(), Ok(cleaned));
-    assert!(rt;
-        session
-            .core
-            .log()
-            .records()
-            .iter()
-            .all(|kept| kept.inode == 3)
-    );
-    assert_eq!(rt; session.ask(create(alloc, "/a")?)?, appended(4, 8));
-    Ok(())
+    let mut session = Session::erased(rt.alloc(), 6)?;
+    session.play(
+        &rt,
+        "create /a : appended 2 1
+         write /a 0 hello : appended 2 2
+         remove /a : appended 2 3
+         create /z : appended 3 4
+         write /z 0 192*a : appended 3 5
+         write /z 0 192*a : appended 3 6
+         write /z 0 192*a : appended 3 7",
+    )?;
+    cleans(&rt, &mut session, 0);
+    let kept = session.core.log().records();
+    assert!(rt; kept.iter().all(|record| record.inode == 3));
+    session.play(&rt, "create /a : appended 4 8")
 }

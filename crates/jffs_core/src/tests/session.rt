@@ -1,10 +1,10 @@
 //! A core with the number of the next request.
 
 use crate::mounted::Core;
+use crate::tests::wishes::wish_of;
 use jffs_flash::{ERASED_BYTE, Flash, MemoryFlash};
 use jffs_line::Request;
-use jffs_node::{Bytes, Path};
-use jffs_tree::{Outcome, Wish};
+use jffs_tree::{Cause, Outcome, Wish};
 use std::alloc::Global;
 use std::process::Abort;
 use std::test::Fail;
@@ -35,8 +35,25 @@ impl<F: Flash + Drop> Session<F> {
         }
     }
 
-    /// Answers a wish.
-    pub(super) fn ask(&mut self, wish: Wish) -> Result<Outcome, Fail> {
+    /// Asks for each line's wish. Behind `:` stands what it has to be answered.
+    pub(super) fn play(&mut self, rt: &impl Abort, script: &str) -> Result<(), Fail> {
+        for line in script.lines() {
+            let (wish, wanted) = line.split_once(" : ").ok_or("a line without answer")?;
+            let outcome = self.ask(wish)?;
+            let answered = text_of(self.alloc, outcome)?;
+            assert_eq!(rt; answered.as_str(), wanted, "at {wish}");
+        }
+        Ok(())
+    }
+
+    /// Answers the wish that a line says.
+    pub(super) fn ask(&mut self, line: &str) -> Result<Outcome, Fail> {
+        let wish = wish_of(self.alloc, line)?;
+        Ok(self.answer(wish)?)
+    }
+
+    /// Answers a wish. Where a growth is refused the place is asked for again.
+    fn answer(&mut self, wish: Wish) -> Result<Outcome, Cause> {
         self.seq = self.seq.saturating_add(1);
         if self.core.reserve_answer().is_err() {
             self.core.reserve_answer()?;
@@ -117,43 +134,28 @@ impl Session<MemoryFlash> {
     }
 }
 
+/// An answer in words.
+fn text_of(alloc: Global, outcome: Outcome) -> Result<String, Fail> {
+    Ok(match outcome {
+        Outcome::Appended { inode, version } => format!(in alloc; "appended {inode} {version}")?,
+        Outcome::Copied { version } => format!(in alloc; "copied {version}")?,
+        Outcome::Closed => format!(in alloc; "closed")?,
+        Outcome::Refused(cause) => format!(in alloc; "refused {cause:?}")?,
+    })
+}
+
 /// These bytes of an image; none where it is shorter.
 pub(super) fn part(image: &Vec<u8>, at: usize, end: usize) -> &[u8] {
     image.get(at..end).unwrap_or(&[])
 }
 
+/// From a place on, an image has these bytes.
+pub(super) fn holds(rt: &impl Abort, image: &Vec<u8>, at: usize, bytes: &[u8]) {
+    let end = at.saturating_add(bytes.len());
+    assert_eq!(rt; part(image, at, end), bytes, "at {at}");
+}
+
 /// Whether there are bytes, and all are as an erase left them.
 pub(super) fn is_blank(bytes: &[u8]) -> bool {
     !bytes.is_empty() && bytes.iter().all(|byte| *byte == ERASED_BYTE)
-}
-
-pub(super) fn create(alloc: Global, path: &str) -> Result<Wish, Fail> {
-    Ok(Wish::Create(Path::parse(alloc, path)?))
-}
-
-pub(super) fn write(alloc: Global, path: &str, offset: u32, bytes: &[u8]) -> Result<Wish, Fail> {
-    Ok(Wish::Write {
-        path: Path::parse(alloc, path)?,
-        offset,
-        bytes: Bytes::from_slice(alloc, bytes)?,
-    })
-}
-
-/// A write of 192 times the same byte to `/f`.
-pub(super) fn same_write(alloc: Global, offset: u32) -> Result<Wish, Fail> {
-    write(alloc, "/f", offset, &[b'a'; 192])
-}
-
-pub(super) fn truncate(alloc: Global, path: &str, size: u32) -> Result<Wish, Fail> {
-    Ok(Wish::Truncate {
-        path: Path::parse(alloc, path)?,
-        size,
-    })
-}
-
-pub(super) fn rename(alloc: Global, from: &str, to: &str) -> Result<Wish, Fail> {
-    Ok(Wish::Rename {
-        from: Path::parse(alloc, from)?,
-        to: Path::parse(alloc, to)?,
-    })
 }

@@ -1,11 +1,9 @@
 //! Devices that fail at each call in turn.
 
 use crate::mounted::Core;
-use crate::tests::session::{Session, create, rename, same_write, write};
+use crate::tests::session::Session;
 use jffs_flash::{Fail as FuseFail, Flash, FuseFlash, Fused, MemoryFlash};
 use jffs_log::ScanWhy;
-use jffs_node::Path;
-use jffs_tree::Wish;
 use std::alloc::Global;
 use std::process::Abort;
 use std::test::Fail;
@@ -14,51 +12,38 @@ use std::test::Fail;
 const MOST_CALLS: u64 = 1000;
 
 /// A tenth write that finds no room, and a removal.
-fn filling(alloc: Global) -> Result<Vec<Wish>, Fail> {
-    let mut wishes = Vec::new(alloc);
-    wishes.push(create(alloc, "/f")?)?;
-    for part in 0..10 {
-        wishes.push(same_write(alloc, part * 192)?)?;
-    }
-    wishes.push(Wish::Remove(Path::parse(alloc, "/f")?))?;
-    Ok(wishes)
-}
+const FILLING: &str = "create /f
+     write /f 0 192*a
+     write /f 192 192*a
+     write /f 384 192*a
+     write /f 576 192*a
+     write /f 768 192*a
+     write /f 960 192*a
+     write /f 1152 192*a
+     write /f 1344 192*a
+     write /f 1536 192*a
+     write /f 1728 192*a
+     remove /f";
 
 /// A file that is renamed, and another that is written over and over.
-fn renaming(alloc: Global) -> Result<Vec<Wish>, Fail> {
-    let mut wishes = Vec::new(alloc);
-    wishes.push(create(alloc, "/a")?)?;
-    wishes.push(write(alloc, "/a", 0, b"hello")?)?;
-    wishes.push(rename(alloc, "/a", "/b")?)?;
-    wishes.push(create(alloc, "/z")?)?;
-    for _ in 0..3 {
-        wishes.push(write(alloc, "/z", 0, &[b'a'; 192])?)?;
-    }
-    Ok(wishes)
-}
-
-#[derive(Clone, Copy)]
-enum Run {
-    Filling,
-    Renaming,
-}
-
-impl Run {
-    fn wishes(self, alloc: Global) -> Result<Vec<Wish>, Fail> {
-        match self {
-            Run::Filling => filling(alloc),
-            Run::Renaming => renaming(alloc),
-        }
-    }
-}
+const RENAMING: &str = "create /a
+     write /a 0 hello
+     rename /a /b
+     create /z
+     write /z 0 192*a
+     write /z 0 192*a
+     write /z 0 192*a";
 
 /// Answers the wishes and cleans a sector, until the device fails; gives the size of inode 2 before
 /// the first request and after each that was answered by a device that works.
-fn sizes_of<F: Flash + Drop>(session: &mut Session<F>, run: Run) -> Result<Vec<Option<u32>>, Fail> {
+fn sizes_of<F: Flash + Drop>(
+    session: &mut Session<F>,
+    run: &str,
+) -> Result<Vec<Option<u32>>, Fail> {
     let mut sizes = Vec::new(session.alloc);
     sizes.push(session.core.tree().size(2))?;
-    for wish in run.wishes(session.alloc)? {
-        session.ask(wish)?;
+    for line in run.lines() {
+        session.ask(line)?;
         if session.core.failed() {
             return Ok(sizes);
         }
@@ -76,7 +61,7 @@ struct Blown {
     left: MemoryFlash,
 }
 
-fn blow(alloc: Global, run: Run, fuse: FuseFlash) -> Result<Option<Blown>, Fail> {
+fn blow(alloc: Global, run: &str, fuse: FuseFlash) -> Result<Option<Blown>, Fail> {
     let core = match Core::mount(alloc, fuse) {
         Ok(core) => core,
         Err(fault) if fault.why == ScanWhy::Device => {
@@ -102,7 +87,7 @@ fn blow(alloc: Global, run: Run, fuse: FuseFlash) -> Result<Option<Blown>, Fail>
 fn sweep(
     rt: &impl Abort,
     alloc: Global,
-    run: Run,
+    run: &str,
     fused: Fused,
     fail: FuseFail,
 ) -> Result<(), Fail> {
@@ -123,7 +108,7 @@ fn sweep(
     Err("the fuse always blew".into())
 }
 
-fn sweep_all(rt: &impl Abort, alloc: Global, run: Run) -> Result<(), Fail> {
+fn sweep_all(rt: &impl Abort, alloc: Global, run: &str) -> Result<(), Fail> {
     for fused in [Fused::Writes, Fused::All] {
         for fail in [FuseFail::Nothing, FuseFail::Half] {
             sweep(rt, alloc, run, fused, fail)?;
@@ -134,10 +119,10 @@ fn sweep_all(rt: &impl Abort, alloc: Global, run: Run) -> Result<(), Fail> {
 
 #[test]
 fn a_full_volume_survives_each_fault(rt: HostRuntime) -> Result<(), Fail> {
-    sweep_all(&rt, rt.alloc(), Run::Filling)
+    sweep_all(&rt, rt.alloc(), FILLING)
 }
 
 #[test]
 fn a_cleaned_volume_survives_each_fault(rt: HostRuntime) -> Result<(), Fail> {
-    sweep_all(&rt, rt.alloc(), Run::Renaming)
+    sweep_all(&rt, rt.alloc(), RENAMING)
 }

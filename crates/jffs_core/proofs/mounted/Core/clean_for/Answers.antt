@@ -67,7 +67,7 @@ returns-in-Ok-clause-acted g c = λ past known.
     (inr (its_makes_room past _ q n known d c.append.new.self (fresh_room past _ q n known d c.requires.no_copy c.requires.no_unmount) c.requires.no_room fresh))
     (ap (λ (x : Node). record x { version = c.in-Some.version }) d.is)
     (known_version m.0 c.make_room.new.self (Some c.in-Some.version) h.stands.knows next)
-    p.works (later_put_keeps later c.args.self.now c.make_room.new.self c.append.new.self h.two p) (works_past _ _ p.works (p.knows m.0 h.stands.knows may))
+    p.works (p.faults ∙ h.stands.faults) (later_put_keeps later c.args.self.now c.make_room.new.self c.append.new.self h.two p) (works_past _ _ p.works (p.knows m.0 h.stands.knows may))
 
 pub returns-in-Err-append-clause-acted : goal.returns-in-Err-append-clause-acted
 returns-in-Err-append-clause-acted g c = λ past known.

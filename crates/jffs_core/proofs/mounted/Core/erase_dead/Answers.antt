@@ -1,6 +1,8 @@
-use Rattle.std.proofs.Common.{◌∙◌, sym, ap}
+use Rattle.std.proofs.Common.{◌∙◌, sym, ap, subst}
 use Rattle.jffs_core.specs.Standing.{Standing}
+use Rattle.jffs_core.specs.Past.{Knows}
 use Rattle.jffs_core.proofs.Stepping.{works_past}
+use Rattle.jffs_core.proofs.Trees.{tree_kept}
 use Rattle.jffs_core.proofs.Turning.{ok_map, erased_keeps, err_both, device_stop}
 use Rattle.jffs_core.proofs.mounted.Core.erase_dead.Goals as goal
 
@@ -13,6 +15,7 @@ returns-clause-erased g c =
     record {
       works = works;
       still_works = e.stands.works;
+      faults = e.stands.faults;
       stands = record { grown = s.grown; stands = works_past past _ e.stands.works e.stands.knows };
       log = e.log;
       last = e.last;
@@ -25,3 +28,11 @@ returns-clause-stopped g c =
     err_both c.erase_while_dead.result _ _ _
     (λ cause h device mounted past s. device_stop mounted past cause c.args.self.now c.erase_while_dead.new.self works s device (h past (let k = s.stands in k.working works)))
     c.erase_while_dead.ensures.stopped c.erase_while_dead.ensures.device
+
+pub returns-clause-tree : goal.returns-clause-tree
+returns-clause-tree g c =
+    let works = ap (λ (v : Standing). v.failed) (sym c.self.view_is) ∙ c.if-self.false in
+    let past = c.self.invariant.past c.if-self.false in
+    let known = subst (λ (v : Standing). Knows past.0 v) c.self.view_is past.1 in
+    let done = c.erase_while_dead.ensures in
+    tree_kept past.0 c.args.self.now c.erase_while_dead.new.self c.erase_while_dead.result works known done.erased done.stopped done.device

@@ -1,11 +1,12 @@
-use Rattle.std.proofs.Common.{◌≡◌, ◌∙◌, ◌<◌, ◌≤◌, List, length, inl, true, false, refl, sym, ap, subst}
+use Rattle.std.proofs.Common.{◌≡◌, ◌∙◌, ◌<◌, ◌≤◌, List, length, inl, true, false, refl, sym, ap, subst, arith}
 use Rattle.jffs_log.specs.Book.{layout_in}
-use Rattle.jffs_log.specs.Cleaning.{erase_oldest}
+use Rattle.jffs_log.specs.Cleaning.{Layout, erase_oldest}
 use Rattle.jffs_node.specs.declared.node.Node.{Node}
 use Rattle.jffs_core.specs.Standing.{Standing}
 use Rattle.jffs_core.specs.Past.{IsPast, Knows}
 use Rattle.jffs_core.proofs.Mounting.{clean_ends}
 use Rattle.jffs_core.proofs.Sweeping.{refused_device, held_is, erased_past}
+use Rattle.jffs_core.proofs.Erasing.{erased_one, erase_failed, one_fewer}
 use Rattle.jffs_core.proofs.mounted.Core.erase_oldest.Goals as goal
 
 left : (g : _) (c : goal.In-Ok g) (past : List Node) → Knows past c.args.self.now
@@ -70,3 +71,33 @@ pub returns-in-Ok-clause-log : goal.returns-in-Ok-clause-log
 returns-in-Ok-clause-log g c =
     let e = c.in-Ok.ensures in
     e.layout ∙ ap (λ (v : Standing). erase_oldest (layout_in v.image v.book)) c.self.view_is
+
+pub returns-in-Ok-clause-erases : goal.returns-in-Ok-clause-erases
+returns-in-Ok-clause-erases g c =
+    let b = c.self.inside.log.book in
+    let old = g.F.Flash.image c.self.inside.log.flash in
+    let new = g.F.Flash.image c.erase_oldest.new.self.flash in
+    let d = c.erase_oldest.new.self.book in
+    let works = ap (λ (v : Standing). v.failed) c.self.view_is ∙ c.requires.working in
+    let e = c.in-Ok.ensures in
+    let before = held_is old b (c.self.invariant.book works) in
+    let after = held_is new d e.book in
+    let log = ap (λ (l : Layout). length l.sectors) e.layout in
+    let two : 2 ≤ length (layout_in old b).sectors = subst (λ (v : Standing). 2 ≤ length (layout_in v.image v.book).sectors) (sym c.self.view_is) c.requires.several in
+    let fewer = one_fewer (layout_in old b).sectors two in
+    let counted = e.erases in
+    let was = ap (λ (v : Standing). v.book.erases) c.self.view_is in
+    let held = ap (λ (v : Standing). v.book.held) c.self.view_is in
+    erased_one c.args.self.now _ (omega arith) (omega arith)
+
+pub returns-in-Err-clause-erases : goal.returns-in-Err-clause-erases
+returns-in-Err-clause-erases g c =
+    let b = c.self.inside.log.book in
+    let old = g.F.Flash.image c.self.inside.log.flash in
+    let works = ap (λ (v : Standing). v.failed) c.self.view_is ∙ c.requires.working in
+    let before = held_is old b (c.self.invariant.book works) in
+    let two : 2 ≤ length (layout_in old b).sectors = subst (λ (v : Standing). 2 ≤ length (layout_in v.image v.book).sectors) (sym c.self.view_is) c.requires.several in
+    let counted = c.in-Err.ensures.erases in
+    let was = ap (λ (v : Standing). v.book.erases) c.self.view_is in
+    let held = ap (λ (v : Standing). v.book.held) c.self.view_is in
+    erase_failed c.args.self.now _ refl (omega arith) (omega arith)

@@ -4,7 +4,7 @@ use Rattle.jffs_log.specs.Cleaning.{Layout}
 use Rattle.jffs_core.specs.History.{IsOwnCopy}
 use Rattle.jffs_core.specs.Acting.{IsDeadOldest}
 use Rattle.jffs_core.proofs.Stepping.{refused_along}
-use Rattle.jffs_core.proofs.Turning.{erasing_goes_on, one_fewer}
+use Rattle.jffs_core.proofs.Erasing.{erased_none, erased_along, erasing_goes_on, one_fewer}
 use Rattle.jffs_core.proofs.mounted.Core.erase_while_dead.Goals as goal
 
 pub overflow_add-erased : goal.overflow_add-erased
@@ -19,7 +19,7 @@ pub loop-self-preserved : goal.loop-self-preserved
 loop-self-preserved g c =
     let e = c.in-Ok.ensures in
     let dead : IsDeadOldest c.loop-self.self = c.is_dead_oldest.ensures.0 c.loop-self-test.true in
-    erasing_goes_on c.loop-self.erased c.args.self.now c.loop-self.self c.erase_oldest.new.self c.loop-self.invariant dead.several e.works e.same e.sizes e.log e.erased
+    erasing_goes_on c.loop-self.erased c.args.self.now c.loop-self.self c.erase_oldest.new.self c.loop-self.invariant dead.several e.works e.same e.sizes e.log e.erased c.in-Ok.ensures.erases
 
 pub returns-clause-erased : goal.returns-clause-erased
 returns-clause-erased g c = λ past known.
@@ -33,6 +33,12 @@ pub returns-in-Err-clause-stopped : goal.returns-in-Err-clause-stopped
 returns-in-Err-clause-stopped g c = λ past known.
     let d = c.loop-self.invariant.done past known in
     refused_along (IsOwnCopy past) c.in-Err.cause past c.args.self.now c.loop-self.self c.erase_oldest.new.self d.faults (c.in-Err.ensures.refused past d.knows)
+
+pub returns-clause-erases : goal.returns-clause-erases
+returns-clause-erases g c = let v = c.loop-self.invariant in erased_along c.args.self.now c.loop-self.self c.loop-self.self v.erases (erased_none c.loop-self.self)
+
+pub returns-in-Err-clause-erases : goal.returns-in-Err-clause-erases
+returns-in-Err-clause-erases g c = let v = c.loop-self.invariant in erased_along c.args.self.now c.loop-self.self c.erase_oldest.new.self v.erases c.in-Err.ensures.erases
 
 pub loop-self-smaller : goal.loop-self-smaller
 loop-self-smaller g c =

@@ -1,6 +1,6 @@
 use Rattle.std.proofs.Common.{length}
 use Rattle.jffs_log.specs.Book.{layout_in}
-use Rattle.jffs_core.proofs.Turning.{IsErasing}
+use Rattle.jffs_core.proofs.Erasing.{IsErasing}
 use Rattle.jffs_core.proofs.mounted.Core.erase_while_dead.Given as goal
 
 abbrev pub invariant-loop-self : goal.invariant-loop-self

@@ -1,0 +1,70 @@
+-- Sectors are erased, and how often.
+use Rattle.std.proofs.Common.{◌≡◌, ℕ, suc, ◌+◌, ◌≤◌, Bool, true, false, List, [], ◌∷◌, length, ap, ◌∙◌, arith}
+use Rattle.jffs_node.specs.declared.node.Node.{Node}
+use Rattle.jffs_tree.specs.Origin.{Tree}
+use Rattle.jffs_tree.specs.declared.wish.Limits.{Limits}
+use Rattle.jffs_log.specs.declared.book.Book.{Book}
+use Rattle.jffs_log.specs.Book.{IsBook, HasSizes, layout_in}
+use Rattle.jffs_log.specs.Cleaning.{Layout, without_oldest, erase_oldest}
+use Rattle.jffs_log.proofs.Copied.{opposite}
+use Rattle.jffs_core.specs.Standing.{Standing, SameAnswers}
+use Rattle.jffs_core.specs.Past.{IsPast, Knows}
+use Rattle.jffs_core.specs.Acting.{WorksOn, HasErased, erased_times}
+use Rattle.jffs_core.specs.Erases.{ErasesAtMost}
+use Rattle.jffs_core.proofs.Sweeping.{held_is}
+
+-- No more sectors hold the log than there are.
+pub held_most : (past : List Node) (image : List ℕ) (b : Book) (tree : Tree) (limits : Limits) (clean : Bool) → IsBook image b → IsPast past image b tree limits clean → b.held ≤ b.sectors
+held_most past image b tree limits clean book h = let many = held_is image b book in let all = h.sound.counted in omega arith
+
+-- Nothing was erased.
+pub erased_none : (c : Standing) → ErasesAtMost 0 c c
+erased_none c = record { erases = omega arith; held = λ w. omega arith }
+
+-- One sector was erased.
+pub erased_one : (old new : Standing) → new.book.erases ≤ old.book.erases + 1 → new.book.held + 1 ≡ old.book.held → ErasesAtMost 0 old new
+erased_one old new erases held = record { erases = omega arith; held = λ w. omega arith }
+
+-- An erase failed.
+pub erase_failed : (old new : Standing) → new.failed ≡ true → new.book.erases ≤ old.book.erases + 1 → 2 ≤ old.book.held → ErasesAtMost 0 old new
+erase_failed old new fails erases several = record { erases = omega arith; held = λ w. absurd (opposite new.failed fails w) }
+
+-- Several were, and what came then.
+pub erased_along : (old middle new : Standing) → middle.book.erases + middle.book.held ≤ old.book.erases + old.book.held → ErasesAtMost 0 middle new → ErasesAtMost 0 old new
+erased_along old middle new so_far h = record { erases = let e = h.erases in omega arith; held = λ w. let e = h.held w in omega arith }
+
+-- Dead sectors are erased one after another.
+pub record IsErasing (count : ℕ) (old now : Standing) : Type 0 where
+  pub works : now.failed ≡ false
+  pub same : SameAnswers old now
+  pub sizes : HasSizes old.book.sectors old.book.sector_size now.book
+  pub log : layout_in now.image now.book ≡ erased_times count (layout_in old.image old.book)
+  pub left : count + length (layout_in now.image now.book).sectors ≡ length (layout_in old.image old.book).sectors
+  pub erases : now.book.erases + now.book.held ≤ old.book.erases + old.book.held
+  pub done : (past : List Node) → Knows past old → WorksOn past old now
+
+pub one_fewer : (sectors : List (List Node)) → 2 ≤ length sectors → length (without_oldest sectors) + 1 ≡ length sectors
+one_fewer [] h = absurd (omega arith)
+one_fewer (s ∷ sectors) h = omega arith
+
+pub erasing_goes_on : (count : ℕ) (old middle new : Standing) → IsErasing count old middle → 2 ≤ length (layout_in middle.image middle.book).sectors → new.failed ≡ false → SameAnswers middle new → HasSizes middle.book.sectors middle.book.sector_size new.book
+    → layout_in new.image new.book ≡ erase_oldest (layout_in middle.image middle.book) → ((past : List Node) → Knows past middle → HasErased past middle new) → ErasesAtMost 0 middle new → IsErasing (count + 1) old new
+erasing_goes_on count old middle new h several works same sizes log erased one =
+    let more : suc count ≡ count + 1 = omega arith in
+    record {
+      works = works;
+      same = record { answers = same.answers ∙ h.same.answers; places = same.places ∙ h.same.places; closed = same.closed ∙ h.same.closed };
+      sizes = (h.sizes.0 ∙ sizes.0, h.sizes.1 ∙ sizes.1);
+      log = log ∙ ap erase_oldest h.log ∙ ap (λ k. erased_times k (layout_in old.image old.book)) more;
+      left =
+          let e = ap (λ (l : Layout). length l.sectors) log in
+          let f = one_fewer (layout_in middle.image middle.book).sectors several in
+          let k = h.left in
+          omega arith;
+      erases = let before = h.erases in let more = one.held works in omega arith;
+      done = λ past known.
+          let d = h.done past known in
+          let e = erased past d.knows in
+          let s = e.stands in
+          record { works = s.works; faults = s.faults ∙ d.faults; knows = s.knows };
+    }

@@ -7,3 +7,4 @@ pub mod Crews
 pub mod Runs
 pub mod Scanning
 pub mod Unmounting
+pub mod Heavy

@@ -5,7 +5,7 @@ use Rattle.jffs_text.specs.declared.command.Command.{Command}
 use Rattle.jffs_tree.specs.declared.wish.Wish.{Wish}
 use Rattle.jffs_line.specs.declared.request.Request.{Request}
 use Rattle.jffs_line.specs.Requests.{request}
-use Rattle.jffs_run.specs.Wishes.{wish_of, wishes_of}
+use Rattle.jffs_text.specs.Wishes.{wish_of, wishes_of}
 use Rattle.jffs_run.specs.Numbered.{numbered}
 
 -- a wish more

@@ -23,11 +23,12 @@ use Rattle.jffs_serve.specs.declared.session.Served.TheVariants as ending
 use Rattle.jffs_serve.specs.Copies.{IsCopy}
 use Rattle.jffs_serve.specs.Answered.{volume_of}
 use Rattle.jffs_serve.specs.Replies.{Reply, answer_in, any_closed, RefusesUnmount, FitsServed}
+use Rattle.jffs_serve.proofs.Turns.{replies_are_lawful}
 use Rattle.jffs_text.specs.declared.command.Command.{Command}
 use Rattle.jffs_text.specs.declared.command.Command.TheVariants as command
 use Rattle.jffs_text.specs.declared.script.Writer.{Writer}
 use Rattle.jffs_text.specs.declared.script.ReaderStatement.{ReaderStatement}
-use Rattle.jffs_run.specs.Wishes.{wish_of, wishes_of}
+use Rattle.jffs_text.specs.Wishes.{wish_of, wishes_of}
 use Rattle.jffs_run.specs.Numbered.{numbered}
 use Rattle.jffs_run.specs.Ends.{AreCopies, commands_at}
 use Rattle.jffs_run.specs.Headline.{IsRun, requests_in}
@@ -145,8 +146,8 @@ nothing [] ys is = refl
 nothing (x ∷ xs) ys is = absurd (cc)
 
 module _ {start : Standing} {script : List Writer} {statements : List ReaderStatement} {accepted : ℕ → List Request} {answers : List Answer} {waiting : List Request} {ends : List ReaderEnd}
-    {served : Served} {sectors sector_size : ℕ} {image : List ℕ} {erase_failed : Bool}
-    (run : IsRun start script statements accepted answers waiting ends served sectors sector_size image erase_failed) where
+    {served : Served} {sectors sector_size : ℕ} {image : List ℕ} {faults_now : ℕ} {erase_failed : Bool}
+    (run : IsRun start script statements accepted answers waiting ends served sectors sector_size image faults_now erase_failed) where
   -- each request for an Unmount that was accepted is the control's
   accepted_unmounts : (sender : ℕ) → AllByRecursion IsControls (accepted sender)
   accepted_unmounts sender =
@@ -186,13 +187,14 @@ module _ {start : Standing} {script : List Writer} {statements : List ReaderStat
   ]
 
 pub runs_end_unmounted : RunsEndUnmounted
-runs_end_unmounted count len faults before had_failed start script statements accepted answers waiting ends served sectors sector_size image erase_failed fresh run =
+runs_end_unmounted count len faults before had_failed start script statements accepted answers waiting ends served sectors sector_size image faults_now erase_failed fresh run =
     elim served as (λ (s : Served). FitsServed s (any_closed answers) run.replies → FitsEnd s script accepted run.replies) [
       | ending.Closed ↦ λ closed.
           let mounted = past_of fresh.scanned.log in
           let ran = run.lawful mounted mounted fresh.stands in
+          let lawful = replies_are_lawful start run.core mounted mounted run.replies run.each_replies ran in
           let now : any_closed (map answer_in run.replies) ≡ true = sym (ap any_closed run.answers_are) ∙ closed in
-          let answered = closed_one (volume_of start) mounted ran.after run.replies ran.lawful.each (answered_unmounts run) now in
+          let answered = closed_one (volume_of start) mounted ran.after run.replies lawful.each (answered_unmounts run) now in
           (answered, took_all run Closed answered)
       | ending.NotClosed cause ↦ λ refuses.
           let answered = refused_one run.replies cause (answered_unmounts run) refuses in

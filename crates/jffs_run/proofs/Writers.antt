@@ -8,7 +8,7 @@ use Rattle.jffs_run.specs.declared.writer.Stop.{Stop}
 use Rattle.jffs_run.specs.declared.writer.Stop.TheVariants.{Done}
 use Rattle.jffs_run.specs.declared.writer.WriterEnd.{WriterEnd}
 use Rattle.jffs_run.specs.declared.promise.Writes.{Writes}
-use Rattle.jffs_run.specs.Wishes.{wishes_of}
+use Rattle.jffs_text.specs.Wishes.{wishes_of}
 use Rattle.jffs_run.specs.Numbered.{numbered, Wrote}
 use Rattle.jffs_run.specs.Ends.{HandedIn, HandedInAll}
 use Rattle.jffs_run.specs.Started.{IsStarted}

@@ -8,7 +8,7 @@ use Rattle.jffs_line.specs.declared.hand.Hands.{Hands}
 use Rattle.jffs_text.specs.declared.command.Command.{Command}
 use Rattle.jffs_text.specs.declared.script.Writer.{Writer}
 use Rattle.jffs_serve.specs.Copies.{IsCopy}
-use Rattle.jffs_run.specs.Wishes.{wishes_of}
+use Rattle.jffs_text.specs.Wishes.{wishes_of}
 use Rattle.jffs_run.specs.Numbered.{numbered}
 
 -- each element has the property, at its place counted from n on

@@ -14,7 +14,7 @@ use Rattle.jffs_serve.specs.declared.session.Served.{Served}
 use Rattle.jffs_serve.specs.Replies.{Reply, AllReply, answer_in, any_closed, FitsServed}
 use Rattle.jffs_text.specs.declared.script.Writer.{Writer}
 use Rattle.jffs_text.specs.declared.script.ReaderStatement.{ReaderStatement}
-use Rattle.jffs_run.specs.Wishes.{wishes_of}
+use Rattle.jffs_text.specs.Wishes.{wishes_of}
 use Rattle.jffs_run.specs.Numbered.{numbered}
 use Rattle.jffs_run.specs.Ends.{EachFrom, commands_at, AreCopies}
 use Rattle.jffs_run.specs.Looking.{HasSeen}
@@ -29,16 +29,19 @@ abbrev pub numbers_of : ℕ → List Answer → List ℕ
 numbers_of sender [] = []
 numbers_of sender (answer ∷ answers) = cond (eqb answer.writer sender) (answer.seq ∷ numbers_of sender answers) (numbers_of sender answers)
 
--- The device is as a core left it: of the same sizes, with its image, and an erase failed where one did.
-abbrev pub IsLeftBy : Standing → ℕ → ℕ → List ℕ → Bool → Type 0
-IsLeftBy core count len image erase_failed = HasSizes count len core.book × (image ≡ core.image) × (erase_failed ≡ core.erase_failed)
+-- The device is as a core left it: of the same sizes, with its image and its count of faults, and an erase failed where one did.
+pub record IsLeftBy (core : Standing) (count len : ℕ) (image : List ℕ) (faults : ℕ) (erase_failed : Bool) : Type 0 where
+  pub sizes : HasSizes count len core.book
+  pub image_is : image ≡ core.image
+  pub faults_are : faults ≡ core.faults
+  pub erases_are : erase_failed ≡ core.erase_failed
 
 -- Some order of the accepted requests was answered, each once, and what each sender has waiting is what it had accepted beyond that, so that its answers are numbered 1, 2, 3, ..
 -- Of each writer the first of its commands were accepted, and all of them where an Unmount was accepted; of the control one Unmount at most, of the cleaner copies alone, and no others
 -- From whatever history the core stood for at the start, the answers are lawful for these requests, and the core at the end, which left the device as it is, stands for the history after them
 -- What was served is told by the answers
 -- Each reader saw what its path reads after a beginning of the answers, from the tree at the start on, or counts as one that saw nothing
-pub record IsRun (start : Standing) (script : List Writer) (statements : List ReaderStatement) (accepted : ℕ → List Request) (answers : List Answer) (waiting : List Request) (ends : List ReaderEnd) (served : Served) (count len : ℕ) (image : List ℕ) (erase_failed : Bool) : Type 0 where
+pub record IsRun (start : Standing) (script : List Writer) (statements : List ReaderStatement) (accepted : ℕ → List Request) (answers : List Answer) (waiting : List Request) (ends : List ReaderEnd) (served : Served) (count len : ℕ) (image : List ℕ) (faults : ℕ) (erase_failed : Bool) : Type 0 where
   pub replies : List Reply
   pub each_replies : AllReply replies
   pub answers_are : answers ≡ map answer_in replies
@@ -50,7 +53,7 @@ pub record IsRun (start : Standing) (script : List Writer) (statements : List Re
   pub cleaner : AreCopies (accepted 9)
   pub others : (sender : ℕ) → ((place : ℕ) → place < length script → sender ≢ place + 1) → sender ≢ 9 → sender ≢ 10 → accepted sender ≡ []
   pub core : Standing
-  pub left : IsLeftBy core count len image erase_failed
+  pub left : IsLeftBy core count len image faults erase_failed
   pub lawful : (mounted past : List Node) → StandsFor mounted past start → RunsTo start core mounted past replies
   pub ending : FitsServed served (any_closed answers) replies
   pub seen : EachFrom (HasSeen (record { opening = start.tree; steps = map (λ (r : Reply). r.step) replies }) statements) 0 ends

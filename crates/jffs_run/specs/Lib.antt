@@ -1,4 +1,3 @@
-pub mod Wishes
 pub mod Numbered
 pub mod Ends
 pub mod Started
@@ -9,3 +8,4 @@ pub mod Headline
 pub mod Accepted
 pub mod Scanned
 pub mod Unmounted
+pub mod Heavy

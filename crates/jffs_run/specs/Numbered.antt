@@ -6,7 +6,7 @@ use Rattle.jffs_line.specs.declared.request.Request.{Request}
 use Rattle.jffs_line.specs.Requests.{request}
 use Rattle.jffs_run.specs.declared.writer.Stop.{Stop}
 use Rattle.jffs_run.specs.declared.writer.Stop.TheVariants.{Done}
-use Rattle.jffs_run.specs.Wishes.{wishes_of}
+use Rattle.jffs_text.specs.Wishes.{wishes_of}
 
 -- a sender's wishes, numbered from n on
 abbrev pub numbered : ℕ → ℕ → List Wish → List Request

@@ -13,7 +13,7 @@ use Rattle.jffs_core.specs.Finding.{FindsWith}
 use Rattle.jffs_core.specs.Run.{IsLawful}
 use Rattle.jffs_core.specs.declared.answer.Answer.{Answer}
 use Rattle.jffs_serve.specs.declared.session.Served.{Served}
-use Rattle.jffs_serve.specs.Answered.{volume_of, IsRequested}
+use Rattle.jffs_serve.specs.Answered.{volume_of, any_failure, IsRequested}
 use Rattle.jffs_serve.specs.Replies.{Reply}
 use Rattle.jffs_text.specs.declared.script.Writer.{Writer}
 use Rattle.jffs_text.specs.declared.script.ReaderStatement.{ReaderStatement}
@@ -39,13 +39,20 @@ pub record LeavesHistory (start : Standing) (mounted : List Node) (replies : Lis
 -- A run from a mount on, over a device that works, leaves the contents.
 abbrev pub RunsLeaveContents : Type 0
 RunsLeaveContents = (count len faults : ℕ) (before : List ℕ) (had_failed : Bool) (start : Standing) (script : List Writer) (statements : List ReaderStatement) (accepted : ℕ → List Request)
-    (answers : List Answer) (waiting : List Request) (ends : List ReaderEnd) (served : Served) (sectors sector_size : ℕ) (image : List ℕ) (erase_failed : Bool)
-    → (fresh : IsFresh count len before faults had_failed start) (run : IsRun start script statements accepted answers waiting ends served sectors sector_size image erase_failed)
+    (answers : List Answer) (waiting : List Request) (ends : List ReaderEnd) (served : Served) (sectors sector_size : ℕ) (image : List ℕ) (faults_now : ℕ) (erase_failed : Bool)
+    → (fresh : IsFresh count len before faults had_failed start) (run : IsRun start script statements accepted answers waiting ends served sectors sector_size image faults_now erase_failed)
     → run.core.failed ≡ false → LeavesContents start (past_of fresh.scanned.log) (requests_in run.replies) answers sectors sector_size image
 
 -- Over a device that failed, but not in an erase, it leaves the state before or after the request in hand.
 abbrev pub FailedRunsLeaveHistory : Type 0
 FailedRunsLeaveHistory = (count len faults : ℕ) (before : List ℕ) (had_failed : Bool) (start : Standing) (script : List Writer) (statements : List ReaderStatement) (accepted : ℕ → List Request)
-    (answers : List Answer) (waiting : List Request) (ends : List ReaderEnd) (served : Served) (sectors sector_size : ℕ) (image : List ℕ) (erase_failed : Bool)
-    → (fresh : IsFresh count len before faults had_failed start) (run : IsRun start script statements accepted answers waiting ends served sectors sector_size image erase_failed)
+    (answers : List Answer) (waiting : List Request) (ends : List ReaderEnd) (served : Served) (sectors sector_size : ℕ) (image : List ℕ) (faults_now : ℕ) (erase_failed : Bool)
+    → (fresh : IsFresh count len before faults had_failed start) (run : IsRun start script statements accepted answers waiting ends served sectors sector_size image faults_now erase_failed)
     → run.core.failed ≡ true → erase_failed ≡ false → LeavesHistory start (past_of fresh.scanned.log) run.replies answers sectors sector_size image
+
+-- Where the device's count of faults is at the end what it was at the mount, nothing was answered Device or Failed, and the run leaves the contents.
+abbrev pub RunsWithoutFaults : Type 0
+RunsWithoutFaults = (count len faults : ℕ) (before : List ℕ) (had_failed : Bool) (start : Standing) (script : List Writer) (statements : List ReaderStatement) (accepted : ℕ → List Request)
+    (answers : List Answer) (waiting : List Request) (ends : List ReaderEnd) (served : Served) (sectors sector_size : ℕ) (image : List ℕ) (faults_now : ℕ) (erase_failed : Bool)
+    → (fresh : IsFresh count len before faults had_failed start) (run : IsRun start script statements accepted answers waiting ends served sectors sector_size image faults_now erase_failed)
+    → faults_now ≡ faults → (any_failure answers ≡ false) × LeavesContents start (past_of fresh.scanned.log) (requests_in run.replies) answers sectors sector_size image

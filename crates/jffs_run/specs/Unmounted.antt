@@ -13,7 +13,7 @@ use Rattle.jffs_serve.specs.declared.session.Served.TheVariants as served
 use Rattle.jffs_serve.specs.Replies.{Reply}
 use Rattle.jffs_text.specs.declared.script.Writer.{Writer}
 use Rattle.jffs_text.specs.declared.script.ReaderStatement.{ReaderStatement}
-use Rattle.jffs_run.specs.Wishes.{wishes_of}
+use Rattle.jffs_text.specs.Wishes.{wishes_of}
 use Rattle.jffs_run.specs.Numbered.{numbered}
 use Rattle.jffs_run.specs.Ends.{commands_at}
 use Rattle.jffs_run.specs.Headline.{IsRun}
@@ -38,6 +38,6 @@ FitsEnd served.Memory script accepted replies = Unit {0}
 -- Each run from a mount on ends so.
 abbrev pub RunsEndUnmounted : Type 0
 RunsEndUnmounted = (count len faults : ℕ) (before : List ℕ) (had_failed : Bool) (start : Standing) (script : List Writer) (statements : List ReaderStatement) (accepted : ℕ → List Request)
-    (answers : List Answer) (waiting : List Request) (ends : List ReaderEnd) (served : Served) (sectors sector_size : ℕ) (image : List ℕ) (erase_failed : Bool)
-    → (fresh : IsFresh count len before faults had_failed start) (run : IsRun start script statements accepted answers waiting ends served sectors sector_size image erase_failed)
+    (answers : List Answer) (waiting : List Request) (ends : List ReaderEnd) (served : Served) (sectors sector_size : ℕ) (image : List ℕ) (faults_now : ℕ) (erase_failed : Bool)
+    → (fresh : IsFresh count len before faults had_failed start) (run : IsRun start script statements accepted answers waiting ends served sectors sector_size image faults_now erase_failed)
     → FitsEnd served script accepted run.replies

@@ -1,6 +1,6 @@
 //! Joining the writers and the readers.
 
-ghost use Rattle.std.specs.Prelude.{◌≡◌, ◌≤◌, ◌⊎◌, [], List, length, map, true, false, None, vec_len, vec_capacity};
+ghost use Rattle.std.specs.Prelude.{◌≡◌, ◌≤◌, ◌⊎◌, [], List, map, true, false, None, vec_len, vec_capacity};
 ghost use Rattle.jffs_text.specs.declared.script.Writer.{Writer};
 ghost use Rattle.jffs_text.specs.declared.script.ReaderStatement.{ReaderStatement};
 ghost use Rattle.jffs_index.specs.Ends.{index_of, known, published, publisher_index, told_of, told_index};

@@ -1,6 +1,7 @@
 //! Laws over the definitions. The functions do nothing: their contracts are the laws.
 
-ghost use Rattle.jffs_run.specs.Scanned.{RunsLeaveContents, FailedRunsLeaveHistory};
+ghost use Rattle.jffs_run.specs.Heavy.{RunsHaveRoom};
+ghost use Rattle.jffs_run.specs.Scanned.{RunsLeaveContents, FailedRunsLeaveHistory, RunsWithoutFaults};
 ghost use Rattle.jffs_run.specs.Unmounted.{RunsEndUnmounted};
 
 /// What the contract of `run_threads` says of the core, said of the device: the answers are lawful for their requests,
@@ -15,4 +16,17 @@ pub fn runs_leave_contents()
 /// cases all commands of every writer were accepted.
 pub fn runs_end_unmounted()
     ensures { RunsEndUnmounted }
+{}
+
+/// Where the device's count of faults is at the end of `run_threads` what it was at its beginning, nothing was answered
+/// Device or Failed, and a scan finds what the fresh nodes appended since the mount made.
+pub fn runs_without_faults()
+    ensures { RunsWithoutFaults }
+{}
+
+/// From a mount on that found two sectors erased, up to the first answer Closed, Memory, VersionsSpent or Device: what
+/// `run_threads` answers NoSpace is no Unmount, and a fresh node only where the live records weigh
+/// (S - 4)(3Z/4 - 64) bytes when its request is taken.
+pub fn runs_have_room()
+    ensures { RunsHaveRoom }
 {}

@@ -21,13 +21,12 @@ mod reading;
 mod run;
 mod starting;
 mod threads;
-mod wish;
 mod writer;
 
 pub use fault::{RunFault, RunWhy};
 pub use jffs_serve::Served;
 pub use jffs_text::{DumpFault, Script, ScriptFault, ScriptWhy, dump};
-pub use laws::{runs_end_unmounted, runs_leave_contents};
+pub use laws::{runs_end_unmounted, runs_have_room, runs_leave_contents, runs_without_faults};
 pub use outcome::{AcceptedBy, Run};
 pub use program::run_program;
 pub use reader::ReaderEnd;

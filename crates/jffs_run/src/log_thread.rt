@@ -1,8 +1,7 @@
 //! The log thread: it serves until an Unmount is answered.
 
 ghost use Rattle.std.specs.Prelude.{◌≡◌, IfSome};
-ghost use Rattle.jffs_index.specs.Ends.{pending};
-ghost use Rattle.jffs_serve.specs.Kept.{IsReady};
+ghost use Rattle.jffs_serve.specs.Showing.{CanServe};
 ghost use Rattle.jffs_run.specs.Serving.{HasServed};
 
 use crate::promise::{LogEnd, LogHandle, LogSide, Serves};
@@ -24,7 +23,7 @@ fn run_log<R: Wait, F: Flash, T: Taker, W: Wait + Drop>(
     side: LogSide<F, T, W>,
     ended: &AtomicBool,
 ) -> LogEnd<F, T, W>
-    requires ready { IsReady side.session.kept (pending side.publisher) }
+    requires ready { CanServe side.session side.publisher }
     ensures ends { T.ends result.side.taker ≡ T.ends side.taker }
     ensures served { HasServed side.session side.publisher (T.taken side.taker) result.side.session result.side.publisher (T.taken result.side.taker) result.served }
 {
@@ -67,7 +66,7 @@ pub(crate) fn start_log<
     side: LogSide<F, T, W>,
     ended: &'s AtomicBool,
 ) -> Option<LogHandle<F, T, W>>
-    requires ready { IsReady side.session.kept (pending side.publisher) }
+    requires ready { CanServe side.session side.publisher }
     ensures promise { IfSome result (λ handle. handle.promise.side.value ≡ side) }
 {
     let promise = Serves {
@@ -76,7 +75,7 @@ pub(crate) fn start_log<
     let started = scope.spawn_with(
         promise,
         move || -> LogEnd<F, T, W>
-            requires { IsReady side.session.kept (pending side.publisher) }
+            requires { CanServe side.session side.publisher }
             ensures { (T.ends result.side.taker ≡ T.ends side.taker) × HasServed side.session side.publisher (T.taken side.taker) result.side.session result.side.publisher (T.taken result.side.taker) result.served }
         { run_log(rt, side, ended) },
     );

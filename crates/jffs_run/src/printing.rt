@@ -3,20 +3,19 @@
 use crate::reader::ReaderEnd;
 use jffs_core::Answer;
 use jffs_serve::Served;
-use jffs_text::write_hex;
-use jffs_tree::{Cause, Outcome};
+use jffs_text::{WRITERS_MAX, cause_name, write_hex};
+use jffs_tree::Outcome;
 use std::io;
 use std::io::Write;
 
-/// The highest number of a writer. The cleaner and the control, which have higher ones, have
-/// no lines.
-const LAST_WRITER: u16 = 8;
-
 /// `W.N appended` or `W.N refused CAUSE` for each answered request of a writer, by writer and
-/// then by number.
+/// then by number. The cleaner and the control, which have higher numbers, have no lines.
 pub(crate) fn print_answers<W: Write>(answers: &[Answer], out: &mut W) -> io::Result<()> {
-    for writer in 1..=LAST_WRITER {
-        for answer in answers.iter().filter(|answer| answer.writer == writer) {
+    for writer in 1..=WRITERS_MAX {
+        for answer in answers
+            .iter()
+            .filter(|answer| usize::from(answer.writer) == writer)
+        {
             print_answer(answer, out)?;
         }
     }
@@ -53,26 +52,5 @@ fn print_answer<W: Write>(answer: &Answer, out: &mut W) -> io::Result<()> {
     match answer.outcome {
         Outcome::Refused(cause) => writeln!(out, "{writer}.{seq} refused {}", cause_name(cause)),
         _ => writeln!(out, "{writer}.{seq} appended"),
-    }
-}
-
-fn cause_name(cause: Cause) -> &'static str {
-    match cause {
-        Cause::RootFixed => "RootFixed",
-        Cause::NoParent => "NoParent",
-        Cause::NameTaken => "NameTaken",
-        Cause::NotFound => "NotFound",
-        Cause::IsDirectory => "IsDirectory",
-        Cause::DataLong => "DataLong",
-        Cause::FileLong => "FileLong",
-        Cause::NotEmpty => "NotEmpty",
-        Cause::NotNeeded => "NotNeeded",
-        Cause::Stale => "Stale",
-        Cause::InodesSpent => "InodesSpent",
-        Cause::VersionsSpent => "VersionsSpent",
-        Cause::Memory => "Memory",
-        Cause::NoSpace => "NoSpace",
-        Cause::Device => "Device",
-        Cause::Failed => "Failed",
     }
 }

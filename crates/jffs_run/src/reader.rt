@@ -4,7 +4,7 @@ ghost use Rattle.std.specs.Prelude.{◌≡◌, Some, IfOk, IfSome};
 ghost use Rattle.jffs_tree.specs.Look.{kind_in, bytes_in};
 ghost use Rattle.jffs_index.specs.Ends.{index_of, known};
 ghost use Rattle.jffs_index.specs.Histories.{view_of};
-ghost use Rattle.jffs_run.specs.Looking.{ShowsAnswer, FitsView, FitsPath};
+ghost use Rattle.jffs_run.specs.Looking.{FitsView, FitsPath};
 
 use crossbeam_utils::Backoff;
 use jffs_index::{Reader, View};

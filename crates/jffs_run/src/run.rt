@@ -2,8 +2,8 @@
 
 ghost use Rattle.std.specs.Prelude.{◌≡◌, ◌⊎◌, ◌∷◌, [], IfOk, IfErr, None, false, length};
 ghost use Rattle.jffs_index.specs.declared.rule.History.{History};
-ghost use Rattle.jffs_index.specs.Ends.{published, pending, publisher_index};
-ghost use Rattle.jffs_serve.specs.Kept.{IsReady};
+ghost use Rattle.jffs_index.specs.Ends.{published, publisher_index};
+ghost use Rattle.jffs_serve.specs.Showing.{CanServe};
 ghost use Rattle.jffs_tree.specs.declared.wish.Wish.TheVariants.{Unmount};
 ghost use Rattle.jffs_line.specs.Requests.{request};
 ghost use Rattle.jffs_run.specs.Crew.{IsFit, HasHandedIn};
@@ -77,7 +77,7 @@ fn run_in<
     ended: &'s AtomicBool,
 ) -> Result<Finished<H, F, T, W>, RunFault<F>>
     requires crew { IsFit H.Hand script.now crew (publisher_index side.publisher) }
-    requires ready { IsReady side.session.kept (pending side.publisher) }
+    requires ready { CanServe side.session side.publisher }
     ensures fault { IfErr result (λ fault. fault.flash ≡ None → fault.why ≡ RunWhy.Spawn) }
     ensures hands { IfOk result (λ finished. HasHandedIn H.Hand script.entry.now.writers.items crew finished.hands) }
     ensures readers { IfOk result (λ finished. (history : History) → IsWhole (published finished.log.side.publisher) (length finished.log.side.session.core.answers) history → EachFrom (HasSeen history script.entry.now.readers.items) 0 finished.readers.items) }
@@ -185,7 +185,7 @@ pub(crate) fn run_all<
     gate: &G,
 ) -> Result<Finished<H, F, T, W>, RunFault<F>>
     requires crew { IsFit H.Hand script.now crew (publisher_index side.publisher) }
-    requires ready { IsReady side.session.kept (pending side.publisher) }
+    requires ready { CanServe side.session side.publisher }
     ensures fault { IfErr result (λ fault. fault.flash ≡ None → fault.why ≡ RunWhy.Spawn) }
     ensures hands { IfOk result (λ finished. HasHandedIn H.Hand script.now.writers.items crew finished.hands) }
     ensures readers { IfOk result (λ finished. (history : History) → IsWhole (published finished.log.side.publisher) (length finished.log.side.session.core.answers) history → EachFrom (HasSeen history script.now.readers.items) 0 finished.readers.items) }
@@ -198,7 +198,7 @@ pub(crate) fn run_all<
         thread::scope_env(),
         rt,
         |scope| -> Result<Finished<H, F, T, W>, RunFault<F>>
-            requires { IsFit H.Hand script.now crew (publisher_index side.publisher) × IsReady side.session.kept (pending side.publisher) }
+            requires { IsFit H.Hand script.now crew (publisher_index side.publisher) × CanServe side.session side.publisher }
         { run_in(rt, scope, alloc, script, crew, side, gate, ended) },
     )
 }

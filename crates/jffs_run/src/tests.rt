@@ -154,27 +154,44 @@ fn bad_scripts(rt: HostRuntime) -> Result<(), Fail> {
     Ok(())
 }
 
+/// A file that grows by 192 bytes ten times.
+const FILLS: &str = "volume 6 1024
+writer
+create /f
+fill /f 0 192 61
+fill /f 192 192 61
+fill /f 384 192 61
+fill /f 576 192 61
+fill /f 768 192 61
+fill /f 960 192 61
+fill /f 1152 192 61
+fill /f 1344 192 61
+fill /f 1536 192 61
+fill /f 1728 192 61
+";
+
 /// Without cleaning there is room for the create and nine writes, and none for the tenth.
+const FILLED: &str = "1.1 appended
+1.2 appended
+1.3 appended
+1.4 appended
+1.5 appended
+1.6 appended
+1.7 appended
+1.8 appended
+1.9 appended
+1.10 appended
+1.11 refused NoSpace
+closed
+scan clean
+d /
+f /f 1728 ";
+
 #[test]
 fn fills_without_cleaning(rt: HostRuntime) -> Result<(), Fail> {
-    let alloc = rt.alloc();
-    let mut script = Vec::new(alloc);
-    script.write_all(b"volume 6 1024\nwriter\ncreate /f\n")?;
-    for k in 0..10u32 {
-        writeln!(script, "fill /f {} 192 61", k * 192)?;
-    }
-    let mut wanted = Vec::new(alloc);
-    for seq in 1..11u32 {
-        writeln!(wanted, "1.{seq} appended")?;
-    }
-    wanted.write_all(b"1.11 refused NoSpace\nclosed\nscan clean\nd /\nf /f 1728 ")?;
-    for _ in 0..1728u32 {
-        wanted.write_all(b"61")?;
-    }
-    wanted.write_all(b"\n")?;
-    let out = printed(&rt, script.as_slice(), 0)?;
-    assert_eq!(rt; out.as_slice(), wanted.as_slice());
-    Ok(())
+    let bytes = "61".repeat(rt.alloc(), 1728)?;
+    let wanted = format!(in rt.alloc(); "{FILLED}{bytes}\n")?;
+    prints(&rt, FILLS, wanted.as_str())
 }
 
 /// A reader that fails at once.

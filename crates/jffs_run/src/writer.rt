@@ -4,7 +4,6 @@ ghost use Rattle.std.specs.Prelude.{◌≡◌, ◌≢◌, ◌+◌, ◌∷◌, �
 ghost use Rattle.jffs_line.specs.Requests.{request};
 ghost use Rattle.jffs_run.specs.Numbered.{Wrote};
 
-use crate::wish::wish_of;
 use crossbeam_utils::Backoff;
 use jffs_line::{Hand, NotTaken, Why};
 use jffs_text::Command;
@@ -105,7 +104,7 @@ pub(crate) fn run_writer<R: Wait, H: Hand, G: Gate>(
     let mut hand = hand;
     let mut seq = 0u32;
     for command in commands {
-        let Ok(wish) = wish_of(alloc, command) else {
+        let Ok(wish) = command.wish(alloc) else {
             return WriterEnd {
                 hand,
                 stop: Stop::Memory,

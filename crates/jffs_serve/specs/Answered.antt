@@ -1,5 +1,5 @@
 -- What a session has answered since some moment, and what it has sent of it.
-use Rattle.std.specs.Prelude.{◌≡◌, ◌⊎◌, ℕ, Bool, true, false, List, ◌++◌, map, Contains, Option, Some, None}
+use Rattle.std.specs.Prelude.{◌≡◌, ◌⊎◌, ◌<◌, ◌≤◌, ◌+◌, ◌*◌, ℕ, Bool, true, false, List, ◌++◌, length, map, Contains, Option, Some, None}
 use Rattle.std.specs.List.{list_any}
 use Rattle.jffs_node.specs.declared.node.Node.{Node}
 use Rattle.jffs_tree.specs.declared.wish.Outcome.TheVariants.{Refused}
@@ -12,13 +12,16 @@ use Rattle.jffs_core.specs.Standing.{Standing, IsSameButPlaces}
 use Rattle.jffs_core.specs.History.{IsOwnCopy}
 use Rattle.jffs_core.specs.Step.{Volume, Turn, IsNodeFor}
 use Rattle.jffs_core.specs.Past.{Knows, StandsFor, HasFailed}
-use Rattle.jffs_core.specs.Run.{IsLawful, OnlyCopies, is_failure}
+use Rattle.jffs_core.specs.Run.{IsLawful, IsInOrder, OnlyCopies, is_failure}
+use Rattle.jffs_core.specs.Acting.{FailsIn, KeepsTwo}
+use Rattle.jffs_core.specs.Erases.{ErasesAtMost}
 use Rattle.jffs_core.specs.declared.answer.Answer.{Answer}
 use Rattle.jffs_serve.specs.declared.session.Kept.{Kept}
 use Rattle.jffs_serve.specs.declared.session.Served.{Served}
 use Rattle.jffs_serve.specs.declared.session.Session.{Session}
 use Rattle.jffs_serve.specs.Kept.{unput, ending_of}
 use Rattle.jffs_serve.specs.Replies.{Reply, answer_in, AllReply, any_closed, FitsServed}
+use Rattle.jffs_serve.specs.Turns.{AreReplied, has_two, all_keep_two}
 
 -- What stood at that moment: the requests taken of each sender, the core, and the steps put.
 pub record Start : Type 0 where
@@ -44,13 +47,22 @@ pub record IsRequested (volume : Volume) (replies : List Reply) (after : List No
   pub copies : OnlyCopies turn.past after
   pub node : IsNodeFor turn reply.request after n
 
--- From this history to another: the answers are lawful for their requests, and the core stands for the history after them. Where one tells of a failure, the core has failed. A core that fails meanwhile has nothing else in hand than an own copy, or the node of the request that was answered Device.
+-- From this history to another: each request was replied to in its turn, none after Closed, and the core stands for the history after them. Two erased sectors stay so, but for an answer that may not keep them. Where an answer tells of a failure, the core has failed. The device's count of faults is the same while the core works, and has risen where it failed meanwhile. A core that fails meanwhile has nothing else in hand than an own copy, or the node of the request that was answered Device.
 pub record RunsTo (start core : Standing) (mounted past : List Node) (replies : List Reply) : Type 0 where
   pub after : List Node
   pub stands : StandsFor mounted after core
-  pub lawful : IsLawful (volume_of start) past (map (λ (r : Reply). r.request) replies) (map answer_in replies) after
+  pub each : AreReplied (volume_of start) (has_two start) past replies after
+  pub in_order : IsInOrder (map answer_in replies)
+  pub two : all_keep_two replies ≡ true → core.failed ≡ false → KeepsTwo start core
+  pub works : core.failed ≡ false → core.faults ≡ start.faults
+  pub faults : start.failed ≡ false → core.failed ≡ true → start.faults < core.faults
   pub failed : any_failure (map answer_in replies) ≡ true → core.failed ≡ true
   pub in_hand : start.failed ≡ false → core.failed ≡ true → HasFailed (λ n. IsOwnCopy after n ⊎ IsRequested (volume_of start) replies after n) after core
+
+-- No more sectors were erased since the start than held the log then, and for each answer as many as there are. While the core works, those that hold the log now are counted in.
+pub record ErasesSince (start : Standing) (answers : ℕ) (core : Standing) : Type 0 where
+  pub erases : core.book.erases ≤ start.book.erases + start.book.held + answers * start.book.sectors
+  pub held : core.failed ≡ false → core.book.erases + core.book.held ≤ start.book.erases + start.book.held + answers * start.book.sectors
 
 -- These replies were made since: all that was taken, each of them once; and each is put, or kept, in order. They are lawful from whatever history the core stood for.
 pub record HasReplied (start : Start) (core : Standing) (kept : Option Kept) (put : List Step) (taken : ℕ → List Request) (replies : List Reply) : Type 0 where
@@ -61,13 +73,27 @@ pub record HasReplied (start : Start) (core : Standing) (kept : Option Kept) (pu
   pub closed : core.closed ≡ any_closed core.answers
   pub ending : (served : Served) → ending_of kept ≡ Some served → FitsServed served core.closed replies
   pub sizes : HasSizes start.standing.book.sectors start.standing.book.sector_size core.book
+  pub erases : ErasesSince start.standing (length replies) core
   pub lawful : (mounted past : List Node) → StandsFor mounted past start.standing → RunsTo start.standing core mounted past replies
 
--- The core stands for the history that it stood for, on a device of the same sizes. Where it had failed, nothing is changed; where it fails now, nothing else than an own copy was in hand.
+-- The answers that a session has given are a lawful run of the requests.
+abbrev pub RepliesAreLawful : Type 0
+RepliesAreLawful = (start core : Standing) (mounted past : List Node) (replies : List Reply) → AllReply replies → (run : RunsTo start core mounted past replies)
+    → IsLawful (volume_of start) past (map (λ (r : Reply). r.request) replies) (map answer_in replies) run.after
+
+-- Where the device's count of faults didn't rise, no answer is Device or Failed.
+abbrev pub FailuresAreFaults : Type 0
+FailuresAreFaults = (start core : Standing) (mounted past : List Node) (replies : List Reply) → RunsTo start core mounted past replies
+    → start.failed ≡ false → core.faults ≡ start.faults → any_failure (map answer_in replies) ≡ false
+
+-- The core stands for the history that it stood for, on a device of the same sizes, and what it erased held the log. Where it had failed, nothing is changed; where it works on, no call of the device failed, and two erased sectors stay so; where it fails now, one did, and nothing else than an own copy was in hand.
 pub record KeepsHistory (old new : Standing) : Type 0 where
   pub sizes : HasSizes old.book.sectors old.book.sector_size new.book
+  pub erases : ErasesAtMost 0 old new
   pub failed : old.failed ≡ true → IsSameButPlaces old new
-  pub fails : old.failed ≡ false → new.failed ≡ true → (past : List Node) → Knows past old → HasFailed (IsOwnCopy past) past new
+  pub faults : new.failed ≡ false → (past : List Node) → Knows past old → new.faults ≡ old.faults
+  pub two : new.failed ≡ false → (past : List Node) → Knows past old → KeepsTwo old new
+  pub fails : old.failed ≡ false → new.failed ≡ true → (past : List Node) → Knows past old → FailsIn (IsOwnCopy past) past old new
   pub stands : (mounted past : List Node) → StandsFor mounted past old → StandsFor mounted past new
 
 -- where serving ends, it ends as the replies say

@@ -1,6 +1,8 @@
 pub mod Kept
 pub mod Replies
+pub mod Turns
 pub mod Answered
+pub mod Showing
 pub mod Copies
 pub mod Jobs
 pub mod Copying

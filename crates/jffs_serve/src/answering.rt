@@ -19,9 +19,12 @@ impl<F: Flash> Session<F> {
     ghost use Rattle.jffs_line.specs.Requests.{of};
     ghost use Rattle.rtrb.specs.Ring.{sent};
     ghost use Rattle.jffs_core.specs.Jobs.{wants_cleaning};
+    ghost use Rattle.jffs_core.specs.Trees.{KeepsTree};
+    ghost use Rattle.jffs_index.specs.Shown.{Shown};
     ghost use Rattle.jffs_serve.specs.Jobs.{IsDue, SendsOldest};
     ghost use Rattle.jffs_serve.specs.Kept.{unput, IsReady};
     ghost use Rattle.jffs_serve.specs.Answered.{RepliesMore, HasSameReplies};
+    ghost use Rattle.jffs_serve.specs.Showing.{ShowsCore, IsShown};
 
     /// Answers a request, and keeps the answer's step.
     pub(crate) fn answer(&mut self, request: Request)
@@ -30,6 +33,7 @@ impl<F: Flash> Session<F> {
         requires sent { self.old.kept ≡ None }
         ensures replies { (put : List Step) (before now : ℕ → List Request) → ((w : ℕ) → now w ≡ before w ++ of w (request ∷ [])) → RepliesMore self.old put before self.new put now None }
         ensures ready { IsReady self.new.kept [] }
+        ensures shown { (shown : Shown) → ShowsCore shown.tree self.old.core → IsShown self.new.kept shown self.new.core }
     {
         let unmounts = is_unmount(&request.wish);
         let writer = request.writer;
@@ -48,6 +52,7 @@ impl<F: Flash> Session<F> {
     pub(crate) fn take_ending(&mut self) -> Option<Served>
         requires put { unput self.old.kept ≡ [] }
         ensures kept { self.new.kept ≡ None }
+        ensures core { self.new.core ≡ self.old.core }
         ensures replies { (put : List Step) (taken : ℕ → List Request) → RepliesMore self.old put taken self.new put taken result }
     {
         match self.kept.take() {
@@ -59,7 +64,8 @@ impl<F: Flash> Session<F> {
 
     /// Erases dead sectors, unless the device failed or the session is closed, and perhaps sends a job.
     pub(crate) fn tidy(&mut self, jobs: &mut Jobs)
-        ensures { HasSameReplies self.old self.new }
+        ensures replies { HasSameReplies self.old self.new }
+        ensures tree { KeepsTree self.old.core self.new.core }
     {
         self.erase_dead();
         self.send_job(jobs);
@@ -67,7 +73,8 @@ impl<F: Flash> Session<F> {
 
     /// Erases dead sectors, unless the device failed or the session is closed.
     fn erase_dead(&mut self)
-        ensures { HasSameReplies self.old self.new }
+        ensures replies { HasSameReplies self.old self.new }
+        ensures tree { KeepsTree self.old.core self.new.core }
     {
         if self.core.failed() || self.core.closed() {
             return;
@@ -80,6 +87,7 @@ impl<F: Flash> Session<F> {
     /// memory, the ring or the read refuses, the job is left out; a failed read makes the core failed.
     fn send_job(&mut self, jobs: &mut Jobs)
         ensures replies { HasSameReplies self.old self.new }
+        ensures tree { KeepsTree self.old.core self.new.core }
         ensures job { ((sent jobs.new.producer ≡ sent jobs.old.producer) × (self.new.sent_at ≡ self.old.sent_at))
             ⊎ (IsDue self.old.core self.old.sent_at × (self.new.sent_at ≡ Some self.old.core.book.erases) × SendsOldest self.old.core (sent jobs.old.producer) (sent jobs.new.producer)) }
     {

@@ -4,13 +4,15 @@
 //! It stands on `jffs_core` for answers, on `jffs_line` for requests, and on `jffs_index` for what
 //! readers see. `serve` carries the promise: each request that is taken is answered once, in the
 //! order in which it was taken, and each answer is published, also where memory is refused on the way.
-//! The answers are a lawful run of the requests, and the core stands for the history after them.
+//! The answers are a lawful run of the requests, with no node between them, and the core stands for
+//! the history after them.
 #![tactic(auto)]
 
 mod answering;
 mod cleaner;
 mod copies;
 mod jobs;
+mod laws;
 mod serving;
 mod session;
 #[cfg(test)]
@@ -18,5 +20,6 @@ mod tests;
 
 pub use cleaner::{CleanerEnd, clean_loop};
 pub use jobs::{JOBS_MAX, JobEnd, Jobs, job_ring};
+pub use laws::{failures_are_faults, full_volumes_are_heavy, replies_are_lawful};
 pub use serving::serve;
 pub use session::{Served, Session};

@@ -1,17 +1,19 @@
 //! The log thread's rounds: a request is taken and answered, its step is put and published, dead
 //! sectors are erased, and perhaps the cleaner gets a job.
 
-ghost use Rattle.std.specs.Prelude.{◌≡◌, ◌≢◌, ℕ, List, [], ◌∷◌, ◌++◌, Some, None, MatchResult, OnOk, OnErr};
+ghost use Rattle.std.specs.Prelude.{◌≡◌, ◌≢◌, ℕ, List, [], Some, None, MatchResult, OnOk, OnErr};
 ghost use Rattle.jffs_index.specs.Ends.{pending, all_put, publisher_index};
 ghost use Rattle.jffs_index.specs.declared.step.Step.{Step};
 ghost use Rattle.jffs_line.specs.declared.request.Request.{Request};
+ghost use Rattle.jffs_index.specs.Shown.{Shown};
 ghost use Rattle.jffs_serve.specs.Kept.{unput, IsReady};
 ghost use Rattle.jffs_serve.specs.Answered.{RepliesMore};
+ghost use Rattle.jffs_serve.specs.Showing.{IsShown, CanServe};
 
 use crate::jobs::Jobs;
 use crate::session::{Kept, Served, Session};
 use jffs_flash::Flash;
-use jffs_index::{Publisher, Step};
+use jffs_index::Publisher;
 use jffs_line::Taker;
 use jffs_node::NoMemory;
 use std::sync::Wait;
@@ -21,6 +23,9 @@ use std::sync::Wait;
 ///
 /// The answers are lawful for the requests, from whatever history the core stood for to the one that
 /// it stands for then, over any number of calls.
+///
+/// What is published has the state of the core's tree, as an index has that was opened over a copy of it:
+/// the caller's condition. So each node that the core appends may be applied there.
 pub fn serve<R: Wait, W: Wait + Drop, F: Flash, T: Taker>(
     rt: &R,
     session: &mut Session<F>,
@@ -28,8 +33,8 @@ pub fn serve<R: Wait, W: Wait + Drop, F: Flash, T: Taker>(
     publisher: &mut Publisher<W>,
     jobs: &mut Jobs,
 ) -> Served
-    requires ready { IsReady session.old.kept (pending publisher.old) }
-    ensures ready { IsReady session.new.kept (pending publisher.new) }
+    requires ready { CanServe session.old publisher.old }
+    ensures ready { CanServe session.new publisher.new }
     ensures replies { RepliesMore session.old (all_put publisher.old).steps (T.taken taker.old) session.new (all_put publisher.new).steps (T.taken taker.new) (Some result) }
     ensures published { result ≢ Served.Memory → (session.new.kept ≡ None) × (pending publisher.new ≡ []) }
     ensures ends { T.ends taker.new ≡ T.ends taker.old }
@@ -62,6 +67,7 @@ fn answer_next<R: Wait, F: Flash, T: Taker>(
         (λ _. RepliesMore session.old put (T.taken taker.old) session.new put (T.taken taker.new) None)
         (λ served. RepliesMore session.old put (T.taken taker.old) session.new put (T.taken taker.new) (Some served)) }
     ensures ready { (pending : List Step) → IsReady session.old.kept pending → IsReady session.new.kept pending }
+    ensures shown { (shown : Shown) → IsShown session.old.kept shown session.old.core → IsShown session.new.kept shown session.new.core }
     ensures kept { OnErr result ((session.old.kept ≡ None) × (session.new.kept ≡ None)) }
     ensures ends { T.ends taker.new ≡ T.ends taker.old }
 {
@@ -89,8 +95,8 @@ fn send_kept<F: Flash, W: Wait + Drop>(
     session: &mut Session<F>,
     publisher: &mut Publisher<W>,
 ) -> Result<Option<Served>, NoMemory>
-    requires ready { IsReady session.old.kept (pending publisher.old) }
-    ensures ready { IsReady session.new.kept (pending publisher.new) }
+    requires ready { CanServe session.old publisher.old }
+    ensures ready { CanServe session.new publisher.new }
     ensures replies { (taken : ℕ → List Request) → MatchResult result
         (λ ending. RepliesMore session.old (all_put publisher.old).steps taken session.new (all_put publisher.new).steps taken ending)
         (λ _. RepliesMore session.old (all_put publisher.old).steps taken session.new (all_put publisher.new).steps taken None) }
@@ -110,15 +116,15 @@ fn put_kept<F: Flash, W: Wait + Drop>(
     session: &mut Session<F>,
     publisher: &mut Publisher<W>,
 ) -> Result<(), NoMemory>
-    requires ready { IsReady session.old.kept (pending publisher.old) }
-    ensures ready { IsReady session.new.kept (pending publisher.new) }
+    requires ready { CanServe session.old publisher.old }
+    ensures ready { CanServe session.new publisher.new }
     ensures replies { (taken : ℕ → List Request) → RepliesMore session.old (all_put publisher.old).steps taken session.new (all_put publisher.new).steps taken None }
     ensures put { OnOk result (unput session.new.kept ≡ []) }
     ensures index { publisher_index publisher.new ≡ publisher_index publisher.old }
     ensures opening { (all_put publisher.new).opening ≡ (all_put publisher.old).opening }
 {
     match session.kept.take() {
-        Some(Kept::Unput(step, ending)) => match put(publisher, step) {
+        Some(Kept::Unput(step, ending)) => match publisher.put(step) {
             Ok(()) => {
                 session.kept = Some(Kept::Unpublished(ending));
                 Ok(())
@@ -133,19 +139,4 @@ fn put_kept<F: Flash, W: Wait + Drop>(
             Ok(())
         }
     }
-}
-
-/// Puts a step behind those that are published, or gives it back.
-fn put<W: Wait + Drop>(publisher: &mut Publisher<W>, step: Step) -> Result<(), Step>
-    requires { pending publisher.old ≡ [] }
-    ensures put { MatchResult result
-        (λ _. (all_put publisher.new).steps ≡ (all_put publisher.old).steps ++ step ∷ [])
-        (λ back. (back ≡ step) × ((all_put publisher.new).steps ≡ (all_put publisher.old).steps) × (pending publisher.new ≡ [])) }
-    ensures index { publisher_index publisher.new ≡ publisher_index publisher.old }
-    ensures opening { (all_put publisher.new).opening ≡ (all_put publisher.old).opening }
-{
-    if !publisher.view().fits(&step) {
-        return Err(step);
-    }
-    publisher.put(step)
 }

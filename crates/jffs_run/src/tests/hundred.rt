@@ -43,16 +43,21 @@ fn script_text(alloc: Global, line: &str) -> Result<Vec<u8>, Fail> {
         writeln!(text, "reader {} 3 /a0", reader % WRITERS + 1)?;
     }
     for writer in 1..=WRITERS {
-        writeln!(text, "writer\ncreate /a0\ncreate /a{writer}")?;
-        for seq in 3..=COMMANDS {
-            if seq % 2 == 1 {
-                writeln!(text, "fill /a0 {writer} 3 {seq}{writer}")?;
-            } else {
-                writeln!(text, "fill /a{writer} {seq} 2 {seq}{writer}")?;
-            }
-        }
+        put_writer(&mut text, writer)?;
     }
     Ok(text)
+}
+
+fn put_writer(text: &mut Vec<u8>, writer: u32) -> Result<(), Fail> {
+    writeln!(text, "writer\ncreate /a0\ncreate /a{writer}")?;
+    for seq in 3..=COMMANDS {
+        if seq % 2 == 1 {
+            writeln!(text, "fill /a0 {writer} 3 {seq}{writer}")?;
+        } else {
+            writeln!(text, "fill /a{writer} {seq} 2 {seq}{writer}")?;
+        }
+    }
+    Ok(())
 }
 
 /// Writes so many equal bytes from an offset on; what lies between the end and the offset is 0.
@@ -167,18 +172,13 @@ fn check_counts(counts: &[u32]) -> Result<(), Fail> {
     Ok(())
 }
 
-/// The version after this outcome, which has to be above the last one.
-fn version_after(last: u32, outcome: Outcome) -> Result<u32, Fail> {
-    let version = match outcome {
-        Outcome::Appended { version, .. } => version,
-        Outcome::Copied { version } => version,
-        Outcome::Closed => return Ok(last),
-        Outcome::Refused(_) => return Ok(last),
-    };
-    if version <= last {
-        return Err("a version that was there already".into());
+/// The version of the node that was appended, if any was.
+fn version_of(outcome: Outcome) -> Option<u32> {
+    match outcome {
+        Outcome::Appended { inode: _, version } => Some(version),
+        Outcome::Copied { version } => Some(version),
+        Outcome::Closed | Outcome::Refused(_) => None,
     }
-    Ok(version)
 }
 
 /// Versions rise, and Closed is the last answer.
@@ -189,7 +189,12 @@ fn check_order(answers: &[Answer]) -> Result<(), Fail> {
         if is_closed {
             return Err("an answer after Closed".into());
         }
-        version = version_after(version, answer.outcome)?;
+        if let Some(next) = version_of(answer.outcome) {
+            if next <= version {
+                return Err("a version that was there already".into());
+            }
+            version = next;
+        }
         is_closed = answer.outcome == Outcome::Closed;
     }
     if !is_closed {

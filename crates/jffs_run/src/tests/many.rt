@@ -52,43 +52,34 @@ fn readers_end_each_in_its_way(rt: HostRuntime) -> Result<(), Fail> {
     )
 }
 
-/// `times` lines that begin with `before`, then a number from `from` on.
-fn put_numbered(
-    out: &mut Vec<u8>,
-    before: &str,
-    from: u32,
-    times: u32,
-    after: &str,
-) -> Result<(), Fail> {
-    for number in (0..times).map(|k| from.saturating_add(k)) {
-        writeln!(out, "{before}{number}{after}")?;
-    }
-    Ok(())
+/// A script that overwrites one file so often that the log goes round, beside a cleaner.
+fn forty_fills(alloc: Global, line: &str) -> Result<String, Fail> {
+    let fills = "fill /f 0 192 61\n".repeat(alloc, 40)?;
+    Ok(format!(in alloc;
+        "volume 6 1024\nline {line}\ncleaner 1000\nwriter\ncreate /k\nwrite /k 0 6b\ncreate /f\n{fills}"
+    )?)
 }
 
-/// A script that overwrites one file so often that the log goes round, beside a cleaner.
-fn forty_fills(alloc: Global, line: &str) -> Result<Vec<u8>, Fail> {
-    let mut script = Vec::new(alloc);
-    writeln!(script, "volume 6 1024\nline {line}\ncleaner 1000\nwriter")?;
-    script.write_all(b"create /k\nwrite /k 0 6b\ncreate /f\n")?;
-    for _ in 0..40u32 {
-        script.write_all(b"fill /f 0 192 61\n")?;
+/// What is printed for it.
+fn forty_filled(alloc: Global) -> Result<Vec<u8>, Fail> {
+    let mut wanted = Vec::new(alloc);
+    for seq in 1..=43u32 {
+        writeln!(wanted, "1.{seq} appended")?;
     }
-    Ok(script)
+    let bytes = "61".repeat(alloc, 192)?;
+    writeln!(
+        wanted,
+        "closed\nscan clean\nd /\nf /f 192 {bytes}\nf /k 1 6b"
+    )?;
+    Ok(wanted)
 }
 
 #[test]
 fn forty_fills_with_cleaner(rt: HostRuntime) -> Result<(), Fail> {
     let alloc = rt.alloc();
-    let mut wanted = Vec::new(alloc);
-    put_numbered(&mut wanted, "1.", 1, 43, " appended")?;
-    wanted.write_all(b"closed\nscan clean\nd /\nf /f 192 ")?;
-    for _ in 0..192u32 {
-        wanted.write_all(b"61")?;
-    }
-    wanted.write_all(b"\nf /k 1 6b\n")?;
+    let wanted = forty_filled(alloc)?;
     for line in ["shared 4", "rings 4"] {
-        let out = printed(&rt, forty_fills(alloc, line)?.as_slice(), 0)?;
+        let out = printed(&rt, forty_fills(alloc, line)?.as_bytes(), 0)?;
         assert_eq!(rt; out.as_slice(), wanted.as_slice());
     }
     Ok(())
@@ -104,9 +95,8 @@ fn eight(alloc: Global, line: &str) -> Result<Vec<u8>, Fail> {
     Ok(script)
 }
 
-#[test]
-fn eight_writers(rt: HostRuntime) -> Result<(), Fail> {
-    let alloc = rt.alloc();
+/// What is printed for them.
+fn eight_wrote(alloc: Global) -> Result<Vec<u8>, Fail> {
     let mut wanted = Vec::new(alloc);
     for n in 1..=8u32 {
         writeln!(wanted, "{n}.1 appended\n{n}.2 appended")?;
@@ -115,6 +105,13 @@ fn eight_writers(rt: HostRuntime) -> Result<(), Fail> {
     for n in 1..=8u32 {
         writeln!(wanted, "f /a{n} 1 3{n}")?;
     }
+    Ok(wanted)
+}
+
+#[test]
+fn eight_writers(rt: HostRuntime) -> Result<(), Fail> {
+    let alloc = rt.alloc();
+    let wanted = eight_wrote(alloc)?;
     for line in ["rings 1", "shared 1"] {
         let out = printed(&rt, eight(alloc, line)?.as_slice(), 0)?;
         assert_eq!(rt; out.as_slice(), wanted.as_slice());

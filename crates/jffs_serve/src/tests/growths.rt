@@ -1,8 +1,6 @@
 //! A session in which any growth may be refused.
 
-ghost use Rattle.std.specs.Prelude.{◌≡◌, []};
-ghost use Rattle.jffs_index.specs.Ends.{pending};
-ghost use Rattle.jffs_serve.specs.Kept.{IsReady};
+ghost use Rattle.jffs_serve.specs.Showing.{CanServe};
 
 use crate::jobs::{Jobs, job_ring};
 use crate::serving::serve;
@@ -40,7 +38,7 @@ fn serve_on<R: Wait, W: Wait + Drop>(
     publisher: &mut Publisher<W>,
     jobs: &mut Jobs,
 ) -> Served
-    requires { IsReady session.old.kept (pending publisher.old) }
+    requires { CanServe session.old publisher.old }
 {
     for _ in 0..100 {
         let served = serve(rt, session, taker, publisher, jobs);
@@ -127,6 +125,7 @@ fn check(rt: &impl Abort, session: &Session<MemoryFlash>, reader: &mut Reader) {
 
 // Run it with each growth refused in turn.
 #[test]
+#[tactic(auto, using(crate::proofs::Showing::can_begin))]
 fn each_growth_refused_in_turn(rt: HostRuntime) -> Result<(), Fail> {
     let alloc = rt.alloc();
     let core = erased(alloc, 8)?;

@@ -1,7 +1,8 @@
 //! One run of the log side, and one of the cleaner.
 
 ghost use Rattle.std.specs.Prelude.{◌≡◌, [], IfOk};
-ghost use Rattle.jffs_index.specs.Ends.{pending};
+ghost use Rattle.jffs_index.specs.Histories.{opening_of};
+ghost use Rattle.jffs_index.specs.Ends.{published, pending};
 
 use crate::cleaner::clean_loop;
 use crate::jobs::{JobEnd, job_ring};
@@ -23,7 +24,7 @@ pub(super) fn index<R: Wait + Drop>(
     alloc: Global,
     tree: Tree,
 ) -> Result<(Publisher<R>, Reader), Fail>
-    ensures { IfOk result (λ index. pending index.0 ≡ []) }
+    ensures { IfOk result (λ index. (published index.0 ≡ opening_of tree) × (pending index.0 ≡ [])) }
 {
     let (publisher, mut readers) = publish_index(rt, alloc, tree, 1)?;
     match readers.pop() {
@@ -52,6 +53,7 @@ fn last_two(core: &Core<MemoryFlash>) -> Result<[Outcome; 2], Fail> {
     }
 }
 
+#[tactic(auto, using(crate::proofs::Showing::can_begin))]
 /// Serves a file of 1,728 bytes; gives the last two outcomes, and the cleaner's end of the jobs.
 pub(super) fn served<R: Wait>(
     rt: &R,

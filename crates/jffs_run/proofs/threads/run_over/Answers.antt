@@ -3,11 +3,13 @@ use Rattle.jffs_line.specs.Line.{senders}
 use Rattle.jffs_core.specs.Standing.{Standing}
 use Rattle.jffs_index.specs.declared.step.Step.{Step}
 use Rattle.jffs_index.specs.declared.rule.History.{History}
+use Rattle.jffs_index.specs.Histories.{opening_of}
 use Rattle.jffs_index.specs.Ends.{published, pending, all_put}
 use Rattle.jffs_serve.specs.declared.session.Kept.{Kept}
 use Rattle.jffs_serve.specs.Replies.{any_closed}
 use Rattle.jffs_serve.specs.Answered.{Start, HasReplied}
 use Rattle.jffs_serve.proofs.Replying.{nothing_replied}
+use Rattle.jffs_serve.proofs.Showing.{can_begin}
 use Rattle.jffs_run.proofs.Runs.{whole_run, new_hands, count_writers}
 use Rattle.jffs_run.proofs.threads.run_over.Goals as goal
 
@@ -28,6 +30,11 @@ run_all-requires-clause-crew g c κs within =
       looking = c.in-Ok.ensures.looking;
     }
 
+pub run_all-requires-clause-ready : goal.run_all-requires-clause-ready
+run_all-requires-clause-ready g c κs within =
+    let opened = c.in-Ok.ensures.published in
+    can_begin c.new.result c.in-Ok.opened.publisher c.new.ensures.kept (opened.0 ∙ ap (λ (s : Standing). opening_of s.tree) (sym c.new.ensures.core)) opened.1
+
 pub returns-clause-run : goal.returns-clause-run
 returns-clause-run g c =
     let line = c.requires.line in
@@ -46,7 +53,7 @@ returns-clause-run g c =
     let count : vec_len script.writers ≡ length script.writers.items = let ok = script.writers.ok in omega arith in
     let run = whole_run g.T.Of.Hand script.writers.items script.readers.items _ finished.hands
     finished.log.side.session.core finished.log.side.session.kept (published finished.log.side.publisher) (pending finished.log.side.publisher)
-    start (g.T.Taker.taken finished.log.side.taker) more.0 c.in_ok-run.run'.waiting.items finished.readers.items finished.log.served _ _ _ _
+    start (g.T.Taker.taken finished.log.side.taker) more.0 c.in_ok-run.run'.waiting.items finished.readers.items finished.log.served _ _ _ _ _
     (let eight = line.eight in omega (arith, count)) (line.numbers ∙ ap senders count) ran.hands
     line.untaken (ap (λ (s : Standing). s.answers) c.new.ensures.core ∙ c.requires.core.0)
     (ap₂ (λ (h : History) (s : List Step). h.steps ++ s) opened.0 opened.1)

@@ -1,8 +1,10 @@
-use Rattle.std.proofs.Common.{ap, refl, Some}
+use Rattle.std.proofs.Common.{rules, ◌≡◌, ap, refl, Some, None}
 use Rattle.jffs_core.specs.Standing.{Standing}
 use Rattle.jffs_serve.specs.declared.session.Served.TheVariants as served
 use Rattle.jffs_serve.proofs.Keeping.{same_but_places}
 use Rattle.jffs_serve.proofs.Replying.{nothing_more, replied_same}
+use Rattle.jffs_serve.proofs.Showing.{places_tree, shown_on, shown_sent}
+use Rattle.jffs_serve.specs.Kept.{unput}
 use Rattle.jffs_serve.proofs.serving.answer_next.Goals as goal
 
 pub returns-then-is_err-clause-replies : goal.returns-then-is_err-clause-replies
@@ -33,3 +35,21 @@ returns-in-None-clause-replies g c put start replies was =
     let same = c.reserve_answer.ensures.same in
     nothing_more start core old.kept put now replies (Some served.Ended)
     (replied_same start old.core core old.kept put before now replies (ap (λ (s : Standing). s.answers) same) (ap (λ (s : Standing). s.closed) same) (same_but_places old.core core same) c.in-None.ensures.none was) tt
+
+pub returns-then-is_err-clause-shown : goal.returns-then-is_err-clause-shown
+returns-then-is_err-clause-shown g c shown is =
+    let old = c.args.session.now in
+    shown_on old.kept shown old.core c.reserve_answer.new.self (places_tree old.core c.reserve_answer.new.self c.reserve_answer.ensures.same) is
+
+pub returns-in-None-clause-shown : goal.returns-in-None-clause-shown
+returns-in-None-clause-shown g c shown is =
+    let old = c.args.session.now in
+    shown_on old.kept shown old.core c.reserve_answer.new.self (places_tree old.core c.reserve_answer.new.self c.reserve_answer.ensures.same) is
+
+pub returns-in-Some-clause-shown : goal.returns-in-Some-clause-shown
+returns-in-Some-clause-shown g c shown is =
+    let old = c.args.session.now in
+    let none : old.kept ≡ None = search rules in
+    let core = c.reserve_answer.new.self in
+    c.answer.ensures.shown shown
+    (shown_sent old.kept shown core (ap unput none) (shown_on old.kept shown old.core core (places_tree old.core core c.reserve_answer.ensures.same) is))

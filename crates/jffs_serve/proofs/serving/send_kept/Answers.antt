@@ -1,8 +1,13 @@
-use Rattle.std.proofs.Common.{sym, subst, None}
+use Rattle.std.proofs.Common.{rules, ◌≡◌, List, [], sym, subst, Option, None}
 use Rattle.jffs_index.specs.Ends.{all_put}
 use Rattle.jffs_index.specs.declared.rule.History.{History}
 use Rattle.jffs_serve.specs.Answered.{RepliesMore}
+use Rattle.jffs_serve.specs.Kept.{unput, IsReady}
+use Rattle.jffs_serve.specs.declared.session.Kept.{Kept}
+use Rattle.jffs_index.specs.declared.step.Step.{Step}
+use Rattle.jffs_index.specs.Ends.{pending}
 use Rattle.jffs_serve.proofs.Replying.{then_more}
+use Rattle.jffs_serve.proofs.Showing.{published_can, ending_shown}
 use Rattle.jffs_serve.proofs.serving.send_kept.Goals as goal
 
 pub returns-then-is_err-clause-replies : goal.returns-then-is_err-clause-replies
@@ -16,3 +21,25 @@ returns-clause-replies g c taken =
     let now = (all_put c.publish.new.self).steps in
     let first = subst (λ (h : History). RepliesMore c.args.session.now before taken c.put_kept.new.session h.steps taken None) (sym c.publish.ensures.all) (c.put_kept.ensures.replies taken) in
     then_more c.args.session.now c.put_kept.new.session c.take_ending.new.self before now now taken taken taken None c.take_ending.result first (c.take_ending.ensures.replies now taken)
+
+pub returns-then-is_err-clause-ready : goal.returns-then-is_err-clause-ready
+returns-then-is_err-clause-ready g c =
+    let session = c.put_kept.new.session in
+    let before = c.put_kept.new.publisher in
+    let now = c.publish.new.self in
+    let same : pending now ≡ pending before = search rules in
+    published_can session session before now
+    (subst (λ (steps : List Step). IsReady session.kept steps) (sym same) c.put_kept.ensures.ready.ready)
+    c.publish.ensures.all (λ shown is. is) c.put_kept.ensures.ready
+
+pub returns-clause-ready : goal.returns-clause-ready
+returns-clause-ready g c =
+    let session = c.put_kept.new.session in
+    let last = c.take_ending.new.self in
+    let before = c.put_kept.new.publisher in
+    let now = c.publish.new.self in
+    let none : pending now ≡ [] = search rules in
+    let put : unput session.kept ≡ [] = search rules in
+    published_can session last before now
+    (subst (λ (k : Option Kept). IsReady k (pending now)) (sym c.take_ending.ensures.kept) none)
+    c.publish.ensures.all (ending_shown session last put c.take_ending.ensures.kept c.take_ending.ensures.core) c.put_kept.ensures.ready

@@ -1,10 +1,9 @@
-use Rattle.std.proofs.Common.{rules, subst, sym, Option, Some, None}
-use Rattle.jffs_index.specs.Ends.{pending, all_put}
-use Rattle.jffs_serve.specs.declared.session.Kept.{Kept}
+use Rattle.std.proofs.Common.{rules, subst, Option, Some, None}
+use Rattle.jffs_index.specs.Ends.{all_put}
 use Rattle.jffs_serve.specs.declared.session.Served.{Served}
-use Rattle.jffs_serve.specs.Kept.{IsReady}
 use Rattle.jffs_serve.specs.Answered.{RepliesMore}
 use Rattle.jffs_serve.proofs.Replying.{then_more, then_same}
+use Rattle.jffs_serve.proofs.Showing.{answered_can, tidied_can}
 use Rattle.jffs_serve.proofs.serving.serve.Goals as goal
 
 pub returns-in-Err-clause-replies : goal.returns-in-Err-clause-replies
@@ -40,7 +39,7 @@ returns-in-Some-ending-clause-replies g c =
     None None c.loop.invariant.replies (c.in_default.ensures.replies before) in
     let sent = then_more c.args.session.now c.answer_next.new.session c.send_kept.new.session first before now
     start taken taken None c.in-Ok.ending answered (c.in-Ok.ensures.replies taken) in
-    let tidied = then_same c.args.session.now c.send_kept.new.session c.tidy.new.self first now start taken c.in-Ok.ending sent c.tidy.ensures in
+    let tidied = then_same c.args.session.now c.send_kept.new.session c.tidy.new.self first now start taken c.in-Ok.ending sent c.tidy.ensures.replies in
     subst (λ (e : Option Served). RepliesMore c.args.session.now first start c.tidy.new.self now taken e) c.in-Some-ending.is tidied
 
 pub loop-preserved : goal.loop-preserved
@@ -55,13 +54,23 @@ loop-preserved g c =
     None None c.loop.invariant.replies (c.in_default.ensures.replies before) in
     let sent = then_more c.args.session.now c.answer_next.new.session c.send_kept.new.session first before now
     start taken taken None c.in-Ok.ending answered (c.in-Ok.ensures.replies taken) in
-    let tidied = then_same c.args.session.now c.send_kept.new.session c.tidy.new.self first now start taken c.in-Ok.ending sent c.tidy.ensures in
+    let tidied = then_same c.args.session.now c.send_kept.new.session c.tidy.new.self first now start taken c.in-Ok.ending sent c.tidy.ensures.replies in
     record {
       can = search rules;
       ends = search rules;
-      ready = subst (λ (k : Option Kept). IsReady k (pending c.send_kept.new.publisher)) (sym c.tidy.ensures.2) c.send_kept.ensures.ready;
+      ready = tidied_can c.send_kept.new.session c.tidy.new.self c.send_kept.new.publisher c.tidy.ensures.replies.2 c.tidy.ensures.tree c.send_kept.ensures.ready;
       replies = subst (λ (e : Option Served). RepliesMore c.args.session.now first start c.tidy.new.self now taken e) c.in_default-ending.is tidied;
       line = search rules;
       index = search rules;
       opening = search rules;
     }
+
+pub send_kept-requires : goal.send_kept-requires
+send_kept-requires g c = record { ready = answered_can c.loop.session c.answer_next.new.session c.loop.publisher c.answer_next.ensures.ready c.answer_next.ensures.shown c.loop.invariant.ready }
+
+pub returns-in-Err-clause-ready : goal.returns-in-Err-clause-ready
+returns-in-Err-clause-ready g c = answered_can c.loop.session c.answer_next.new.session c.loop.publisher c.answer_next.ensures.ready c.answer_next.ensures.shown c.loop.invariant.ready
+
+pub returns-in-Some-ending-clause-ready : goal.returns-in-Some-ending-clause-ready
+returns-in-Some-ending-clause-ready g c =
+    tidied_can c.send_kept.new.session c.tidy.new.self c.send_kept.new.publisher c.tidy.ensures.replies.2 c.tidy.ensures.tree c.send_kept.ensures.ready

@@ -1,6 +1,6 @@
 use Rattle.std.proofs.Common.{◌≡◌, None}
-use Rattle.jffs_index.specs.Ends.{pending, all_put, publisher_index}
-use Rattle.jffs_serve.specs.Kept.{IsReady}
+use Rattle.jffs_index.specs.Ends.{all_put, publisher_index}
+use Rattle.jffs_serve.specs.Showing.{CanServe}
 use Rattle.jffs_serve.specs.Answered.{RepliesMore}
 use Rattle.jffs_serve.proofs.serving.serve.Given as goal
 
@@ -8,7 +8,7 @@ abbrev pub invariant-loop : goal.invariant-loop
 invariant-loop g l = record {
   can : (goal.iterator-loop g).can_next l.iterator';
   ends : (goal.iterator-loop g).is_finite l.iterator';
-  ready : IsReady l.session.kept (pending l.publisher);
+  ready : CanServe l.session l.publisher;
   replies : RepliesMore l.fn.session (all_put l.fn.publisher).steps (g.T.Taker.taken l.fn.taker) l.session (all_put l.publisher).steps (g.T.Taker.taken l.taker) None;
   line : g.T.Taker.ends l.taker ≡ g.T.Taker.ends l.fn.taker;
   index : publisher_index l.publisher ≡ publisher_index l.fn.publisher;

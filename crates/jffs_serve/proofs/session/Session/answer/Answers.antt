@@ -4,7 +4,9 @@ use Rattle.jffs_serve.specs.declared.session.Kept.TheVariants.{Unput}
 use Rattle.jffs_serve.specs.declared.session.Served.{Served}
 use Rattle.jffs_serve.specs.Answered.{HasReplied}
 use Rattle.jffs_serve.specs.Replies.{Reply}
-use Rattle.jffs_serve.proofs.Replying.{replied_more, reply_of}
+use Rattle.jffs_serve.proofs.Replying.{replied_more}
+use Rattle.jffs_serve.proofs.Running.{reply_of}
+use Rattle.jffs_serve.proofs.Showing.{shows_step}
 use Rattle.jffs_serve.proofs.session.Session.answer.Goals as goal
 
 pub returns-clause-replies : goal.returns-clause-replies
@@ -17,6 +19,12 @@ returns-clause-replies g c put before now took start replies was =
       r ∷ [],
       subst (λ (e : Option Served). HasReplied start core (Some (Unput r.step e)) put now (replies ++ r ∷ [])) (sym c.ending_after.ensures)
           (replied_more start c.args.self.now.core core c.args.request answered.outcome answered.node c.is_unmount-unmounts.result
-          put before now replies c.requires.opened made.kept made.closed made.node c.is_unmount-unmounts.ensures took made.sizes made.step made.failed nothing),
+          put before now replies c.requires.opened made.kept made.closed made.node c.is_unmount-unmounts.ensures took made.sizes made.step made.failed made.erases nothing),
       tt,
     )
+
+pub returns-clause-shown : goal.returns-clause-shown
+returns-clause-shown g c shown shows =
+    let answered = c.answer_with_node-outcome.result in
+    let r : Reply = reply_of c.args.request answered.outcome answered.node in
+    shows_step shown c.args.self.now.core c.answer_with_node-outcome.new.self r.step c.answer_with_node-outcome.ensures.tree shows

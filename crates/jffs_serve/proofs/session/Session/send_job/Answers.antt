@@ -1,6 +1,7 @@
 use Rattle.std.proofs.Common.{rules, ◌≡◌, ◌∙◌, ◌++◌, ◌∷◌, [], true, Some, inr, refl, sym, ap}
 use Rattle.jffs_core.specs.Standing.{Standing}
-use Rattle.jffs_serve.proofs.Keeping.{read_failed, wanted_works}
+use Rattle.jffs_serve.proofs.Keeping.{read_kept, wanted_works}
+use Rattle.jffs_serve.proofs.Showing.{read_tree}
 use Rattle.jffs_serve.proofs.session.Session.send_job.Goals as goal
 
 pub returns-in-Ok-send-clause-job : goal.returns-in-Ok-send-clause-job
@@ -18,19 +19,46 @@ pub returns-in-Ok-send-clause-replies : goal.returns-in-Ok-send-clause-replies
 returns-in-Ok-send-clause-replies g c =
     let asked : c.is_due.result ≡ true = search rules in
     let old : Standing = c.args.self.now.core in
-    let same = c.oldest_image.ensures.same in
-    (ap (λ (s : Standing). s.answers) same, ap (λ (s : Standing). s.closed) same, refl, read_failed old c.oldest_image.new.self (wanted_works old (c.is_due.ensures asked).0) same)
+    let read = c.oldest_image.ensures in (
+      ap (λ (s : Standing). s.answers) read.same,
+      ap (λ (s : Standing). s.closed) read.same,
+      refl,
+      read_kept old c.oldest_image.new.self c.oldest_image.result (wanted_works old (c.is_due.ensures asked).0) read.same read.works read.refused,
+    )
 
 pub returns-in_default-send-clause-replies : goal.returns-in_default-send-clause-replies
 returns-in_default-send-clause-replies g c =
     let asked : c.is_due.result ≡ true = search rules in
     let old : Standing = c.args.self.now.core in
-    let same = c.oldest_image.ensures.same in
-    (ap (λ (s : Standing). s.answers) same, ap (λ (s : Standing). s.closed) same, refl, read_failed old c.oldest_image.new.self (wanted_works old (c.is_due.ensures asked).0) same)
+    let read = c.oldest_image.ensures in (
+      ap (λ (s : Standing). s.answers) read.same,
+      ap (λ (s : Standing). s.closed) read.same,
+      refl,
+      read_kept old c.oldest_image.new.self c.oldest_image.result (wanted_works old (c.is_due.ensures asked).0) read.same read.works read.refused,
+    )
 
 pub returns-in_default-clause-replies : goal.returns-in_default-clause-replies
 returns-in_default-clause-replies g c =
     let asked : c.is_due.result ≡ true = search rules in
     let old : Standing = c.args.self.now.core in
-    let same = c.oldest_image.ensures.same in
-    (ap (λ (s : Standing). s.answers) same, ap (λ (s : Standing). s.closed) same, refl, read_failed old c.oldest_image.new.self (wanted_works old (c.is_due.ensures asked).0) same)
+    let read = c.oldest_image.ensures in (
+      ap (λ (s : Standing). s.answers) read.same,
+      ap (λ (s : Standing). s.closed) read.same,
+      refl,
+      read_kept old c.oldest_image.new.self c.oldest_image.result (wanted_works old (c.is_due.ensures asked).0) read.same read.works read.refused,
+    )
+
+pub returns-in-Ok-send-clause-tree : goal.returns-in-Ok-send-clause-tree
+returns-in-Ok-send-clause-tree g c =
+    let asked : c.is_due.result ≡ true = search rules in
+    read_tree c.args.self.now.core c.oldest_image.new.self (wanted_works c.args.self.now.core (c.is_due.ensures asked).0) c.oldest_image.ensures.same
+
+pub returns-in_default-send-clause-tree : goal.returns-in_default-send-clause-tree
+returns-in_default-send-clause-tree g c =
+    let asked : c.is_due.result ≡ true = search rules in
+    read_tree c.args.self.now.core c.oldest_image.new.self (wanted_works c.args.self.now.core (c.is_due.ensures asked).0) c.oldest_image.ensures.same
+
+pub returns-in_default-clause-tree : goal.returns-in_default-clause-tree
+returns-in_default-clause-tree g c =
+    let asked : c.is_due.result ≡ true = search rules in
+    read_tree c.args.self.now.core c.oldest_image.new.self (wanted_works c.args.self.now.core (c.is_due.ensures asked).0) c.oldest_image.ensures.same

@@ -1,0 +1,58 @@
+-- How often a session erases.
+use Rattle.std.proofs.Common.{◌≡◌, ◌+◌, ◌*◌, ℕ, inl, inr, true, false, List, [], ◌∷◌, ◌++◌, length, sym, subst, arith, length-append}
+use Rattle.std.proofs.Math.Nat.{add-mul}
+use Rattle.std.proofs.lemmas.Bool.{cases_Bool}
+use Rattle.jffs_tree.specs.declared.wish.Outcome.{Outcome}
+use Rattle.jffs_core.specs.Standing.{Standing}
+use Rattle.jffs_core.specs.Acting.{KeepsAnswer}
+use Rattle.jffs_core.specs.Erases.{ErasesAtMost}
+use Rattle.jffs_serve.specs.Replies.{Reply}
+use Rattle.jffs_serve.specs.Answered.{ErasesSince, KeepsHistory}
+use Rattle.jffs_serve.proofs.Keeping.{failed_works}
+
+-- nothing was answered yet
+pub since_start : (start : Standing) → ErasesSince start 0 start
+since_start start = record { erases = omega arith; held = λ works. omega arith }
+
+-- a call of a core that worked erased so many sectors more
+since_worked : (start old new : Standing) (answers more : ℕ) → old.failed ≡ false → ErasesSince start answers old → ErasesAtMost (more * start.book.sectors) old new → ErasesSince start (answers + more) new
+since_worked start old new answers more works was erased =
+    let before = was.held works in
+    let both : (answers + more) * start.book.sectors ≡ answers * start.book.sectors + more * start.book.sectors = add-mul answers more start.book.sectors in
+    record {
+      erases = let now = erased.erases in omega (arith, before, both, now);
+      held = λ still. let now = erased.held still in omega (arith, before, both, now);
+    }
+
+-- one request was answered
+pub since_answer :
+    (start old new : Standing) (replies : List Reply) (r : Reply) (writer seq : ℕ) (o : Outcome)
+    → start.book.sectors ≡ old.book.sectors → (old.failed ≡ true → KeepsAnswer writer seq o old new)
+    → ErasesSince start (length replies) old → ErasesAtMost old.book.sectors old new → ErasesSince start (length (replies ++ r ∷ [])) new
+since_answer start old new replies r writer seq o same kept was erased =
+    let many : length replies + 1 ≡ length (replies ++ r ∷ []) = sym (length-append replies (r ∷ [])) in
+    subst (λ (k : ℕ). ErasesSince start k new) many (elim (cases_Bool old.failed) [
+      | inl had ↦ of_failed had
+      | inr works ↦
+          let once : old.book.sectors ≡ 1 * start.book.sectors = omega (arith, same) in
+          since_worked start old new (length replies) 1 works was (subst (λ (k : ℕ). ErasesAtMost k old new) once erased)
+    ])
+  where
+    of_failed : old.failed ≡ true → ErasesSince start (length replies + 1) new
+    of_failed had = subst (ErasesSince start (length replies + 1)) (sym (kept had)) (record {
+      erases =
+          let before = was.erases in
+          let both : (length replies + 1) * start.book.sectors ≡ length replies * start.book.sectors + 1 * start.book.sectors = add-mul (length replies) 1 start.book.sectors in
+          omega (arith, before, both);
+      held = λ works. absurd (failed_works old.failed had works);
+    })
+
+-- nothing was answered meanwhile
+pub since_same : (start old new : Standing) (answers : ℕ) → KeepsHistory old new → ErasesSince start answers old → ErasesSince start answers new
+since_same start old new answers keeps was = elim (cases_Bool old.failed) [
+  | inl had ↦ subst (ErasesSince start answers) (sym (keeps.failed had)) (record { erases = was.erases; held = was.held })
+  | inr works ↦
+      let before = was.held works in
+      let erased = keeps.erases in
+      record { erases = let now = erased.erases in omega arith; held = λ still. let now = erased.held still in omega arith }
+]

@@ -1,0 +1,5 @@
+use Rattle.jffs_serve.proofs.Running.{failures_are_faults}
+use Rattle.jffs_serve.proofs.laws.failures_are_faults.Goals as goal
+
+pub returns : goal.returns
+returns c = failures_are_faults

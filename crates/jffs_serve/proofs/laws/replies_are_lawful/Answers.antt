@@ -1,0 +1,5 @@
+use Rattle.jffs_serve.proofs.Turns.{replies_are_lawful}
+use Rattle.jffs_serve.proofs.laws.replies_are_lawful.Goals as goal
+
+pub returns : goal.returns
+returns c = replies_are_lawful

@@ -129,7 +129,7 @@ own (n ∷ past) m h (inr later) =
 pub lives_as : (past : List Node) (p : Placed) → versions_fall past ≡ true → Among p.node past → lives_in (tree_of past) p ≡ is_live past p.node.version
 lives_as past p falls a = live_whole past (tree_of past) p.node.version p.node.inode refl (own past p.node falls a)
 
-each_dead : (past : List Node) (erased : List Placed) → versions_fall past ≡ true → ((n : Node) → Among n (nodes_of erased) → Among n past) → AllByRecursion (λ p. lives_in (tree_of past) p ≡ false) erased
+pub each_dead : (past : List Node) (erased : List Placed) → versions_fall past ≡ true → ((n : Node) → Among n (nodes_of erased) → Among n past) → AllByRecursion (λ p. lives_in (tree_of past) p ≡ false) erased
     → AllByRecursion (λ n. is_live past n.version ≡ false) (nodes_of erased)
 each_dead past [] falls among h = tt
 each_dead past (p ∷ erased) falls among h =

@@ -1,26 +1,21 @@
 -- A list of names has one order.
-use Rattle.std.proofs.Common.{◌≡◌, ℕ, suc, ◌+◌, Bool, true, false, cond, List, [], ◌∷◌, get_or, refl, sym, ap, subst, ◌∙◌, ⊎_elim, arith, nat_cmp}
+use Rattle.std.proofs.Common.{◌≡◌, ℕ, suc, ◌+◌, Bool, true, false, cond, List, [], ◌∷◌, get_or, refl, sym, ap, subst, ◌∙◌, ⊎_elim, arith}
 use Rattle.std.specs.List.{AllByRecursion, sum_by}
 use Rattle.std.specs.List.Sorted.{IsPermutation, IsSorted}
-use Rattle.std.specs.Ordering.{is_lt, is_gt, is_eq, ordering_reverse}
+use Rattle.std.specs.Ordering.{is_lt, is_gt, ordering_reverse}
 use Rattle.std.specs.declared.cmp.Ordering.{Ordering}
 use Rattle.std.specs.declared.cmp.Ordering.TheVariants.{Less, Equal, Greater}
-use Rattle.std.specs.Cmp.{IsTotalOrder, IsStrictWeakOrder, nat_cmp_total, then_total, on_total, tied_itself}
-use Rattle.std.specs.Cmp.Lexicographic.{slice_cmp, nat_list_cmp_total, texts_ties}
+use Rattle.std.specs.Cmp.{IsStrictWeakOrder, tied_itself}
 use Rattle.std.proofs.lemmas.Bool.{cases_Bool}
 use Rattle.std.proofs.lemmas.List.MinMax.{ranks_by}
 use Rattle.std.proofs.lemmas.List.Sorted.{sum_by-IsPermutation}
 use Rattle.std.proofs.lemmas.List.Sums.{sum_by-cons}
-use Rattle.std.proofs.lemmas.Slice.Eq.{bytes_eq-Decides}
 use Rattle.jffs_tree.specs.Look.{name_cmp}
-use Rattle.jffs_tree.proofs.PlaceOrder.{nat_tied, then_tied}
+use Rattle.jffs_tree.proofs.Directories.{name_total, name_tied}
 use Rattle.jffs_text.specs.Dump.{put_by_name, by_name}
 
 abbrev Named : Type 0
 Named = List ℕ × ℕ
-
-name_total : IsTotalOrder name_cmp
-name_total = then_total (on_total (λ (t : Named). t.0) nat_list_cmp_total) (on_total (λ (t : Named). t.1) nat_cmp_total)
 
 abbrev less : Named → Named → Bool
 less a b = is_lt (name_cmp a b)
@@ -28,16 +23,9 @@ less a b = is_lt (name_cmp a b)
 ranked : IsStrictWeakOrder less
 ranked = ranks_by name_total (λ (t : Named). t)
 
-tied : (a b : Named) → name_cmp a b ≡ Equal → a ≡ b
-tied a b h =
-    let parts = then_tied (slice_cmp nat_cmp a.0 b.0) (nat_cmp a.1 b.1) h in
-    let x = (bytes_eq-Decides a.0 b.0).0 (texts_ties a.0 b.0 ∙ ap is_eq parts.0) in
-    let y = nat_tied a.1 b.1 parts.1 in
-    λ i. (x i, y i)
-
 -- names of which neither is less
 level : (a b : Named) → less a b ≡ false → less b a ≡ false → a ≡ b
-level a b h k = tied a b (by_order (name_cmp a b) (name_cmp b a) (name_total.antisymm b a) h k)
+level a b h k = name_tied a b (by_order (name_cmp a b) (name_cmp b a) (name_total.antisymm b a) h k)
   where
     by_order : (o p : Ordering) → p ≡ ordering_reverse o → is_lt o ≡ false → is_lt p ≡ false → o ≡ Equal
     by_order Less p e h k = cc

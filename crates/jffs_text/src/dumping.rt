@@ -8,7 +8,7 @@ ghost use Rattle.jffs_tree.specs.Look.{bytes_in};
 ghost use Rattle.jffs_text.specs.Added.{IsBegun};
 ghost use Rattle.jffs_text.specs.Dump.{hex, hex_digit as digit_of, shown_bytes, directory_line, file_line, path_of, below, dump_text};
 
-use jffs_node::{Kind, Name, NoMemory, PATH_DEPTH_MAX, ROOT_INODE};
+use jffs_node::{Name, NoMemory, PATH_DEPTH_MAX, ROOT_INODE};
 use jffs_tree::Tree;
 use std::alloc::{AllocError, Global};
 use std::io;
@@ -80,7 +80,7 @@ fn dump_names<W: Write>(
     for (name, inode) in names.iter() {
         let above = path.len();
         push_name(path, name)?;
-        if is_directory(tree, *inode) {
+        if tree.is_directory(*inode) {
             dump_directory(path, out)?;
             dump_names(tree, *inode, levels - 1, path, out)?;
         } else {
@@ -89,12 +89,6 @@ fn dump_names<W: Write>(
         path.truncate(above);
     }
     Ok(())
-}
-
-fn is_directory(tree: &Tree, inode: u32) -> bool
-    ensures { result ≡ is_directory_in (state_in tree.now) inode }
-{
-    matches!(tree.kind(inode), Some(Kind::Directory))
 }
 
 fn push_name(path: &mut Vec<u8>, name: &Name) -> Result<(), AllocError>

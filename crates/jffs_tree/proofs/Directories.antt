@@ -26,7 +26,7 @@ use Rattle.jffs_tree.proofs.Standing.{behind, rest_sorted}
 use Rattle.jffs_tree.proofs.Listed.{by_name}
 use Rattle.jffs_tree.proofs.Members.{each_other, same_members}
 
-name_total : IsTotalOrder name_cmp
+pub name_total : IsTotalOrder name_cmp
 name_total = then_total (on_total (λ (t : List ℕ × ℕ). t.0) nat_list_cmp_total) (on_total (λ (t : List ℕ × ℕ). t.1) nat_cmp_total)
 
 abbrev same_name : (List ℕ × ℕ) → (List ℕ × ℕ) → Bool
@@ -37,12 +37,15 @@ is_equal Less h = cc
 is_equal Equal h = refl
 is_equal Greater h = cc
 
-tells : (a b : List ℕ × ℕ) → same_name a b ≡ true → a ≡ b
-tells a b h =
-    let parts = then_tied (slice_cmp nat_cmp a.0 b.0) (nat_cmp a.1 b.1) (is_equal (name_cmp a b) h) in
+pub name_tied : (a b : List ℕ × ℕ) → name_cmp a b ≡ Equal → a ≡ b
+name_tied a b h =
+    let parts = then_tied (slice_cmp nat_cmp a.0 b.0) (nat_cmp a.1 b.1) h in
     let x = (bytes_eq-Decides a.0 b.0).0 (texts_ties a.0 b.0 ∙ ap is_eq parts.0) in
     let y = nat_tied a.1 b.1 parts.1 in
     λ i. (x i, y i)
+
+tells : (a b : List ℕ × ℕ) → same_name a b ≡ true → a ≡ b
+tells a b h = name_tied a b (is_equal (name_cmp a b) h)
 
 own : (a : List ℕ × ℕ) → same_name a a ≡ true
 own a = ap is_eq (tied_itself name_total a)

@@ -33,3 +33,4 @@ pub mod Ruled
 pub mod Putting
 pub mod Changing
 pub mod Decided
+pub mod Wishes

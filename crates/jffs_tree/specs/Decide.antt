@@ -15,6 +15,14 @@ use Rattle.jffs_tree.specs.declared.wish.NewNode.{NewNode}
 use Rattle.jffs_tree.specs.State.{Entry, State, at, resolve, is_directory_in, state_of_past}
 use Rattle.jffs_tree.specs.Origin.{Held, Tree, tree_of, state_in, holder, stated_size}
 
+abbrev pub is_copy_wish : Wish → Bool
+is_copy_wish (Copy source parent name offset bytes) = true
+is_copy_wish _ = false
+
+abbrev pub is_unmount_wish : Wish → Bool
+is_unmount_wish Unmount = true
+is_unmount_wish _ = false
+
 -- the first cause whose test holds, else the node
 abbrev pub unless : List (Bool × Cause) → NewNode → Result NewNode Cause
 unless [] n = Ok n

@@ -42,7 +42,8 @@ impl Inode {
 }
 
 impl Tree {
-    pub(crate) fn is_directory(&self, inode: u32) -> bool
+    /// Whether the inode is a directory, as the root is.
+    pub fn is_directory(&self, inode: u32) -> bool
         ensures { result ≡ is_directory_in (state_in self.now) inode }
     {
         matches!(self.kind(inode), Some(Kind::Directory))

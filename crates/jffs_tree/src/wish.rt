@@ -2,7 +2,7 @@
 
 ghost use Rattle.std.specs.Prelude.{◌≡◌};
 ghost use Rattle.jffs_tree.specs.declared.wish.Cause.TheVariants.{Memory};
-ghost use Rattle.jffs_tree.specs.Decide.{with};
+ghost use Rattle.jffs_tree.specs.Decide.{with, is_copy_wish, is_unmount_wish};
 
 use jffs_node::{Bytes, Kind, Name, Node, Path};
 use std::alloc::AllocError;
@@ -108,6 +108,22 @@ pub enum Wish {
     },
     /// The end of the session.
     Unmount,
+}
+
+impl Wish {
+    /// Whether this is a copy, as a cleaner asks for it.
+    pub fn is_copy(&self) -> bool
+        ensures { result ≡ is_copy_wish self.now }
+    {
+        matches!(self, Wish::Copy { .. })
+    }
+
+    /// Whether this is the end of the session.
+    pub fn is_unmount(&self) -> bool
+        ensures { result ≡ is_unmount_wish self.now }
+    {
+        matches!(self, Wish::Unmount)
+    }
 }
 
 /// What a decision has to know beside the tree.

@@ -12,11 +12,11 @@ use Rattle.jffs_tree.specs.declared.wish.Outcome.{Outcome}
 use Rattle.jffs_tree.specs.declared.wish.Outcome.TheVariants.{Appended, Copied, Closed, Refused}
 use Rattle.jffs_tree.specs.State.{Entry, State, apply, state_of_past}
 use Rattle.jffs_tree.specs.Origin.{IsTrueCopy}
-use Rattle.jffs_tree.specs.Decide.{decide, with, unless, unmount_node}
+use Rattle.jffs_tree.specs.Decide.{decide, with, unless, unmount_node, is_copy_wish, is_unmount_wish}
 use Rattle.jffs_line.specs.declared.request.Request.{Request}
 use Rattle.jffs_core.specs.declared.answer.Answer.{Answer}
 use Rattle.jffs_core.specs.History.{apply_all, AreOwnCopies, MayFollow, IsGrown, Grows, ContentsAreState}
-use Rattle.jffs_core.specs.Step.{Volume, Turn, IsStep, OutcomeIs, node_of, is_copy_wish, is_unmount_wish}
+use Rattle.jffs_core.specs.Step.{Volume, Turn, IsStep, OutcomeIs, node_of}
 use Rattle.jffs_core.specs.Run.{OnlyCopies, AreAnswered, LawfulRunsGrow}
 use Rattle.jffs_tree.proofs.TrueCopy.{true_copy_keeps_state}
 use Rattle.jffs_tree.proofs.Copies.{accepted_copies_are_true}

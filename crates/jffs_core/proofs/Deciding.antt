@@ -17,7 +17,7 @@ use Rattle.jffs_tree.specs.declared.wish.Limits.{Limits}
 use Rattle.jffs_tree.specs.declared.wish.NewNode.{NewNode}
 use Rattle.jffs_tree.specs.State.{Entry, State, written, is_directory_in, state_of_past}
 use Rattle.jffs_tree.specs.Origin.{Held, entry, concerns, holder, tree_of}
-use Rattle.jffs_tree.specs.Decide.{unless, is_root, has_parent, is_there, parent_in, last_name, inode_at, entry_of, is_empty, plain, write_node, truncate_node, copy_node, unmount_node, held_entry, held_inode, is_current, decide_in, decide, with}
+use Rattle.jffs_tree.specs.Decide.{unless, is_root, has_parent, is_there, parent_in, last_name, inode_at, entry_of, is_empty, plain, write_node, truncate_node, copy_node, unmount_node, held_entry, held_inode, is_current, decide_in, decide, with, is_copy_wish, is_unmount_wish}
 use Rattle.jffs_tree.specs.Deciding.{IsLawfulPast, AreLimitsOf, IsWish}
 use Rattle.jffs_tree.proofs.Decided.{decided_nodes_keep_rules}
 use Rattle.jffs_tree.proofs.TrueCopy.{true_copy_keeps_state}
@@ -28,8 +28,7 @@ use Rattle.jffs_log.specs.Cleaning.{versions_fall}
 use Rattle.jffs_log.specs.History.{KeepsRules}
 use Rattle.jffs_core.specs.History.{AreOwnCopies, MayFollow}
 use Rattle.jffs_core.specs.Run.{OnlyCopies}
-use Rattle.jffs_core.specs.Step.{is_copy_wish, is_unmount_wish}
-use Rattle.jffs_core.specs.Acting.{MayPut}
+use Rattle.jffs_core.specs.Appending.{MayPut}
 use Rattle.jffs_core.proofs.Putting.{fold_max}
 
 -- What stands against a wish, and its node, apart.

@@ -1,17 +1,26 @@
 -- Sectors are erased, and how often.
-use Rattle.std.proofs.Common.{◌≡◌, ℕ, suc, ◌+◌, ◌≤◌, Bool, true, false, List, [], ◌∷◌, length, ap, ◌∙◌, arith}
+use Rattle.std.proofs.Common.{◌≡◌, ℕ, zero, suc, ◌+◌, ◌≤◌, ◌<◌, Bool, true, false, List, [], ◌∷◌, length, take, drop, get_or, refl, sym, ap, subst, ◌∙◌, arith, drop-cons}
+use Rattle.std.specs.List.{AllByRecursion}
+use Rattle.std.proofs.Math.Seq.{take-suc}
 use Rattle.jffs_node.specs.declared.node.Node.{Node}
-use Rattle.jffs_tree.specs.Origin.{Tree}
+use Rattle.jffs_tree.specs.Origin.{Tree, is_live}
 use Rattle.jffs_tree.specs.declared.wish.Limits.{Limits}
 use Rattle.jffs_log.specs.declared.book.Book.{Book}
-use Rattle.jffs_log.specs.Book.{IsBook, HasSizes, layout_in}
-use Rattle.jffs_log.specs.Cleaning.{Layout, without_oldest, erase_oldest}
+use Rattle.jffs_log.specs.Image.{nodes_of}
+use Rattle.jffs_log.specs.Book.{IsBook, HasSizes, layout_in, lives_in, oldest_in}
+use Rattle.jffs_log.specs.Cleaning.{Layout, without_oldest, oldest_records, erase_oldest}
+use Rattle.jffs_log.specs.RoomLaws.{Among}
+use Rattle.jffs_log.proofs.MountedLog.{each_append}
+use Rattle.jffs_log.proofs.Sectors.{each_among}
+use Rattle.jffs_log.proofs.Histories.{each_dead}
 use Rattle.jffs_log.proofs.Copied.{opposite}
 use Rattle.jffs_core.specs.Standing.{Standing, SameAnswers}
 use Rattle.jffs_core.specs.Past.{IsPast, Knows}
-use Rattle.jffs_core.specs.Acting.{WorksOn, HasErased, erased_times}
+use Rattle.jffs_core.specs.Calls.{WorksOn}
+use Rattle.jffs_core.specs.Cleaning.{HasErased, IsDeadOldest, AreDead, erased_times}
 use Rattle.jffs_core.specs.Erases.{ErasesAtMost}
-use Rattle.jffs_core.proofs.Sweeping.{held_is}
+use Rattle.jffs_core.proofs.RoomMade.{oldest_known}
+use Rattle.jffs_core.proofs.Sweeping.{held_is, oldest_is}
 
 -- No more sectors hold the log than there are.
 pub held_most : (past : List Node) (image : List ℕ) (b : Book) (tree : Tree) (limits : Limits) (clean : Bool) → IsBook image b → IsPast past image b tree limits clean → b.held ≤ b.sectors
@@ -42,14 +51,41 @@ pub record IsErasing (count : ℕ) (old now : Standing) : Type 0 where
   pub left : count + length (layout_in now.image now.book).sectors ≡ length (layout_in old.image old.book).sectors
   pub erases : now.book.erases + now.book.held ≤ old.book.erases + old.book.held
   pub done : (past : List Node) → Knows past old → WorksOn past old now
+  pub dead : (past : List Node) → Knows past old → AreDead past (take count (layout_in old.image old.book).sectors)
 
 pub one_fewer : (sectors : List (List Node)) → 2 ≤ length sectors → length (without_oldest sectors) + 1 ≡ length sectors
 one_fewer [] h = absurd (omega arith)
 one_fewer (s ∷ sectors) h = omega arith
 
-pub erasing_goes_on : (count : ℕ) (old middle new : Standing) → IsErasing count old middle → 2 ≤ length (layout_in middle.image middle.book).sectors → new.failed ≡ false → SameAnswers middle new → HasSizes middle.book.sectors middle.book.sector_size new.book
+newer_left : (k : ℕ) (sectors : List (List Node)) → without_oldest (drop k sectors) ≡ drop (suc k) sectors
+newer_left zero [] = refl
+newer_left zero (s ∷ sectors) = refl
+newer_left (suc k) [] = refl
+newer_left (suc k) (s ∷ sectors) = newer_left k sectors
+
+left_after : (k : ℕ) (log : Layout) → (erased_times k log).sectors ≡ drop k log.sectors
+left_after zero log = refl
+left_after (suc k) log = ap without_oldest (left_after k log) ∙ newer_left k log.sectors
+
+-- the records of the oldest sector, of which none is live in the tree
+oldest_dead : (past : List Node) (c : Standing) → Knows past c → AllByRecursion (λ p. lives_in c.tree p ≡ false) (oldest_in c.image c.book) → AllByRecursion (λ n. is_live past n.version ≡ false) (oldest_records (layout_in c.image c.book).sectors)
+oldest_dead past c known dead =
+    let ps = oldest_in c.image c.book in
+    let is = oldest_is c.image c.book in
+    let among = subst (AllByRecursion (λ n. Among n past)) (sym is) (oldest_known past (layout_in c.image c.book).sectors known.sound.known) in
+    subst (AllByRecursion (λ n. is_live past n.version ≡ false)) is
+    (each_dead past ps known.history.rules.falls (λ n a. each_among (λ m. Among m past) (nodes_of ps) n among a) (subst (λ t. AllByRecursion (λ p. lives_in t p ≡ false) ps) known.tree_is dead))
+
+-- None of the sectors so far was live, and the oldest that is left isn't.
+dead_so_far : (past : List Node) (k : ℕ) (log : Layout) → k < length log.sectors → AreDead past (take k log.sectors) → AllByRecursion (λ n. is_live past n.version ≡ false) (oldest_records (erased_times k log).sectors) → AreDead past (take (suc k) log.sectors)
+dead_so_far past k log below so_far dead =
+    let P : List Node → Type 0 = λ nodes. AllByRecursion (λ n. is_live past n.version ≡ false) nodes in
+    let oldest : oldest_records (erased_times k log).sectors ≡ get_or log.sectors k [] = ap oldest_records (left_after k log ∙ drop-cons log.sectors k [] below) in
+    subst (AreDead past) (sym (take-suc log.sectors k [] below)) (each_append P (take k log.sectors) (get_or log.sectors k [] ∷ []) so_far (subst P oldest dead, tt))
+
+pub erasing_goes_on : (count : ℕ) (old middle new : Standing) → IsErasing count old middle → IsDeadOldest middle → new.failed ≡ false → SameAnswers middle new → HasSizes middle.book.sectors middle.book.sector_size new.book
     → layout_in new.image new.book ≡ erase_oldest (layout_in middle.image middle.book) → ((past : List Node) → Knows past middle → HasErased past middle new) → ErasesAtMost 0 middle new → IsErasing (count + 1) old new
-erasing_goes_on count old middle new h several works same sizes log erased one =
+erasing_goes_on count old middle new h oldest works same sizes log erased one =
     let more : suc count ≡ count + 1 = omega arith in
     record {
       works = works;
@@ -58,7 +94,7 @@ erasing_goes_on count old middle new h several works same sizes log erased one =
       log = log ∙ ap erase_oldest h.log ∙ ap (λ k. erased_times k (layout_in old.image old.book)) more;
       left =
           let e = ap (λ (l : Layout). length l.sectors) log in
-          let f = one_fewer (layout_in middle.image middle.book).sectors several in
+          let f = one_fewer (layout_in middle.image middle.book).sectors oldest.several in
           let k = h.left in
           omega arith;
       erases = let before = h.erases in let more = one.held works in omega arith;
@@ -67,4 +103,11 @@ erasing_goes_on count old middle new h several works same sizes log erased one =
           let e = erased past d.knows in
           let s = e.stands in
           record { works = s.works; faults = s.faults ∙ d.faults; knows = s.knows };
+      dead = λ past known.
+          let log = layout_in old.image old.book in
+          let left = h.left in
+          let several = oldest.several in
+          let now = oldest_dead past middle (h.done past known).knows oldest.dead in
+          subst (λ k. AreDead past (take k log.sectors)) more
+          (dead_so_far past count log (omega arith) (h.dead past known) (subst (λ (l : Layout). AllByRecursion (λ n. is_live past n.version ≡ false) (oldest_records l.sectors)) h.log now));
     }

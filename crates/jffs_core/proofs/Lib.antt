@@ -4,10 +4,15 @@ pub mod RoomMade
 pub mod Mounting
 pub mod Putting
 pub mod Deciding
+pub mod Refusing
+pub mod Asked
+pub mod Full
 pub mod Stepping
 pub mod Told
 pub mod Trees
 pub mod Sweeping
 pub mod Erasing
+pub mod Copying
 pub mod Turning
+pub mod Called
 pub mod Scanning

@@ -22,7 +22,7 @@ use Rattle.jffs_tree.specs.declared.wish.Cause.{Cause}
 use Rattle.jffs_tree.specs.declared.wish.Cause.TheVariants.{NoSpace, Device}
 use Rattle.jffs_core.specs.Standing.{Standing}
 use Rattle.jffs_core.specs.Past.{IsPast, Knows, is_clean_in, HasFailed}
-use Rattle.jffs_core.specs.Acting.{MayPut, PutRefused}
+use Rattle.jffs_core.specs.Appending.{MayPut, PutRefused}
 
 -- Nodes that keep the rules never move a byte.
 pub keeps_all_lengths : (past : List Node) → AllByRecursion (λ n. is_lawful n ≡ true) past → list_all keeps_length past ≡ true

@@ -14,7 +14,7 @@ use Rattle.jffs_core.specs.Standing.{Standing}
 use Rattle.jffs_core.specs.History.{IsOwnCopy, Grows, contents}
 use Rattle.jffs_core.specs.Step.{IsNodeFor}
 use Rattle.jffs_core.specs.Past.{ScansFindContents, FailedScansFind, HasFailed}
-use Rattle.jffs_core.specs.Acting.{turn_of}
+use Rattle.jffs_core.specs.Answering.{turn_of}
 use Rattle.jffs_core.specs.Finding.{FindsWith, DeviceScansFind}
 use Rattle.jffs_core.proofs.Contents.{contents_are_state}
 use Rattle.jffs_core.proofs.Deciding.{copies_state}

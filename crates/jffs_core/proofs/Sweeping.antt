@@ -34,9 +34,12 @@ use Rattle.jffs_log.proofs.Bound.{erasing_keeps_sound}
 use Rattle.jffs_core.specs.Standing.{Standing}
 use Rattle.jffs_core.specs.History.{IsOwnCopy}
 use Rattle.jffs_core.specs.Past.{IsPast, Knows, is_clean_in, session}
-use Rattle.jffs_core.specs.Acting.{FailsIn, RefusedAt, MayPut, HasPut, PutRefused, HasHandled, CopyStopped}
+use Rattle.jffs_core.specs.Calls.{FailsIn, RefusedAt}
+use Rattle.jffs_core.specs.Appending.{MayPut, HasPut, PutRefused}
+use Rattle.jffs_core.specs.Cleaning.{HasHandled, CopyStopped}
 use Rattle.jffs_core.proofs.Deciding.{next_is_newest}
-use Rattle.jffs_core.proofs.Stepping.{known_version, refused_more}
+use Rattle.jffs_core.proofs.Refusing.{refused_more}
+use Rattle.jffs_core.proofs.Asked.{known_version}
 
 pub refused_device : (cause : Cause) (past : List Node) (old new : Standing) → cause ≡ causes.Device → FailsIn (IsOwnCopy past) past old new → RefusedAt cause past old new
 refused_device cause past old new is h = subst (λ c. RefusedAt c past old new) (sym is) h
@@ -72,6 +75,10 @@ erased_past past old new b d tree limits clean h history log same sizes two = re
 -- A record at its turn.
 pub is_live_in : (past : List Node) (tree : Tree) (source : Node) → tree ≡ tree_of past → versions_fall past ≡ true → Among source past → holds_version tree source.inode source.version ≡ is_live past source.version
 is_live_in past tree source is falls among = live_whole past tree source.version source.inode is (own past source falls among)
+
+-- what the tree says of a record of the history
+pub lives_by_tree : (past : List Node) (c : Standing) (source : Node) → Knows past c → Among source past → holds_version c.tree source.inode source.version ≡ true → is_live past source.version ≡ true
+lives_by_tree past c source known among held = sym (is_live_in past c.tree source known.tree_is known.history.rules.falls among) ∙ held
 
 pub skipped : (past : List Node) (source : Node) (c : Standing) → c.failed ≡ false → Knows past c → is_live past source.version ≡ false → HasHandled past source false c c
 skipped past source c works known dead = record {
@@ -132,6 +139,7 @@ module _ (past : List Node) (c : Standing) (source : Node) (version : ℕ) (know
       let h2 : PutRefused rooms.Copy (copied past source) cause c new = subst (λ m. PutRefused rooms.Copy m cause c new) is h in
       let log = layout_in c.image c.book in
       record {
+        live = live;
         stands = refused_more (λ m. m ≡ copied past source) (IsOwnCopy past) (λ m same. subst (IsOwnCopy past) (sym same) is_own) cause past c new (h2.stands past known (copy_may short));
         no_room = λ e. ap (λ t. not t || has_room rooms.Copy (record_len (copied past source)) log.free log.erased) live ∙ h2.no_room e;
       }

@@ -24,10 +24,13 @@ use Rattle.jffs_core.specs.Standing.{Standing}
 use Rattle.jffs_core.specs.History.{AreOwnCopies}
 use Rattle.jffs_core.specs.Past.{Knows}
 use Rattle.jffs_core.specs.Run.{is_failure}
-use Rattle.jffs_core.specs.Acting.{HasAnswered, HasErasedDead, KeepsAnswer, RefusedAt}
+use Rattle.jffs_core.specs.Calls.{RefusedAt}
+use Rattle.jffs_core.specs.Answering.{HasAnswered, KeepsAnswer}
+use Rattle.jffs_core.specs.Cleaning.{HasErasedDead}
 use Rattle.jffs_core.specs.Nodes.{HasNode, listed}
 use Rattle.jffs_core.specs.Trees.{TakesNode, TellsNode, KeepsTree}
 use Rattle.jffs_core.proofs.Deciding.{copies_state}
+use Rattle.jffs_core.proofs.Putting.{places_kept}
 use Rattle.jffs_core.proofs.Told.{node_told}
 
 -- the entries of a tree
@@ -123,11 +126,10 @@ newest_fits past n h =
     let fits = (and_parts (each_fits (n ∷ past)) (check (tree_of (n ∷ past))) h.lawful.tree).0 in
     let a = and_parts (each_fits past && keeps_kind past n && keeps_places past n) (keeps_form past n) fits in
     let b = and_parts (each_fits past && keeps_kind past n) (keeps_places past n) a.0 in
-    let d = and_parts (each_fits past) (keeps_kind past n) b.0 in
-    let same = trees_test_as_nodes past n h.lawful.each.0 in
+    let kind = (and_parts (each_fits past) (keeps_kind past n) b.0).1 in
     and_from (is_lawful n && keeps_kind_in (tree_of past) n) (keeps_places_in (tree_of past) n)
-    (and_from (is_lawful n) (keeps_kind_in (tree_of past) n) h.lawful.each.0 (same.0 ∙ d.1))
-    (same.1 ∙ b.1)
+    (and_from (is_lawful n) (keeps_kind_in (tree_of past) n) h.lawful.each.0 ((trees_test_as_nodes past n h.lawful.each.0).0 ∙ kind))
+    (places_kept past n (tree_of past) refl h)
 
 -- The tree of a history took in a node that came behind copies.
 took_node : (past after copies : List Node) (node : Option Node) → AreOwnCopies past copies → after ≡ listed node ++ copies ++ past → KeepsRules after → TakesNode (tree_of past) node (tree_of after)

@@ -12,7 +12,7 @@ use Rattle.jffs_core.specs.Standing.{Standing}
 use Rattle.jffs_core.specs.History.{contents}
 use Rattle.jffs_core.specs.Step.{IsNodeFor}
 use Rattle.jffs_core.specs.Past.{StandsFor}
-use Rattle.jffs_core.specs.Acting.{Answers, turn_of}
+use Rattle.jffs_core.specs.Answering.{Answers, turn_of}
 
 -- A scan finds what the fresh nodes since the mount made of the mounted state, or what one node of this kind makes of that.
 pub record FindsWith (One : Node → Type 0) (mounted past : List Node) (count len : ℕ) (image : List ℕ) : Type 0 where

@@ -3,7 +3,10 @@ pub mod History
 pub mod Step
 pub mod Run
 pub mod Past
-pub mod Acting
+pub mod Calls
+pub mod Appending
+pub mod Answering
+pub mod Cleaning
 pub mod Erases
 pub mod Finding
 pub mod RoomSteps

@@ -5,12 +5,12 @@ use Rattle.jffs_node.specs.Record.{is_fresh, record_len}
 use Rattle.jffs_tree.specs.declared.wish.Cause.TheVariants as causes
 use Rattle.jffs_tree.specs.declared.wish.Outcome.TheVariants.{Refused}
 use Rattle.jffs_tree.specs.declared.wish.NewNode.{NewNode}
-use Rattle.jffs_tree.specs.Decide.{with}
+use Rattle.jffs_tree.specs.Decide.{with, is_unmount_wish}
 use Rattle.jffs_line.specs.declared.request.Request.{Request}
 use Rattle.jffs_log.specs.Cleaning.{Session, handled_each, oldest_records, cleaned, fresh_has_room, room_made, version_after}
 use Rattle.jffs_log.specs.RoomLaws.{IsSound, Holds}
 use Rattle.jffs_core.specs.Run.{OnlyCopies}
-use Rattle.jffs_core.specs.Step.{Turn, IsStep, is_unmount_wish, decision, takes_no_node, had_room, ends_with_unmount}
+use Rattle.jffs_core.specs.Step.{Turn, IsStep, decision, takes_no_node, had_room, ends_with_unmount}
 
 -- the versions up to here fit 32 bits
 abbrev pub HasVersions : Session → Type 0

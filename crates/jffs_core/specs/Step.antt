@@ -2,14 +2,12 @@
 use Rattle.std.specs.Prelude.{◌≡◌, ◌⊎◌, ◌↔◌, ℕ, ◌≤◌, Bool, true, false, ◌&&◌, List, [], ◌∷◌, ◌++◌, Some, None, Ok, Err, Result, IsTrue}
 use Rattle.jffs_node.specs.declared.node.Node.{Node}
 use Rattle.jffs_node.specs.Record.{is_fresh, is_unmount, record_len}
-use Rattle.jffs_tree.specs.declared.wish.Wish.{Wish}
-use Rattle.jffs_tree.specs.declared.wish.Wish.TheVariants.{Copy, Unmount}
 use Rattle.jffs_tree.specs.declared.wish.Cause.{Cause}
 use Rattle.jffs_tree.specs.declared.wish.Cause.TheVariants as causes
 use Rattle.jffs_tree.specs.declared.wish.Outcome.{Outcome}
 use Rattle.jffs_tree.specs.declared.wish.Outcome.TheVariants.{Appended, Copied, Closed, Refused}
 use Rattle.jffs_tree.specs.declared.wish.NewNode.{NewNode}
-use Rattle.jffs_tree.specs.Decide.{decide, with}
+use Rattle.jffs_tree.specs.Decide.{decide, with, is_copy_wish, is_unmount_wish}
 use Rattle.jffs_line.specs.declared.request.Request.{Request}
 use Rattle.jffs_log.specs.declared.room.Room.{Room}
 use Rattle.jffs_log.specs.declared.room.Room.TheVariants as rooms
@@ -36,14 +34,6 @@ decision t q = decide t.past (limits t.volume.sector_size t.past) q.wish
 
 abbrev pub node_of : NewNode → Request → ℕ → Node
 node_of n q version = with n version q.writer q.seq
-
-abbrev pub is_copy_wish : Wish → Bool
-is_copy_wish (Copy source parent name offset bytes) = true
-is_copy_wish _ = false
-
-abbrev pub is_unmount_wish : Wish → Bool
-is_unmount_wish Unmount = true
-is_unmount_wish _ = false
 
 -- the node that was decided for the request, with the version that comes next
 pub record IsNodeFor (t : Turn) (q : Request) (after : List Node) (n : Node) : Type 0 where

@@ -1,10 +1,10 @@
 //! One request, one answer.
 
-ghost use Rattle.std.specs.Prelude.{◌≡◌, ◌<◌, ◌≤◌, ◌+◌, ◌++◌, ◌∷◌, ◌||◌, ◌&&◌, [], List, length, true, false, OnOk, IfErr, Ok};
+ghost use Rattle.std.specs.Prelude.{◌≡◌, ◌<◌, ◌≤◌, ◌+◌, ◌++◌, ◌∷◌, ◌||◌, ◌&&◌, [], List, length, true, false, OnOk, IfErr, Ok, Some, None};
 ghost use Rattle.jffs_node.specs.Record.{record_len as length_of};
 ghost use Rattle.jffs_core.specs.Standing.{IsSameButPlaces};
-ghost use Rattle.jffs_core.specs.Step.{is_copy_wish, is_unmount_wish};
-ghost use Rattle.jffs_core.specs.Acting.{is_closed};
+ghost use Rattle.jffs_tree.specs.Decide.{is_copy_wish, is_unmount_wish};
+ghost use Rattle.jffs_core.specs.Answering.{is_closed};
 ghost use Rattle.jffs_core.specs.Nodes.{HasNode};
 
 use crate::answer::{Answer, Answered};
@@ -13,14 +13,14 @@ use jffs_flash::Flash;
 use jffs_line::Request;
 use jffs_log::Room;
 use jffs_node::{Node, record_len};
-use jffs_tree::{Cause, Outcome, Wish};
+use jffs_tree::{Cause, Outcome};
 
 impl<F: Flash> Core<F> {
     ghost use Rattle.jffs_node.specs.declared.node.Node.{Node};
     ghost use Rattle.jffs_log.specs.Book.{HasSizes};
     ghost use Rattle.jffs_core.specs.Standing.{SameAnswers};
     ghost use Rattle.jffs_core.specs.Past.{Knows, StandsFor, has_room_for};
-    ghost use Rattle.jffs_core.specs.Acting.{Answers, AnswersWith, HasAnswered, IsNodeOf, KeepsAnswer};
+    ghost use Rattle.jffs_core.specs.Answering.{Answers, AnswersWith, HasAnswered, HasActed, IsNodeOf, KeepsAnswer};
     ghost use Rattle.jffs_core.specs.Erases.{ErasesAtMost};
     ghost use Rattle.jffs_core.specs.Trees.{TellsNode};
 
@@ -102,19 +102,30 @@ impl<F: Flash> Core<F> {
         ensures sizes { HasSizes self.old.book.sectors self.old.book.sector_size self.new.book }
         ensures erases { self.new.book.erases ≤ self.old.book.erases + self.old.book.held }
     {
-        if unmounts(&request.wish) && self.clean {
-            return Answered {
-                outcome: Outcome::Closed,
-                node: None,
-            };
-        }
-        let new = match self.tree.decide(self.limits, &request.wish) {
-            Ok(new) => new,
-            Err(cause) => return Answered {
+        match self.carry_out(request) {
+            Ok(answered) => answered,
+            Err(cause) => Answered {
                 outcome: Outcome::Refused(cause),
                 node: None,
             },
-        };
+        }
+    }
+
+    /// Appends what a request wants, or tells why nothing is appended.
+    fn carry_out(&mut self, request: &Request) -> Result<Answered, Cause>
+        requires working { self.old.failed ≡ false }
+        ensures acted { (past : List Node) → Knows past self.old → HasActed past self.old self.new request.now result }
+        ensures same { SameAnswers self.old self.new }
+        ensures sizes { HasSizes self.old.book.sectors self.old.book.sector_size self.new.book }
+        ensures erases { self.new.book.erases ≤ self.old.book.erases + self.old.book.held }
+    {
+        if request.wish.is_unmount() && self.clean {
+            return Ok(Answered {
+                outcome: Outcome::Closed,
+                node: None,
+            });
+        }
+        let new = self.tree.decide(self.limits, &request.wish)?;
         let Some(version) = self.limits.next_version else {
             unreachable!()
         };
@@ -123,18 +134,18 @@ impl<F: Flash> Core<F> {
     }
 
     /// Appends the node that was decided on.
-    fn take(&mut self, request: &Request, node: Node) -> Answered
+    fn take(&mut self, request: &Request, node: Node) -> Result<Answered, Cause>
         requires working { self.old.failed ≡ false }
         requires decided { IsNodeOf self.old request.now node }
-        ensures acted { (past : List Node) → Knows past self.old → HasAnswered past self.old self.new request.now result.outcome result.node }
+        ensures acted { (past : List Node) → Knows past self.old → HasActed past self.old self.new request.now result }
         ensures same { SameAnswers self.old self.new }
         ensures sizes { HasSizes self.old.book.sectors self.old.book.sector_size self.new.book }
         ensures erases { self.new.book.erases ≤ self.old.book.erases + self.old.book.held }
     {
-        if unmounts(&request.wish) {
+        if request.wish.is_unmount() {
             return self.end(request, node);
         }
-        if copies(&request.wish) {
+        if request.wish.is_copy() {
             return self.keep_copy(request, node);
         }
         if !self.has_room(Room::Fresh, record_len(&node)) {
@@ -144,117 +155,90 @@ impl<F: Flash> Core<F> {
     }
 
     /// Appends an unmount node.
-    fn end(&mut self, request: &Request, node: Node) -> Answered
+    fn end(&mut self, request: &Request, node: Node) -> Result<Answered, Cause>
         requires working { self.old.failed ≡ false }
         requires decided { IsNodeOf self.old request.now node }
         requires unmounts { is_unmount_wish request.now.wish ≡ true }
-        ensures acted { (past : List Node) → Knows past self.old → HasAnswered past self.old self.new request.now result.outcome result.node }
+        ensures acted { (past : List Node) → Knows past self.old → HasActed past self.old self.new request.now result }
         ensures same { SameAnswers self.old self.new }
         ensures sizes { HasSizes self.old.book.sectors self.old.book.sector_size self.new.book }
         ensures erases { self.new.book.erases ≤ self.old.book.erases + self.old.book.held }
     {
-        match self.append(Room::Unmount, &node) {
-            Ok(()) => Answered {
-                outcome: Outcome::Closed,
-                node: Some(node),
-            },
-            Err(cause) => Answered {
-                outcome: Outcome::Refused(cause),
-                node: None,
-            },
-        }
+        self.append(Room::Unmount, &node)?;
+        Ok(Answered {
+            outcome: Outcome::Closed,
+            node: Some(node),
+        })
     }
 
     /// Appends a copy that a sender handed in.
-    fn keep_copy(&mut self, request: &Request, node: Node) -> Answered
+    fn keep_copy(&mut self, request: &Request, node: Node) -> Result<Answered, Cause>
         requires working { self.old.failed ≡ false }
         requires decided { IsNodeOf self.old request.now node }
         requires copies { is_copy_wish request.now.wish ≡ true }
-        ensures acted { (past : List Node) → Knows past self.old → HasAnswered past self.old self.new request.now result.outcome result.node }
+        ensures acted { (past : List Node) → Knows past self.old → HasActed past self.old self.new request.now result }
         ensures same { SameAnswers self.old self.new }
         ensures sizes { HasSizes self.old.book.sectors self.old.book.sector_size self.new.book }
         ensures erases { self.new.book.erases ≤ self.old.book.erases + self.old.book.held }
     {
-        match self.append(Room::Fresh, &node) {
-            Ok(()) => Answered {
-                outcome: Outcome::Copied {
-                    version: node.version,
-                },
-                node: Some(node),
+        self.append(Room::Fresh, &node)?;
+        Ok(Answered {
+            outcome: Outcome::Copied {
+                version: node.version,
             },
-            Err(cause) => Answered {
-                outcome: Outcome::Refused(cause),
-                node: None,
-            },
-        }
+            node: Some(node),
+        })
     }
 
     /// Appends a fresh node that has room.
-    fn keep_fresh(&mut self, request: &Request, node: Node) -> Answered
+    fn keep_fresh(&mut self, request: &Request, node: Node) -> Result<Answered, Cause>
         requires working { self.old.failed ≡ false }
         requires decided { IsNodeOf self.old request.now node }
         requires no_copy { is_copy_wish request.now.wish ≡ false }
         requires no_unmount { is_unmount_wish request.now.wish ≡ false }
         requires room { has_room_for self.old Room.Fresh (length_of node) ≡ true }
-        ensures acted { (past : List Node) → Knows past self.old → HasAnswered past self.old self.new request.now result.outcome result.node }
+        ensures acted { (past : List Node) → Knows past self.old → HasActed past self.old self.new request.now result }
         ensures same { SameAnswers self.old self.new }
         ensures sizes { HasSizes self.old.book.sectors self.old.book.sector_size self.new.book }
         ensures erases { self.new.book.erases ≤ self.old.book.erases + self.old.book.held }
     {
-        match self.append(Room::Fresh, &node) {
-            Ok(()) => Answered {
-                outcome: Outcome::Appended {
-                    inode: node.inode,
-                    version: node.version,
-                },
-                node: Some(node),
-            },
-            Err(cause) => Answered {
-                outcome: Outcome::Refused(cause),
-                node: None,
-            },
-        }
+        self.append(Room::Fresh, &node)?;
+        Ok(appended(node))
     }
 
     /// Makes room for a fresh node that has none, and appends it. The copies take versions.
-    fn clean_for(&mut self, request: &Request, node: Node) -> Answered
+    fn clean_for(&mut self, request: &Request, node: Node) -> Result<Answered, Cause>
         requires working { self.old.failed ≡ false }
         requires decided { IsNodeOf self.old request.now node }
         requires no_copy { is_copy_wish request.now.wish ≡ false }
         requires no_unmount { is_unmount_wish request.now.wish ≡ false }
         requires no_room { has_room_for self.old Room.Fresh (length_of node) ≡ false }
-        ensures acted { (past : List Node) → Knows past self.old → HasAnswered past self.old self.new request.now result.outcome result.node }
+        ensures acted { (past : List Node) → Knows past self.old → HasActed past self.old self.new request.now result }
         ensures same { SameAnswers self.old self.new }
         ensures sizes { HasSizes self.old.book.sectors self.old.book.sector_size self.new.book }
         ensures erases { self.new.book.erases ≤ self.old.book.erases + self.old.book.held }
     {
-        if let Err(cause) = self.make_room(record_len(&node)) {
-            return Answered {
-                outcome: Outcome::Refused(cause),
-                node: None,
-            };
-        }
+        self.make_room(record_len(&node))?;
         let Some(version) = self.limits.next_version else {
-            return Answered {
-                outcome: Outcome::Refused(Cause::VersionsSpent),
-                node: None,
-            };
+            return Err(Cause::VersionsSpent);
         };
         let mut node = node;
         node.version = version;
-        match self.append(Room::Fresh, &node) {
-            Ok(()) => Answered {
-                outcome: Outcome::Appended {
-                    inode: node.inode,
-                    version,
-                },
-                node: Some(node),
-            },
-            Err(cause) => Answered {
-                outcome: Outcome::Refused(cause),
-                node: None,
-            },
-        }
+        self.append(Room::Fresh, &node)?;
+        Ok(appended(node))
+    }
+}
+
+/// The answer to a request whose fresh node was appended.
+fn appended(node: Node) -> Answered
+    ensures { result ≡ record { outcome = Outcome.Appended node.inode node.version; node = Some node } }
+{
+    Answered {
+        outcome: Outcome::Appended {
+            inode: node.inode,
+            version: node.version,
+        },
+        node: Some(node),
     }
 }
 
@@ -263,18 +247,4 @@ fn closes(outcome: Outcome) -> bool
     ensures { result ≡ is_closed outcome }
 {
     matches!(outcome, Outcome::Closed)
-}
-
-/// Whether a wish is the end of the session.
-fn unmounts(wish: &Wish) -> bool
-    ensures { result ≡ is_unmount_wish wish.now }
-{
-    matches!(wish, Wish::Unmount)
-}
-
-/// Whether a wish is a copy.
-fn copies(wish: &Wish) -> bool
-    ensures { result ≡ is_copy_wish wish.now }
-{
-    matches!(wish, Wish::Copy { .. })
 }

@@ -1,13 +1,12 @@
 //! A node becomes the newest of the history.
 
 ghost use Rattle.std.specs.Prelude.{◌≡◌, ℕ, List, false, OnOk, IfErr, max};
-ghost use Rattle.jffs_node.specs.Record.{is_unmount};
 ghost use Rattle.jffs_log.specs.Room.{following};
 
 use crate::mounted::Core;
 use jffs_flash::Flash;
 use jffs_log::Room;
-use jffs_node::{Kind, Node, record_len};
+use jffs_node::{Node, record_len};
 use jffs_tree::{Cause, Limits};
 
 impl<F: Flash> Core<F> {
@@ -15,7 +14,7 @@ impl<F: Flash> Core<F> {
     ghost use Rattle.jffs_log.specs.Book.{HasSizes};
     ghost use Rattle.jffs_core.specs.Standing.{SameAnswers};
     ghost use Rattle.jffs_core.specs.Past.{Knows, has_room_for};
-    ghost use Rattle.jffs_core.specs.Acting.{MayPut, HasPut, PutRefused};
+    ghost use Rattle.jffs_core.specs.Appending.{MayPut, HasPut, PutRefused};
 
     /// Whether a record of this length has room. Takes no memory.
     pub(crate) fn has_room(&self, room: Room, len: u32) -> bool
@@ -47,7 +46,7 @@ impl<F: Flash> Core<F> {
         match self.log.append(room, node) {
             Ok(()) => {
                 count(&mut self.limits, node);
-                self.clean = ends_session(node);
+                self.clean = node.kind.is_unmount();
                 Ok(())
             }
             Err(cause) => {
@@ -56,13 +55,6 @@ impl<F: Flash> Core<F> {
             }
         }
     }
-}
-
-/// Whether the node is that of an unmount.
-pub(crate) fn ends_session(node: &Node) -> bool
-    ensures { result ≡ is_unmount node.now.kind }
-{
-    matches!(node.kind, Kind::Unmount)
 }
 
 /// The numbers that come after a node.

@@ -1,6 +1,6 @@
 //! Cleaning: what lives in the oldest sector is copied to the tail, and the sector is erased.
 
-ghost use Rattle.std.specs.Prelude.{◌≡◌, ◌≤◌, ◌<◌, ◌+◌, ◌/◌, ◌^◌, List, true, false, map, length, if◌then◌else◌, ◌↔◌, ◌⊎◌, IsTrue, OnOk, IfOk, IfErr};
+ghost use Rattle.std.specs.Prelude.{◌≡◌, ◌≤◌, ◌<◌, ◌+◌, ◌/◌, ◌^◌, List, true, false, map, length, if◌then◌else◌, ◌↔◌, ◌⊎◌, IsTrue, OnOk, IfOk, IfErr, Err};
 ghost use Rattle.std.specs.List.{AllByRecursion};
 ghost use Rattle.jffs_node.specs.Record.{record_len as length_of};
 ghost use Rattle.jffs_tree.specs.Look.{holds_version};
@@ -27,18 +27,22 @@ impl<F: Flash> Core<F> {
     ghost use Rattle.jffs_log.specs.RoomLaws.{Among};
     ghost use Rattle.jffs_core.specs.Standing.{SameAnswers};
     ghost use Rattle.jffs_core.specs.Past.{Knows, StandsFor};
-    ghost use Rattle.jffs_core.specs.Acting.{Cleans, Stops, StopIs, ErasesDead, HasErasedDead, IsDeadOldest, DidClean, RefusedAt, HasHandled, CopyStopped, HasCopied, HasErased, HasMadeRoom, CleaningStopped};
+    ghost use Rattle.jffs_core.specs.Calls.{RefusedAt};
+    ghost use Rattle.jffs_core.specs.Cleaning.{Cleans, Stops, StopIs, ErasesDead, HasErasedDead, IsDeadOldest, DidClean, HasHandled, CopyStopped, HasCopied, HasErased, HasMadeRoom, CleaningStopped, SectorStopped};
     ghost use Rattle.jffs_core.specs.Erases.{ErasesAtMost};
     ghost use Rattle.jffs_core.specs.Trees.{KeepsTree};
 
-    /// Copies each record of the oldest sector that is live at its turn, and erases the sector.
+    /// Copies each record of the oldest sector that is live at its turn, and erases the sector. A log
+    /// of at most one sector is left as it is.
     ///
     /// Refusals: VersionsSpent and NoSpace where a copy has no version or no room, Memory, Device,
-    /// and Failed on a core that failed before. The copies that were made stay. NoSpace comes only
-    /// where fewer than two sectors were erased.
+    /// and Failed on a core that failed before, where nothing is changed. The copies that were made
+    /// stay. NoSpace comes only where a copy had no room at its turn, and so only where fewer than
+    /// two sectors were erased.
     pub fn clean_oldest(&mut self) -> Result<Cleaned, Cause>
         ensures cleaned { IfOk result (λ done. (mounted past : List Node) → StandsFor mounted past self.old → Cleans mounted past done self.old self.new) }
         ensures stopped { IfErr result (λ cause. (mounted past : List Node) → StandsFor mounted past self.old → Stops mounted past cause self.old self.new) }
+        ensures failed { self.old.failed ≡ true → (result ≡ Err Cause.Failed) × (self.new ≡ self.old) }
         ensures same { SameAnswers self.old self.new }
         ensures sizes { HasSizes self.old.book.sectors self.old.book.sector_size self.new.book }
         ensures erases { self.new.book.erases ≤ self.old.book.erases + 1 }
@@ -56,6 +60,7 @@ impl<F: Flash> Core<F> {
         ensures erased { IfOk result (λ count. (mounted past : List Node) → StandsFor mounted past self.old → ErasesDead mounted past count self.old self.new) }
         ensures stopped { IfErr result (λ cause. (mounted past : List Node) → StandsFor mounted past self.old → StandsFor mounted past self.new × StopIs cause past self.old self.new) }
         ensures causes { IfErr result (λ cause. (cause ≡ Cause.Device) ⊎ (cause ≡ Cause.Failed)) }
+        ensures failed { self.old.failed ≡ true → (result ≡ Err Cause.Failed) × (self.new ≡ self.old) }
         ensures same { SameAnswers self.old self.new }
         ensures sizes { HasSizes self.old.book.sectors self.old.book.sector_size self.new.book }
         ensures erases { ErasesAtMost 0 self.old self.new }
@@ -124,7 +129,7 @@ impl<F: Flash> Core<F> {
     fn clean_one(&mut self) -> Result<Cleaned, Cause>
         requires working { self.old.failed ≡ false }
         ensures cleaned { IfOk result (λ done. (past : List Node) → Knows past self.old → DidClean done past self.old self.new) }
-        ensures stopped { IfErr result (λ cause. (past : List Node) → Knows past self.old → (after : List Node) × CleaningStopped cause past after self.old self.new) }
+        ensures stopped { IfErr result (λ cause. (past : List Node) → Knows past self.old → (after : List Node) × SectorStopped cause past after self.old self.new) }
         ensures works { OnOk result (self.new.failed ≡ false) }
         ensures same { SameAnswers self.old self.new }
         ensures sizes { HasSizes self.old.book.sectors self.old.book.sector_size self.new.book }
@@ -146,7 +151,7 @@ impl<F: Flash> Core<F> {
         requires several { 2 ≤ length (layout_in self.old.image self.old.book).sectors }
         requires oldest { nodes.now ≡ map (λ p. p.node) (oldest_in self.old.image self.old.book) }
         ensures cleaned { IfOk result (λ done. (past : List Node) → Knows past self.old → DidClean done past self.old self.new) }
-        ensures stopped { IfErr result (λ cause. (past : List Node) → Knows past self.old → (after : List Node) × CleaningStopped cause past after self.old self.new) }
+        ensures stopped { IfErr result (λ cause. (past : List Node) → Knows past self.old → (after : List Node) × SectorStopped cause past after self.old self.new) }
         ensures works { OnOk result (self.new.failed ≡ false) }
         ensures same { SameAnswers self.old self.new }
         ensures sizes { HasSizes self.old.book.sectors self.old.book.sector_size self.new.book }
@@ -170,7 +175,7 @@ impl<F: Flash> Core<F> {
         requires oldest { nodes.now ≡ oldest_records (layout_in self.old.image self.old.book).sectors }
         requires several { 2 ≤ length (layout_in self.old.image self.old.book).sectors }
         ensures copied { IfOk result (λ copies. (past : List Node) → Knows past self.old → (after : List Node) × HasCopied nodes.now past after copies self.old self.new) }
-        ensures stopped { IfErr result (λ cause. (past : List Node) → Knows past self.old → (after : List Node) × CleaningStopped cause past after self.old self.new) }
+        ensures stopped { IfErr result (λ cause. (past : List Node) → Knows past self.old → (after : List Node) × SectorStopped cause past after self.old self.new) }
         ensures works { OnOk result (self.new.failed ≡ false) }
         ensures same { SameAnswers self.old self.new }
         ensures sizes { HasSizes self.old.book.sectors self.old.book.sector_size self.new.book }
@@ -236,7 +241,7 @@ impl<F: Flash> Core<F> {
         ensures nodes { IfOk result (λ nodes. nodes.items ≡ map (λ p. p.node) (oldest_in self.old.image self.old.book)) }
         ensures kept { OnOk result (self.new ≡ self.old) }
         ensures refused { IfErr result (λ cause. (past : List Node) → Knows past self.old → RefusedAt cause past self.old self.new) }
-        ensures no_room { IfErr result (λ cause. cause ≡ Cause.NoSpace → ⊥) }
+        ensures causes { IfErr result (λ cause. (cause ≡ Cause.Memory) ⊎ (cause ≡ Cause.Device)) }
         ensures same { SameAnswers self.old self.new }
         ensures sizes { HasSizes self.old.book.sectors self.old.book.sector_size self.new.book }
         ensures erases { self.new.book.erases ≡ self.old.book.erases }

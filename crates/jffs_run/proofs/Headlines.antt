@@ -19,10 +19,13 @@ use Rattle.jffs_run.specs.Looking.{HasSeen}
 use Rattle.jffs_text.specs.Wishes.{wishes_of}
 use Rattle.jffs_run.specs.Numbered.{numbered}
 use Rattle.jffs_run.specs.Ends.{EachFrom, AreCopies, commands_at, accepted_by, all_hands, HandedIn, HandedInAll}
-use Rattle.jffs_run.specs.Headline.{IsRun, IsLeftBy, requests_in, numbers_of}
+use Rattle.jffs_run.specs.Device.{Device, IsLeftBy}
+use Rattle.jffs_run.specs.Account.{Account}
+use Rattle.jffs_run.specs.Headline.{IsRun, requests_in, numbers_of}
 use Rattle.jffs_node.specs.declared.node.Node.{Node}
 use Rattle.jffs_core.specs.Standing.{Standing}
 use Rattle.jffs_core.specs.Past.{StandsFor}
+use Rattle.jffs_core.specs.declared.answer.Answer.{Answer}
 use Rattle.jffs_serve.specs.Answered.{RunsTo}
 
 abbrev seqs : List Request → List ℕ
@@ -170,9 +173,22 @@ module _ {H : Type 0} (g : Hand.Ghosts H) where
         | inr other ↦ subst IsNumbered (sym (passed sender hand hands other.1)) (each_numbered hands (All-tail P hand hands all) sender)
       ]
 
+  -- the account of a run with these hands
+  abbrev pub account_with : List Writer → List ReaderStatement → Hands H → List Answer → List Request → List ReaderEnd → Served → Device → Account
+  account_with script statements hands answers waiting ends served device = record {
+    script = script;
+    statements = statements;
+    accepted = λ sender. accepted_by g sender (all_hands g hands);
+    answers = answers;
+    waiting = waiting;
+    ends = ends;
+    served = served;
+    device = device;
+  }
+
   -- what all threads did makes a run
   pub is_run :
-      (start core : Standing) (count len : ℕ) (image : List ℕ) (faults : ℕ) (erase_failed : Bool) (script : List Writer) (statements : List ReaderStatement) (hands : Hands H) (replies : List Reply) (waiting : List Request) (ends : List ReaderEnd) (served : Served)
+      (start core : Standing) (script : List Writer) (statements : List ReaderStatement) (hands : Hands H) (replies : List Reply) (waiting : List Request) (ends : List ReaderEnd) (served : Served) (device : Device)
       → length script ≤ 8 → length hands.writers.items ≡ length script
       → map g.sender (all_hands g hands) ≡ senders (length script)
       → EachFrom (HandedIn g script) 0 hands.writers.items
@@ -184,10 +200,10 @@ module _ {H : Type 0} (g : Hand.Ghosts H) where
       → All (λ hand. IsNumbered (g.accepted hand)) (all_hands g hands)
       → ((sender : ℕ) → (Contains (map g.sender (all_hands g hands)) sender → ⊥) → of sender (requests_in replies) ++ of sender waiting ≡ [])
       → EachFrom (HasSeen (record { opening = start.tree; steps = map (λ (r : Reply). r.step) replies }) statements) 0 ends
-      → IsLeftBy core count len image faults erase_failed → ((mounted past : List Node) → StandsFor mounted past start → RunsTo start core mounted past replies)
+      → IsLeftBy core device → ((mounted past : List Node) → StandsFor mounted past start → RunsTo start core mounted past replies)
       → FitsServed served (any_closed (map answer_in replies)) replies
-      → IsRun start script statements (λ sender. accepted_by g sender (all_hands g hands)) (map answer_in replies) waiting ends served count len image faults erase_failed
-  is_run start core sectors len image faults erase_failed script statements hands replies waiting ends served eight count numbers first whole copies unmounts replied settled counted others seen left lawful ending =
+      → IsRun start (account_with script statements hands (map answer_in replies) waiting ends served device)
+  is_run start core script statements hands replies waiting ends served device eight count numbers first whole copies unmounts replied settled counted others seen left lawful ending =
       let writers : List H = hands.writers.items in
       let tail : List H = hands.cleaner ∷ hands.control.hand ∷ [] in
       let accepted : ℕ → List Request = λ sender. accepted_by g sender (writers ++ tail) in

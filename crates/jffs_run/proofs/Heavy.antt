@@ -8,7 +8,7 @@ use Rattle.jffs_serve.proofs.Turns.{replies_have_two, no_space_is_heavy, unmount
 use Rattle.jffs_run.specs.Heavy.{RunsHaveRoom}
 
 pub runs_have_room : RunsHaveRoom
-runs_have_room count len faults before had_failed start script statements accepted answers waiting ends served sectors sector_size image faults_now erase_failed fresh run first later r two are keep is =
+runs_have_room before start account fresh run first later r two are keep is =
     let mounted = past_of fresh.scanned.log in
     let ran = run.lawful mounted mounted fresh.stands in
     let volume = volume_of start in

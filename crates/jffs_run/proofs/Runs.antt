@@ -27,11 +27,12 @@ use Rattle.jffs_text.specs.declared.script.Writer.{Writer}
 use Rattle.jffs_text.specs.declared.script.ReaderStatement.{ReaderStatement}
 use Rattle.jffs_run.specs.declared.reader.ReaderEnd.{ReaderEnd}
 use Rattle.jffs_run.specs.declared.crew.Crew.{Crew}
-use Rattle.jffs_run.specs.Ends.{EachFrom, end_of, all_hands, accepted_by}
+use Rattle.jffs_run.specs.Ends.{EachFrom, end_of, all_hands}
 use Rattle.jffs_run.specs.Crew.{HasHandedIn, crew_hands}
 use Rattle.jffs_run.specs.Looking.{HasSeen, IsWhole}
-use Rattle.jffs_run.specs.Headline.{IsRun, IsLeftBy, requests_in}
-use Rattle.jffs_run.proofs.Headlines.{is_run}
+use Rattle.jffs_run.specs.Device.{Device, IsLeftBy}
+use Rattle.jffs_run.specs.Headline.{IsRun, requests_in}
+use Rattle.jffs_run.proofs.Headlines.{account_with, is_run}
 
 -- nothing stands behind a beginning that is as long as the whole
 whole-beginning : {X : Type 0} (xs ys zs : List X) → xs ++ ys ≡ zs → length xs ≡ length zs → xs ≡ zs
@@ -74,8 +75,7 @@ module _ {H : Type 0} (g : Hand.Ghosts H) where
   pub whole_run :
       (script : List Writer) (statements : List ReaderStatement) (crew : Crew H) (hands : Hands H)
       (core : Standing) (kept : Option Kept) (published : History) (pending : List Step)
-      (start : Start) (taken : ℕ → List Request) (replies : List Reply) (waiting : List Request) (ends : List ReaderEnd) (served : Served)
-      (count len : ℕ) (image : List ℕ) (faults : ℕ) (erase_failed : Bool)
+      (start : Start) (taken : ℕ → List Request) (replies : List Reply) (waiting : List Request) (ends : List ReaderEnd) (served : Served) (device : Device)
       → length script ≤ 8 → map g.sender (crew_hands g crew) ≡ senders (length script)
       → HasHandedIn g script crew hands
       → ((w : ℕ) → start.taken w ≡ []) → start.standing.answers ≡ [] → start.put ≡ [] → published.opening ≡ start.standing.tree
@@ -84,10 +84,10 @@ module _ {H : Type 0} (g : Hand.Ghosts H) where
       → All (λ hand. IsNumbered (g.accepted hand)) (all_hands g hands)
       → ((w : ℕ) → (Contains (map g.sender (all_hands g hands)) w → ⊥) → taken w ++ of w waiting ≡ [])
       → ((history : History) → IsWhole published (length core.answers) history → EachFrom (HasSeen history statements) 0 ends)
-      → IsLeftBy core count len image faults erase_failed
+      → IsLeftBy core device
       → FitsServed served core.closed replies
-      → IsRun start.standing script statements (λ sender. accepted_by g sender (all_hands g hands)) core.answers waiting ends served count len image faults erase_failed
-  whole_run script statements crew hands core kept published pending start taken replies waiting ends served count len image faults erase_failed eight numbers handed untaken unanswered unput_before opened_is has settled numbered others seen left ending =
+      → IsRun start.standing (account_with g script statements hands core.answers waiting ends served device)
+  whole_run script statements crew hands core kept published pending start taken replies waiting ends served device eight numbers handed untaken unanswered unput_before opened_is has settled numbered others seen left ending =
       let answers_are : core.answers ≡ map answer_in replies = has.answered ∙ ap (λ (l : List Answer). l ++ map answer_in replies) unanswered in
       let taken_is : (w : ℕ) → taken w ≡ of w (requests_in replies) = λ w. has.all_taken w ∙ ap (λ (l : List Request). l ++ of w (requests_in replies)) (untaken w) in
       let now = same_senders (all_hands g hands) (crew_hands g crew) handed.ends ∙ numbers in
@@ -101,8 +101,8 @@ module _ {H : Type 0} (g : Hand.Ghosts H) where
       let replies_many : length (map answer_in replies) ≡ length replies = length-map replies answer_in in
       let steps_many : length steps ≡ length replies = length-map replies (λ (r : Reply). r.step) in
       ap₂ (λ (t : Tree) (l : List Step). let h : History = record { opening = t; steps = l } in h) (sym opened_is) (sym (whole-beginning published.steps (pending ++ unput kept) steps put (omega arith))) in
-      subst (λ (answers : List Answer). IsRun start.standing script statements (λ sender. accepted_by g sender (all_hands g hands)) answers waiting ends served count len image faults erase_failed) (sym answers_are)
-      (is_run g start.standing core count len image faults erase_failed script statements hands replies waiting ends served eight
+      subst (λ (answers : List Answer). IsRun start.standing (account_with g script statements hands answers waiting ends served device)) (sym answers_are)
+      (is_run g start.standing core script statements hands replies waiting ends served device eight
       (count_writers hands.writers.items hands.cleaner hands.control.hand (length script) now) now
       handed.first handed.whole handed.cleaner handed.control has.reply
       (λ k d below. let w : ℕ = g.sender (get_or (all_hands g hands) k d) in ap (λ (l : List Request). l ++ of w waiting) (sym (taken_is w)) ∙ settled k d below)

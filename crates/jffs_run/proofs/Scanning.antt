@@ -1,5 +1,5 @@
 -- What a run leaves on its device.
-use Rattle.std.proofs.Common.{◌≡◌, ℕ, inl, inr, Bool, false, List, map, sym, subst, ◌∙◌, arith}
+use Rattle.std.proofs.Common.{◌≡◌, inl, inr, false, List, map, sym, subst, ◌∙◌, arith}
 use Rattle.std.proofs.lemmas.Bool.{cases_Bool}
 use Rattle.jffs_node.specs.declared.node.Node.{Node}
 use Rattle.jffs_log.specs.Image.{past_of}
@@ -13,7 +13,8 @@ use Rattle.jffs_serve.specs.Answered.{RunsTo, volume_of, IsRequested, any_failur
 use Rattle.jffs_serve.specs.Replies.{Reply, AllReply, answer_in}
 use Rattle.jffs_serve.proofs.Turns.{replies_are_lawful}
 use Rattle.jffs_serve.proofs.Running.{failures_are_faults}
-use Rattle.jffs_run.specs.Headline.{IsLeftBy, requests_in}
+use Rattle.jffs_run.specs.Device.{Device, IsLeftBy, scan_of}
+use Rattle.jffs_run.specs.Headline.{requests_in}
 use Rattle.jffs_run.specs.Scanned.{RunsLeaveContents, FailedRunsLeaveHistory, RunsWithoutFaults}
 
 -- from the log that was mounted, the answers are lawful for the requests
@@ -25,37 +26,36 @@ lawful_answers start core mounted replies answers all are ran =
     subst (λ (given : List Answer). IsLawful (volume_of start) mounted (requests_in replies) given ran.after) (sym are) (replies_are_lawful start core mounted mounted replies all ran)
 
 -- a scan of the device is one of the core's image
-same_scan : (core : Standing) (sectors sector_size : ℕ) (image : List ℕ) (faults_now : ℕ) (erase_failed : Bool) → IsLeftBy core sectors sector_size image faults_now erase_failed
-    → scan sector_size (split sectors sector_size image) ≡ scan core.book.sector_size (split core.book.sectors core.book.sector_size core.image)
-same_scan core sectors sector_size image faults_now erase_failed left = λ i. scan (left.sizes.1 i) (split (left.sizes.0 i) (left.sizes.1 i) (left.image_is i))
+same_scan : (core : Standing) (device : Device) → IsLeftBy core device → scan_of device ≡ scan core.book.sector_size (split core.book.sectors core.book.sector_size core.image)
+same_scan core device left = λ i. scan (left.sizes.1 i) (split (left.sizes.0 i) (left.sizes.1 i) (left.image_is i))
 
 pub runs_leave_contents : RunsLeaveContents
-runs_leave_contents count len faults before had_failed start script statements accepted answers waiting ends served sectors sector_size image faults_now erase_failed fresh run works =
+runs_leave_contents before start account fresh run works =
     let mounted = past_of fresh.scanned.log in
     let ran = run.lawful mounted mounted fresh.stands in
     let finds = scans_find mounted ran.after run.core ran.stands works in
     record {
       after = ran.after;
-      lawful = lawful_answers start run.core mounted run.replies answers run.each_replies run.answers_are ran;
+      lawful = lawful_answers start run.core mounted run.replies account.answers run.each_replies run.answers_are ran;
       added = finds.added;
       since = finds.since;
       scanned = finds.scanned;
-      found = same_scan run.core sectors sector_size image faults_now erase_failed run.left ∙ finds.found;
+      found = same_scan run.core account.device run.left ∙ finds.found;
       state_is = finds.state_is;
     }
 
 pub failed_runs_leave_history : FailedRunsLeaveHistory
-failed_runs_leave_history count len faults before had_failed start script statements accepted answers waiting ends served sectors sector_size image faults_now erase_failed fresh run fails intact =
+failed_runs_leave_history before start account fresh run fails intact =
     let mounted = past_of fresh.scanned.log in
     let ran = run.lawful mounted mounted fresh.stands in
     let left = run.left in
     let f = failed_finds_with (IsRequested (volume_of start) run.replies ran.after) mounted ran.after run.core (let s = ran.stands in s.grown) (ran.in_hand fresh.works fails) (sym left.erases_are ∙ intact) in
     record {
       after = ran.after;
-      lawful = lawful_answers start run.core mounted run.replies answers run.each_replies run.answers_are ran;
+      lawful = lawful_answers start run.core mounted run.replies account.answers run.each_replies run.answers_are ran;
       finds = record {
         scanned = f.scanned;
-        found = same_scan run.core sectors sector_size image faults_now erase_failed run.left ∙ f.found;
+        found = same_scan run.core account.device run.left ∙ f.found;
         added = f.added;
         since = f.since;
         state_is = f.state_is;
@@ -63,7 +63,7 @@ failed_runs_leave_history count len faults before had_failed start script statem
     }
 
 pub runs_without_faults : RunsWithoutFaults
-runs_without_faults count len faults before had_failed start script statements accepted answers waiting ends served sectors sector_size image faults_now erase_failed fresh run same =
+runs_without_faults before start account fresh run same =
     let mounted = past_of fresh.scanned.log in
     let ran = run.lawful mounted mounted fresh.stands in
     let left = run.left in
@@ -73,5 +73,5 @@ runs_without_faults count len faults before had_failed start script statements a
       | inr works ↦ works
     ] in (
       subst (λ (given : List Answer). any_failure given ≡ false) (sym run.answers_are) (failures_are_faults start run.core mounted mounted run.replies ran fresh.works still),
-      runs_leave_contents count len faults before had_failed start script statements accepted answers waiting ends served sectors sector_size image faults_now erase_failed fresh run works,
+      runs_leave_contents before start account fresh run works,
     )

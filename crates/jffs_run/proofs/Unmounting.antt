@@ -6,18 +6,18 @@ use Rattle.std.proofs.lemmas.Bool.Decides.{eqb_tells}
 use Rattle.std.proofs.lemmas.List.{length-map}
 use Rattle.jffs_node.specs.declared.node.Node.{Node}
 use Rattle.jffs_tree.specs.declared.wish.Wish.{Wish}
-use Rattle.jffs_tree.specs.declared.wish.Wish.TheVariants.{MakeDir, Create, Write, Truncate, Rename, Remove, Copy, Unmount}
+use Rattle.jffs_tree.specs.declared.wish.Wish.TheVariants.{Unmount}
 use Rattle.jffs_tree.specs.declared.wish.Outcome.{Outcome}
 use Rattle.jffs_tree.specs.declared.wish.Outcome.TheVariants.{Appended, Copied, Closed, Refused}
 use Rattle.jffs_tree.specs.declared.wish.Cause.{Cause}
+use Rattle.jffs_tree.proofs.Wishes.{unmount_wish}
 use Rattle.jffs_line.specs.declared.request.Request.{Request}
 use Rattle.jffs_line.specs.Requests.{of, request}
 use Rattle.jffs_log.specs.Image.{past_of}
 use Rattle.jffs_core.specs.Standing.{Standing}
-use Rattle.jffs_core.specs.Acting.{is_closed}
-use Rattle.jffs_core.specs.Step.{Volume, Turn, OutcomeIs, is_unmount_wish}
+use Rattle.jffs_core.specs.Answering.{is_closed}
+use Rattle.jffs_core.specs.Step.{Volume, Turn, OutcomeIs}
 use Rattle.jffs_core.specs.Run.{AreAnswered}
-use Rattle.jffs_core.specs.declared.answer.Answer.{Answer}
 use Rattle.jffs_serve.specs.declared.session.Served.{Served}
 use Rattle.jffs_serve.specs.declared.session.Served.TheVariants as ending
 use Rattle.jffs_serve.specs.Copies.{IsCopy}
@@ -26,14 +26,12 @@ use Rattle.jffs_serve.specs.Replies.{Reply, answer_in, any_closed, RefusesUnmoun
 use Rattle.jffs_serve.proofs.Turns.{replies_are_lawful}
 use Rattle.jffs_text.specs.declared.command.Command.{Command}
 use Rattle.jffs_text.specs.declared.command.Command.TheVariants as command
-use Rattle.jffs_text.specs.declared.script.Writer.{Writer}
-use Rattle.jffs_text.specs.declared.script.ReaderStatement.{ReaderStatement}
 use Rattle.jffs_text.specs.Wishes.{wish_of, wishes_of}
 use Rattle.jffs_run.specs.Numbered.{numbered}
 use Rattle.jffs_run.specs.Ends.{AreCopies, commands_at}
+use Rattle.jffs_run.specs.Account.{Account}
 use Rattle.jffs_run.specs.Headline.{IsRun, requests_in}
 use Rattle.jffs_run.specs.Unmounted.{TookAll, AnswersUnmount, FitsEnd, RunsEndUnmounted}
-use Rattle.jffs_run.specs.declared.reader.ReaderEnd.{ReaderEnd}
 
 -- a request for an Unmount is the control's only one
 abbrev IsControls : Request → Type 0
@@ -88,16 +86,6 @@ refused_one (r ∷ replies) cause all refuses = elim refuses [
 ]
 
 -- only an Unmount is answered Closed
-unmount_wish : (w : Wish) → is_unmount_wish w ≡ true → w ≡ Unmount
-unmount_wish (MakeDir path) is = absurd (cc)
-unmount_wish (Create path) is = absurd (cc)
-unmount_wish (Write path offset bytes) is = absurd (cc)
-unmount_wish (Truncate path size) is = absurd (cc)
-unmount_wish (Rename from to) is = absurd (cc)
-unmount_wish (Remove path) is = absurd (cc)
-unmount_wish (Copy source parent name offset bytes) is = absurd (cc)
-unmount_wish Unmount is = refl
-
 closes_unmount : (o : Outcome) (t : Turn) (q : Request) (copies own : List Node) → OutcomeIs o t q copies own → is_closed o ≡ true → (q.wish ≡ Unmount) × (o ≡ Closed)
 closes_unmount (Appended inode version) t q copies own so closed = absurd (cc)
 closes_unmount (Copied version) t q copies own so closed = absurd (cc)
@@ -145,16 +133,14 @@ nothing : {X : Type 0} (xs ys : List X) → xs ++ ys ≡ [] → xs ≡ []
 nothing [] ys is = refl
 nothing (x ∷ xs) ys is = absurd (cc)
 
-module _ {start : Standing} {script : List Writer} {statements : List ReaderStatement} {accepted : ℕ → List Request} {answers : List Answer} {waiting : List Request} {ends : List ReaderEnd}
-    {served : Served} {sectors sector_size : ℕ} {image : List ℕ} {faults_now : ℕ} {erase_failed : Bool}
-    (run : IsRun start script statements accepted answers waiting ends served sectors sector_size image faults_now erase_failed) where
+module _ {start : Standing} {account : Account} (run : IsRun start account) where
   -- each request for an Unmount that was accepted is the control's
-  accepted_unmounts : (sender : ℕ) → AllByRecursion IsControls (accepted sender)
+  accepted_unmounts : (sender : ℕ) → AllByRecursion IsControls (account.accepted sender)
   accepted_unmounts sender =
       elim (eqb_tells sender 9) [
-        | inl nine ↦ subst (λ (s : ℕ). AllByRecursion IsControls (accepted s)) (sym nine.1) (of_copies (accepted 9) run.cleaner)
+        | inl nine ↦ subst (λ (s : ℕ). AllByRecursion IsControls (account.accepted s)) (sym nine.1) (of_copies (account.accepted 9) run.cleaner)
         | inr not_nine ↦ elim (eqb_tells sender 10) [
-          | inl ten ↦ subst (λ (s : ℕ). AllByRecursion IsControls (accepted s)) (sym ten.1) (elim run.control [
+          | inl ten ↦ subst (λ (s : ℕ). AllByRecursion IsControls (account.accepted s)) (sym ten.1) (elim run.control [
             | inl none ↦ subst (AllByRecursion IsControls) (sym none) tt
             | inr one ↦ subst (AllByRecursion IsControls) (sym one) ((λ is. refl), tt)
           ])
@@ -162,33 +148,33 @@ module _ {start : Standing} {script : List Writer} {statements : List ReaderStat
         ]
       ]
     where
-      of_writers : (sender : ℕ) → sender ≢ 9 → sender ≢ 10 → AllByRecursion IsControls (accepted sender)
+      of_writers : (sender : ℕ) → sender ≢ 9 → sender ≢ 10 → AllByRecursion IsControls (account.accepted sender)
       of_writers zero not_nine not_ten = subst (AllByRecursion IsControls) (sym (run.others zero (λ place below is. absurd (omega arith)) not_nine not_ten)) tt
-      of_writers (suc place) not_nine not_ten = elim (cases_lt place (length script)) [
+      of_writers (suc place) not_nine not_ten = elim (cases_lt place (length account.script)) [
         | inl below ↦
             let same : place + 1 ≡ suc place = omega arith in
-            subst (λ (s : ℕ). AllByRecursion IsControls (accepted s)) same
-            (subst (AllByRecursion IsControls) (sym (run.writers place below)) (of_commands (place + 1) 1 (length (accepted (place + 1))) (commands_at script place)))
+            subst (λ (s : ℕ). AllByRecursion IsControls (account.accepted s)) same
+            (subst (AllByRecursion IsControls) (sym (run.writers place below)) (of_commands (place + 1) 1 (length (account.accepted (place + 1))) (commands_at account.script place)))
         | inr beyond ↦ subst (AllByRecursion IsControls) (sym (run.others (suc place) (λ other below is. absurd (omega arith)) not_nine not_ten)) tt
       ]
 
   answered_unmounts : AllByRecursion IsControls (requests_in run.replies)
   answered_unmounts = of_each IsControls (requests_in run.replies)
-      (λ sender. front IsControls (of sender (requests_in run.replies)) (of sender waiting) (subst (AllByRecursion IsControls) (sym (run.each sender)) (accepted_unmounts sender)))
+      (λ sender. front IsControls (of sender (requests_in run.replies)) (of sender account.waiting) (subst (AllByRecursion IsControls) (sym (run.each sender)) (accepted_unmounts sender)))
 
   -- where the Unmount was answered, all commands were accepted
-  took_all : (outcome : Outcome) → AnswersUnmount run.replies outcome → TookAll script accepted
+  took_all : (outcome : Outcome) → AnswersUnmount run.replies outcome → TookAll account.script account.accepted
   took_all outcome answers = elim run.offered [
-    | inl idle ↦ absurd (asked run.replies outcome answers (nothing (of 10 (requests_in run.replies)) (of 10 waiting) (run.each 10 ∙ idle)))
+    | inl idle ↦ absurd (asked run.replies outcome answers (nothing (of 10 (requests_in run.replies)) (of 10 account.waiting) (run.each 10 ∙ idle)))
     | inr all ↦ λ place below.
-        let wishes : List Wish = wishes_of (commands_at script place) in
-        let many : length (accepted (place + 1)) ≡ length wishes = all place below ∙ sym (length-map (commands_at script place) wish_of) in
+        let wishes : List Wish = wishes_of (commands_at account.script place) in
+        let many : length (account.accepted (place + 1)) ≡ length wishes = all place below ∙ sym (length-map (commands_at account.script place) wish_of) in
         run.writers place below ∙ ap (numbered (place + 1) 1) (ap (λ (k : ℕ). take k wishes) many ∙ take-all wishes)
   ]
 
 pub runs_end_unmounted : RunsEndUnmounted
-runs_end_unmounted count len faults before had_failed start script statements accepted answers waiting ends served sectors sector_size image faults_now erase_failed fresh run =
-    elim served as (λ (s : Served). FitsServed s (any_closed answers) run.replies → FitsEnd s script accepted run.replies) [
+runs_end_unmounted before start account fresh run =
+    elim account.served as (λ (s : Served). FitsServed s (any_closed account.answers) run.replies → FitsEnd s account.script account.accepted run.replies) [
       | ending.Closed ↦ λ closed.
           let mounted = past_of fresh.scanned.log in
           let ran = run.lawful mounted mounted fresh.stands in

@@ -1,24 +1,21 @@
 -- What a run promises.
-use Rattle.std.specs.Prelude.{◌≡◌, ◌≢◌, ℕ, Bool, ◌+◌, ◌<◌, ◌⊎◌, List, [], ◌∷◌, ◌++◌, length, take, map, cond, eqb}
+use Rattle.std.specs.Prelude.{◌≡◌, ◌≢◌, ℕ, ◌+◌, ◌<◌, ◌⊎◌, List, [], ◌∷◌, ◌++◌, length, take, map, cond, eqb}
 use Rattle.std.specs.List.{range_with_len}
 use Rattle.jffs_tree.specs.declared.wish.Wish.TheVariants.{Unmount}
 use Rattle.jffs_line.specs.declared.request.Request.{Request}
 use Rattle.jffs_line.specs.Requests.{of, request}
 use Rattle.jffs_node.specs.declared.node.Node.{Node}
-use Rattle.jffs_log.specs.Book.{HasSizes}
 use Rattle.jffs_core.specs.Standing.{Standing}
 use Rattle.jffs_core.specs.Past.{StandsFor}
 use Rattle.jffs_core.specs.declared.answer.Answer.{Answer}
 use Rattle.jffs_serve.specs.Answered.{RunsTo}
-use Rattle.jffs_serve.specs.declared.session.Served.{Served}
 use Rattle.jffs_serve.specs.Replies.{Reply, AllReply, answer_in, any_closed, FitsServed}
-use Rattle.jffs_text.specs.declared.script.Writer.{Writer}
-use Rattle.jffs_text.specs.declared.script.ReaderStatement.{ReaderStatement}
 use Rattle.jffs_text.specs.Wishes.{wishes_of}
 use Rattle.jffs_run.specs.Numbered.{numbered}
 use Rattle.jffs_run.specs.Ends.{EachFrom, commands_at, AreCopies}
 use Rattle.jffs_run.specs.Looking.{HasSeen}
-use Rattle.jffs_run.specs.declared.reader.ReaderEnd.{ReaderEnd}
+use Rattle.jffs_run.specs.Device.{IsLeftBy}
+use Rattle.jffs_run.specs.Account.{Account}
 
 -- the requests that were answered, in order
 abbrev pub requests_in : List Reply → List Request
@@ -29,31 +26,24 @@ abbrev pub numbers_of : ℕ → List Answer → List ℕ
 numbers_of sender [] = []
 numbers_of sender (answer ∷ answers) = cond (eqb answer.writer sender) (answer.seq ∷ numbers_of sender answers) (numbers_of sender answers)
 
--- The device is as a core left it: of the same sizes, with its image and its count of faults, and an erase failed where one did.
-pub record IsLeftBy (core : Standing) (count len : ℕ) (image : List ℕ) (faults : ℕ) (erase_failed : Bool) : Type 0 where
-  pub sizes : HasSizes count len core.book
-  pub image_is : image ≡ core.image
-  pub faults_are : faults ≡ core.faults
-  pub erases_are : erase_failed ≡ core.erase_failed
-
 -- Some order of the accepted requests was answered, each once, and what each sender has waiting is what it had accepted beyond that, so that its answers are numbered 1, 2, 3, ..
 -- Of each writer the first of its commands were accepted, and all of them where an Unmount was accepted; of the control one Unmount at most, of the cleaner copies alone, and no others
 -- From whatever history the core stood for at the start, the answers are lawful for these requests, and the core at the end, which left the device as it is, stands for the history after them
 -- What was served is told by the answers
 -- Each reader saw what its path reads after a beginning of the answers, from the tree at the start on, or counts as one that saw nothing
-pub record IsRun (start : Standing) (script : List Writer) (statements : List ReaderStatement) (accepted : ℕ → List Request) (answers : List Answer) (waiting : List Request) (ends : List ReaderEnd) (served : Served) (count len : ℕ) (image : List ℕ) (faults : ℕ) (erase_failed : Bool) : Type 0 where
+pub record IsRun (start : Standing) (account : Account) : Type 0 where
   pub replies : List Reply
   pub each_replies : AllReply replies
-  pub answers_are : answers ≡ map answer_in replies
-  pub each : (sender : ℕ) → of sender (requests_in replies) ++ of sender waiting ≡ accepted sender
-  pub numbers : (sender : ℕ) → numbers_of sender answers ≡ range_with_len 1 (length (of sender (requests_in replies)))
-  pub writers : (place : ℕ) → place < length script → accepted (place + 1) ≡ numbered (place + 1) 1 (take (length (accepted (place + 1))) (wishes_of (commands_at script place)))
-  pub offered : (accepted 10 ≡ []) ⊎ ((place : ℕ) → place < length script → length (accepted (place + 1)) ≡ length (commands_at script place))
-  pub control : (accepted 10 ≡ []) ⊎ (accepted 10 ≡ request 10 1 Unmount ∷ [])
-  pub cleaner : AreCopies (accepted 9)
-  pub others : (sender : ℕ) → ((place : ℕ) → place < length script → sender ≢ place + 1) → sender ≢ 9 → sender ≢ 10 → accepted sender ≡ []
+  pub answers_are : account.answers ≡ map answer_in replies
+  pub each : (sender : ℕ) → of sender (requests_in replies) ++ of sender account.waiting ≡ account.accepted sender
+  pub numbers : (sender : ℕ) → numbers_of sender account.answers ≡ range_with_len 1 (length (of sender (requests_in replies)))
+  pub writers : (place : ℕ) → place < length account.script → account.accepted (place + 1) ≡ numbered (place + 1) 1 (take (length (account.accepted (place + 1))) (wishes_of (commands_at account.script place)))
+  pub offered : (account.accepted 10 ≡ []) ⊎ ((place : ℕ) → place < length account.script → length (account.accepted (place + 1)) ≡ length (commands_at account.script place))
+  pub control : (account.accepted 10 ≡ []) ⊎ (account.accepted 10 ≡ request 10 1 Unmount ∷ [])
+  pub cleaner : AreCopies (account.accepted 9)
+  pub others : (sender : ℕ) → ((place : ℕ) → place < length account.script → sender ≢ place + 1) → sender ≢ 9 → sender ≢ 10 → account.accepted sender ≡ []
   pub core : Standing
-  pub left : IsLeftBy core count len image faults erase_failed
+  pub left : IsLeftBy core account.device
   pub lawful : (mounted past : List Node) → StandsFor mounted past start → RunsTo start core mounted past replies
-  pub ending : FitsServed served (any_closed answers) replies
-  pub seen : EachFrom (HasSeen (record { opening = start.tree; steps = map (λ (r : Reply). r.step) replies }) statements) 0 ends
+  pub ending : FitsServed account.served (any_closed account.answers) replies
+  pub seen : EachFrom (HasSeen (record { opening = start.tree; steps = map (λ (r : Reply). r.step) replies }) account.statements) 0 account.ends

@@ -1,5 +1,5 @@
 -- When a run answers NoSpace.
-use Rattle.std.specs.Prelude.{◌≡◌, ◌≢◌, ℕ, ◌≤◌, Bool, true, List, ◌∷◌, ◌++◌, Ok}
+use Rattle.std.specs.Prelude.{◌≡◌, ◌≢◌, ◌≤◌, true, List, ◌∷◌, ◌++◌, Ok}
 use Rattle.jffs_node.specs.declared.node.Node.{Node}
 use Rattle.jffs_node.specs.Record.{is_fresh}
 use Rattle.jffs_tree.specs.declared.wish.Cause.TheVariants.{NoSpace}
@@ -7,20 +7,15 @@ use Rattle.jffs_tree.specs.declared.wish.NewNode.{NewNode}
 use Rattle.jffs_tree.specs.declared.wish.Outcome.TheVariants.{Refused}
 use Rattle.jffs_tree.specs.declared.wish.Wish.TheVariants.{Unmount}
 use Rattle.jffs_tree.specs.Decide.{with}
-use Rattle.jffs_line.specs.declared.request.Request.{Request}
 use Rattle.jffs_log.specs.Image.{past_of}
 use Rattle.jffs_log.specs.Room.{weight, heavy}
 use Rattle.jffs_core.specs.Standing.{Standing}
 use Rattle.jffs_core.specs.Step.{decision}
-use Rattle.jffs_core.specs.Past.{IsFresh}
-use Rattle.jffs_core.specs.declared.answer.Answer.{Answer}
-use Rattle.jffs_serve.specs.declared.session.Served.{Served}
 use Rattle.jffs_serve.specs.Answered.{volume_of}
 use Rattle.jffs_serve.specs.Replies.{Reply}
 use Rattle.jffs_serve.specs.Turns.{IsReplied, AreReplied, has_two, all_keep_two}
-use Rattle.jffs_text.specs.declared.script.Writer.{Writer}
-use Rattle.jffs_text.specs.declared.script.ReaderStatement.{ReaderStatement}
-use Rattle.jffs_run.specs.declared.reader.ReaderEnd.{ReaderEnd}
+use Rattle.jffs_run.specs.Device.{Device, MountsTo}
+use Rattle.jffs_run.specs.Account.{Account}
 use Rattle.jffs_run.specs.Headline.{IsRun}
 
 -- The request was taken after these replies. It asked for no Unmount, and if its node was fresh, the live records weighed the stated share of the volume then.
@@ -34,8 +29,6 @@ pub record TakenWhenHeavy (start : Standing) (mounted : List Node) (before : Lis
 
 -- From a mount on that found two sectors erased, and while each answer keeps two, NoSpace is answered only so.
 abbrev pub RunsHaveRoom : Type 0
-RunsHaveRoom = (count len faults : ℕ) (before : List ℕ) (had_failed : Bool) (start : Standing) (script : List Writer) (statements : List ReaderStatement) (accepted : ℕ → List Request)
-    (answers : List Answer) (waiting : List Request) (ends : List ReaderEnd) (served : Served) (sectors sector_size : ℕ) (image : List ℕ) (faults_now : ℕ) (erase_failed : Bool)
-    → (fresh : IsFresh count len before faults had_failed start) (run : IsRun start script statements accepted answers waiting ends served sectors sector_size image faults_now erase_failed)
+RunsHaveRoom = (before : Device) (start : Standing) (account : Account) (fresh : MountsTo before start) (run : IsRun start account)
     → (first later : List Reply) (r : Reply) → has_two start ≡ true → run.replies ≡ first ++ r ∷ later → all_keep_two first ≡ true → r.step.outcome ≡ Refused NoSpace
     → TakenWhenHeavy start (past_of fresh.scanned.log) first r

@@ -4,6 +4,8 @@ pub mod Started
 pub mod Crew
 pub mod Serving
 pub mod Looking
+pub mod Device
+pub mod Account
 pub mod Headline
 pub mod Accepted
 pub mod Scanned

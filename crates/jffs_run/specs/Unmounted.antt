@@ -1,23 +1,21 @@
 -- What the end of a run tells of what was accepted.
-use Rattle.std.specs.Prelude.{◌≡◌, ℕ, Bool, ◌+◌, ◌<◌, ◌⊎◌, List, [], ◌∷◌, length}
+use Rattle.std.specs.Prelude.{◌≡◌, ℕ, ◌+◌, ◌<◌, ◌⊎◌, List, [], ◌∷◌, length}
 use Rattle.jffs_tree.specs.declared.wish.Wish.TheVariants.{Unmount}
 use Rattle.jffs_tree.specs.declared.wish.Outcome.{Outcome}
 use Rattle.jffs_tree.specs.declared.wish.Outcome.TheVariants.{Closed, Refused}
 use Rattle.jffs_line.specs.declared.request.Request.{Request}
 use Rattle.jffs_line.specs.Requests.{request}
 use Rattle.jffs_core.specs.Standing.{Standing}
-use Rattle.jffs_core.specs.Past.{IsFresh}
-use Rattle.jffs_core.specs.declared.answer.Answer.{Answer}
 use Rattle.jffs_serve.specs.declared.session.Served.{Served}
 use Rattle.jffs_serve.specs.declared.session.Served.TheVariants as served
 use Rattle.jffs_serve.specs.Replies.{Reply}
 use Rattle.jffs_text.specs.declared.script.Writer.{Writer}
-use Rattle.jffs_text.specs.declared.script.ReaderStatement.{ReaderStatement}
 use Rattle.jffs_text.specs.Wishes.{wishes_of}
 use Rattle.jffs_run.specs.Numbered.{numbered}
 use Rattle.jffs_run.specs.Ends.{commands_at}
+use Rattle.jffs_run.specs.Device.{Device, MountsTo}
+use Rattle.jffs_run.specs.Account.{Account}
 use Rattle.jffs_run.specs.Headline.{IsRun}
-use Rattle.jffs_run.specs.declared.reader.ReaderEnd.{ReaderEnd}
 
 -- all commands of every writer were accepted
 abbrev pub TookAll : List Writer → (ℕ → List Request) → Type 0
@@ -37,7 +35,5 @@ FitsEnd served.Memory script accepted replies = Unit {0}
 
 -- Each run from a mount on ends so.
 abbrev pub RunsEndUnmounted : Type 0
-RunsEndUnmounted = (count len faults : ℕ) (before : List ℕ) (had_failed : Bool) (start : Standing) (script : List Writer) (statements : List ReaderStatement) (accepted : ℕ → List Request)
-    (answers : List Answer) (waiting : List Request) (ends : List ReaderEnd) (served : Served) (sectors sector_size : ℕ) (image : List ℕ) (faults_now : ℕ) (erase_failed : Bool)
-    → (fresh : IsFresh count len before faults had_failed start) (run : IsRun start script statements accepted answers waiting ends served sectors sector_size image faults_now erase_failed)
-    → FitsEnd served script accepted run.replies
+RunsEndUnmounted = (before : Device) (start : Standing) (account : Account) (fresh : MountsTo before start) (run : IsRun start account)
+    → FitsEnd account.served account.script account.accepted run.replies

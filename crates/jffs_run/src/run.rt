@@ -19,7 +19,7 @@ use crate::log_thread::start_log;
 use crate::promise::{LogSide, ReaderHandle, WriterHandle};
 use crate::reader::ReaderEnd;
 use crate::starting::{start_readers, start_writers};
-use crate::writer::{Gate, Offered, offer_until};
+use crate::writer::{Gate, offer_until};
 use jffs_flash::Flash;
 use jffs_line::{Control, Hand, Hands, Taker};
 use jffs_text::Script;
@@ -155,13 +155,10 @@ fn ask_unmount<R: Wait, H: Hand>(
     ensures asked { (H.accepted result.hand ≡ []) ⊎ ((log_ended ≡ false) × (H.accepted result.hand ≡ request (H.sender control.hand) 1 Unmount ∷ [])) }
 {
     let mut control = control;
-    if log_ended {
-        return control;
+    if !log_ended {
+        let _ = offer_until(rt, &mut control, Wish::Unmount, ended);
     }
-    match offer_until(rt, &mut control, Wish::Unmount, ended) {
-        Offered::Accepted => control,
-        _ => control,
-    }
+    control
 }
 
 fn flash_of<F: Flash + Drop, T: Taker, W: Wait + Drop>(side: LogSide<F, T, W>) -> F {

@@ -8,8 +8,9 @@ ghost use Rattle.jffs_line.specs.Requests.{of, IsNumbered};
 ghost use Rattle.jffs_run.specs.Ends.{all_hands, accepted_by, end_of};
 ghost use Rattle.jffs_run.specs.Crew.{IsNewLine};
 ghost use Rattle.jffs_core.specs.Standing.{Standing};
-ghost use Rattle.jffs_core.specs.Past.{IsFresh};
-ghost use Rattle.jffs_run.specs.Headline.{IsRun, IsLeftBy};
+ghost use Rattle.jffs_run.specs.Device.{device_of, IsLeftBy, MountsTo};
+ghost use Rattle.jffs_run.specs.Account.{account_of};
+ghost use Rattle.jffs_run.specs.Headline.{IsRun};
 ghost use Rattle.jffs_run.specs.Accepted.{accepted_of};
 
 use crate::crew::{Crew, Finished};
@@ -88,7 +89,7 @@ where
     requires line { IsNewLine T.Of.Hand (T.ends line.taker) (T.taken line.taker) line.hands (vec_len script.now.writers) }
     requires core { (core.answers ≡ []) × (core.closed ≡ false) }
     ensures fault { IfErr result (λ fault. fault.flash ≡ None → fault.why ≡ RunWhy.Spawn) }
-    ensures run { IfOk result (λ r. IsRun core script.now.writers.items script.now.readers.items (λ sender. accepted_by T.Of.Hand sender (all_hands T.Of.Hand r.0.value)) r.1.answers.items r.1.waiting.items r.1.readers.items r.1.served (F.sector_count r.1.flash) (F.sector_len r.1.flash) (F.image r.1.flash) (F.fault_count r.1.flash) (F.erase_failed r.1.flash)) }
+    ensures run { IfOk result (λ r. IsRun core (account_of F.Flash script.now (λ sender. accepted_by T.Of.Hand sender (all_hands T.Of.Hand r.0.value)) r.1)) }
 {
     let Opened {
         publisher,
@@ -133,7 +134,7 @@ fn settle_all<R: Wait, F: Flash + Drop, T: Settle, W: Wait + Drop>(
     ensures fault { IfErr result (λ fault. fault.flash ≡ None → fault.why ≡ RunWhy.Spawn) }
     ensures rest { IfOk result (λ run. (run.answers.items ≡ finished.log.side.session.core.answers) × (run.readers ≡ finished.readers) × (run.served ≡ finished.log.served)) }
     ensures settled { IfOk result (λ run. All (λ h. T.taken finished.log.side.taker (T.Of.sender h) ++ of (T.Of.sender h) run.waiting.items ≡ T.Of.accepted h) (all_hands T.Of.Hand finished.hands)) }
-    ensures left { IfOk result (λ run. IsLeftBy finished.log.side.session.core (F.sector_count run.flash) (F.sector_len run.flash) (F.image run.flash) (F.fault_count run.flash) (F.erase_failed run.flash)) }
+    ensures left { IfOk result (λ run. IsLeftBy finished.log.side.session.core (device_of F.Flash run.flash)) }
     ensures numbered { IfOk result (λ _. All (λ h. IsNumbered (T.Of.accepted h)) (all_hands T.Of.Hand finished.hands)) }
     ensures others { IfOk result (λ run. (w : ℕ) → ¬ (Contains (map T.Of.sender (all_hands T.Of.Hand finished.hands)) w) → T.taken finished.log.side.taker w ++ of w run.waiting.items ≡ []) }
 {
@@ -169,7 +170,7 @@ pub fn run_threads<R: Threads + Wait + Sync, F: Flash + Send + Drop, G: Gate + S
     gate: &G,
 ) -> Result<Run<F>, RunFault<F>>
     ensures fault { IfErr result (λ fault. fault.flash ≡ None → fault.why ≡ RunWhy.Spawn) }
-    ensures run { IfOk result (λ run. (start : Standing) × IsFresh (F.sector_count flash) (F.sector_len flash) (F.image flash) (F.fault_count flash) (F.erase_failed flash) start × IsRun start script.now.writers.items script.now.readers.items (accepted_of run.accepted) run.answers.items run.waiting.items run.readers.items run.served (F.sector_count run.flash) (F.sector_len run.flash) (F.image run.flash) (F.fault_count run.flash) (F.erase_failed run.flash)) }
+    ensures run { IfOk result (λ run. (start : Standing) × MountsTo (device_of F.Flash flash) start × IsRun start (account_of F.Flash script.now (accepted_of run.accepted) run)) }
 {
     let core = match Core::mount(alloc, flash) {
         Ok(core) => core,
@@ -190,7 +191,7 @@ fn run_mounted<R: Threads + Wait + Sync, F: Flash + Send + Drop, G: Gate + Sync>
 ) -> Result<Run<F>, RunFault<F>>
     requires core { (core.answers ≡ []) × (core.closed ≡ false) }
     ensures fault { IfErr result (λ fault. fault.flash ≡ None → fault.why ≡ RunWhy.Spawn) }
-    ensures run { IfOk result (λ run. IsRun core script.now.writers.items script.now.readers.items (accepted_of run.accepted) run.answers.items run.waiting.items run.readers.items run.served (F.sector_count run.flash) (F.sector_len run.flash) (F.image run.flash) (F.fault_count run.flash) (F.erase_failed run.flash)) }
+    ensures run { IfOk result (λ run. IsRun core (account_of F.Flash script.now (accepted_of run.accepted) run)) }
 {
     let writers = script.writers.len();
     if writers > WRITERS_MAX {

@@ -1,26 +1,15 @@
 -- Copies that are handed in.
-use Rattle.std.proofs.Common.{◌≡◌, ℕ, ◌+◌, ◌≤◌, List, [], ◌∷◌, ◌++◌, length, refl, sym, ap, ◌∙◌, append_assoc, append-nil, length-append, arith}
-use Rattle.std.specs.List.{AllByRecursion}
+use Rattle.std.proofs.Common.{◌≡◌, ℕ, ◌+◌, ◌≤◌, List, ◌++◌, length, sym, ap, ◌∙◌, append_assoc, length-append, arith}
+use Rattle.jffs_log.proofs.MountedLog.{each_append}
 use Rattle.jffs_line.specs.declared.request.Request.{Request}
 use Rattle.jffs_serve.specs.Copies.{IsCopy, HandsInCopies}
-
--- nothing was handed in
-pub hands_in_none : (before : List Request) → HandsInCopies before before 0
-hands_in_none before = ([], sym (append-nil before), tt, refl)
-
-pub hands_in_one : (before now : List Request) (r : Request) → now ≡ before ++ r ∷ [] → IsCopy r.wish → HandsInCopies before now 1
-hands_in_one before now r is copy = (r ∷ [], is, (copy, tt), refl)
-
-all_more : (P : Request → Type 0) (xs ys : List Request) → AllByRecursion P xs → AllByRecursion P ys → AllByRecursion P (xs ++ ys)
-all_more P [] ys front back = back
-all_more P (x ∷ xs) ys front back = (front.0, all_more P xs ys front.1 back)
 
 -- two stretches are one
 pub hands_in_more : (before between now : List Request) (m n : ℕ) → HandsInCopies before between m → HandsInCopies between now n → HandsInCopies before now (m + n)
 hands_in_more before between now m n first second = (
   first.0 ++ second.0,
   second.1 ∙ (ap (λ (l : List Request). l ++ second.0) first.1 ∙ append_assoc before first.0 second.0),
-  all_more (λ (r : Request). IsCopy r.wish) first.0 second.0 first.2 second.2,
+  each_append (λ (r : Request). IsCopy r.wish) first.0 second.0 first.2 second.2,
   ap (λ (k : ℕ). k + n) first.3 ∙ (ap (λ (k : ℕ). length first.0 + k) second.3 ∙ sym (length-append first.0 second.0)),
 )
 

@@ -1,14 +1,13 @@
 -- How often a session erases.
 use Rattle.std.proofs.Common.{◌≡◌, ◌+◌, ◌*◌, ℕ, inl, inr, true, false, List, [], ◌∷◌, ◌++◌, length, sym, subst, arith, length-append}
 use Rattle.std.proofs.Math.Nat.{add-mul}
-use Rattle.std.proofs.lemmas.Bool.{cases_Bool}
+use Rattle.std.proofs.lemmas.Bool.{both_ways, cases_Bool}
 use Rattle.jffs_tree.specs.declared.wish.Outcome.{Outcome}
 use Rattle.jffs_core.specs.Standing.{Standing}
-use Rattle.jffs_core.specs.Acting.{KeepsAnswer}
+use Rattle.jffs_core.specs.Answering.{KeepsAnswer}
 use Rattle.jffs_core.specs.Erases.{ErasesAtMost}
 use Rattle.jffs_serve.specs.Replies.{Reply}
 use Rattle.jffs_serve.specs.Answered.{ErasesSince, KeepsHistory}
-use Rattle.jffs_serve.proofs.Keeping.{failed_works}
 
 -- nothing was answered yet
 pub since_start : (start : Standing) → ErasesSince start 0 start
@@ -44,7 +43,7 @@ since_answer start old new replies r writer seq o same kept was erased =
           let before = was.erases in
           let both : (length replies + 1) * start.book.sectors ≡ length replies * start.book.sectors + 1 * start.book.sectors = add-mul (length replies) 1 start.book.sectors in
           omega (arith, before, both);
-      held = λ works. absurd (failed_works old.failed had works);
+      held = λ works. absurd (both_ways old.failed works had);
     })
 
 -- nothing was answered meanwhile

@@ -1,6 +1,6 @@
 -- Calls after which the core stands for the history that it stood for.
-use Rattle.std.proofs.Common.{◌≡◌, ◌⊎◌, ◌<◌, ℕ, List, inl, inr, ⊎_elim, Bool, true, false, not, refl, sym, ap, subst, ◌∙◌, arith, Result, Ok, Err, OnOk, IfOk, IfErr}
-use Rattle.std.proofs.lemmas.Bool.{and_parts, cases_Bool}
+use Rattle.std.proofs.Common.{◌≡◌, ◌⊎◌, ◌<◌, ℕ, List, inl, inr, ⊎_elim, true, false, not, refl, sym, ap, subst, ◌∙◌, arith, Result, Ok, Err, OnOk, IfOk, IfErr}
+use Rattle.std.proofs.lemmas.Bool.{and_parts, both_ways, cases_Bool, false_from_ne_true, not-true}
 use Rattle.jffs_node.specs.declared.node.Node.{Node}
 use Rattle.jffs_tree.specs.declared.wish.Cause.{Cause}
 use Rattle.jffs_tree.specs.declared.wish.Cause.TheVariants as causes
@@ -8,23 +8,26 @@ use Rattle.jffs_log.specs.Book.{HasSizes}
 use Rattle.jffs_core.specs.Standing.{Standing, IsSameButPlaces}
 use Rattle.jffs_core.specs.History.{IsOwnCopy, MayFollow}
 use Rattle.jffs_core.specs.Past.{Knows, StandsFor, HasFailed}
-use Rattle.jffs_core.specs.Acting.{ErasesDead, FailsIn, StopIs}
+use Rattle.jffs_core.specs.Calls.{FailsIn}
+use Rattle.jffs_core.specs.Cleaning.{ErasesDead, StopIs}
 use Rattle.jffs_core.specs.Erases.{ErasesAtMost}
 use Rattle.jffs_core.specs.Jobs.{wants_cleaning, ReadRefused}
 use Rattle.jffs_core.proofs.Contents.{no_growth}
 use Rattle.jffs_core.proofs.Mounting.{clean_ends}
-use Rattle.jffs_core.proofs.Stepping.{works_past, fails_past}
+use Rattle.jffs_core.proofs.Refusing.{works_past, fails_past}
 use Rattle.jffs_serve.specs.Answered.{KeepsHistory}
 
-pub failed_works : (b : Bool) → b ≡ true → b ≡ false → ⊥
-failed_works b t f = cc
+-- a core that had failed has failed still
+pub stays_failed : (old new : Standing) → KeepsHistory old new → old.failed ≡ true → new.failed ≡ true
+stays_failed old new keeps had = ap (λ (c : Standing). c.failed) (keeps.failed had) ∙ had
 
 -- a core that works on had not failed
 pub keeps_worked : (old new : Standing) → KeepsHistory old new → new.failed ≡ false → old.failed ≡ false
-keeps_worked old new keeps works = elim (cases_Bool old.failed) [
-  | inl had ↦ absurd (failed_works new.failed (ap (λ (c : Standing). c.failed) (keeps.failed had) ∙ had) works)
-  | inr worked ↦ worked
-]
+keeps_worked old new keeps works = false_from_ne_true old.failed (λ had. both_ways new.failed works (stays_failed old new keeps had))
+
+-- Of a core that failed, nothing that is said depends on the places.
+pub failed_but_places : (More : Node → Type 0) (past : List Node) (old new : Standing) → IsSameButPlaces old new → HasFailed More past old → HasFailed More past new
+failed_but_places More past old new same h = subst (HasFailed More past) (sym same) (record { clean = h.clean; tree = h.tree; left = h.left })
 
 -- A call that changed nothing that a history says of a core.
 pub same_but_places : (old new : Standing) → IsSameButPlaces old new → KeepsHistory old new
@@ -34,69 +37,66 @@ same_but_places old new same = subst (KeepsHistory old) (sym same) (record {
   failed = λ f. refl;
   faults = λ w past k. refl;
   two = λ w past k two. two;
-  fails = λ works f. absurd (failed_works old.failed f works);
+  fails = λ works f. absurd (both_ways old.failed works f);
   stands = λ mounted past s. record {
     grown = s.grown;
     stands = record {
       working = λ w. s.stands.working w;
-      broken = λ f. let b = s.stands.broken f in record { clean = b.clean; tree = b.tree; left = b.left };
+      broken = λ f. failed_but_places (MayFollow past) past old (record old { places = new.places }) refl (s.stands.broken f);
     };
   };
 })
-
--- two calls after another
-erased_then : (a b c : Standing) → (c.failed ≡ false → b.failed ≡ false) → (b.failed ≡ true → c.book.erases ≡ b.book.erases) → ErasesAtMost 0 a b → ErasesAtMost 0 b c → ErasesAtMost 0 a c
-erased_then a b c worked same first second = record {
-  erases = elim (cases_Bool b.failed) [
-    | inl had ↦ let e = first.erases in let s = same had in omega arith
-    | inr works ↦ let e = first.held works in let f = second.erases in omega arith
-  ];
-  held = λ works. let e = first.held (worked works) in let f = second.held works in omega arith;
-}
 
 -- what a core that works knows it stands for
 standing : (past : List Node) (c : Standing) → c.failed ≡ false → Knows past c → StandsFor past past c
 standing past c works known = record { grown = no_growth past; stands = works_past past c works known }
 
+-- a core that works on knows the same history
+knows_still : (old new : Standing) → KeepsHistory old new → new.failed ≡ false → (past : List Node) → Knows past old → Knows past new
+knows_still old new keeps works past known = (keeps.stands past past (standing past old (keeps_worked old new keeps works) known)).stands.working works
+
+erased_along : (a b c : Standing) → KeepsHistory a b → KeepsHistory b c → ErasesAtMost 0 a c
+erased_along a b c h k =
+    let first = h.erases in
+    let second = k.erases in
+    record {
+      erases = elim (cases_Bool b.failed) [
+        | inl had ↦ let e = first.erases in let s = ap (λ (s : Standing). s.book.erases) (k.failed had) in omega arith
+        | inr works ↦ let e = first.held works in let f = second.erases in omega arith
+      ];
+      held = λ works. let e = first.held (keeps_worked b c k works) in let f = second.held works in omega arith;
+    }
+
 -- two such calls are one
 pub keeps_along : (a b c : Standing) → KeepsHistory a b → KeepsHistory b c → KeepsHistory a c
 keeps_along a b c h k = record {
   sizes = (h.sizes.0 ∙ k.sizes.0, h.sizes.1 ∙ k.sizes.1);
-  erases = erased_then a b c (keeps_worked b c k) (λ f. ap (λ (s : Standing). s.book.erases) (k.failed f)) h.erases k.erases;
-  failed = λ f. k.failed (still f) ∙ ap (λ (s : Standing). record s { places = c.places }) (h.failed f);
+  erases = erased_along a b c h k;
+  failed = λ f. k.failed (stays_failed a b h f) ∙ ap (λ (s : Standing). record s { places = c.places }) (h.failed f);
   faults = λ works past known.
-      let works_first = keeps_worked b c k works in
-      let t = h.stands past past (standing past a (keeps_worked a b h works_first) known) in
-      k.faults works past (t.stands.working works_first) ∙ h.faults works_first past known;
-  two = λ works past known.
-      let works_first = keeps_worked b c k works in
-      let t = h.stands past past (standing past a (keeps_worked a b h works_first) known) in
-      λ two. k.two works past (t.stands.working works_first) (h.two works_first past known two);
+      let between = keeps_worked b c k works in
+      k.faults works past (knows_still a b h between past known) ∙ h.faults between past known;
+  two = λ works past known two.
+      let between = keeps_worked b c k works in
+      k.two works past (knows_still a b h between past known) (h.two between past known two);
   fails = λ works f past known. ⊎_elim
-      (λ failed_first. subst (FailsIn (IsOwnCopy past) past a) (sym (k.failed failed_first)) (same_left past (h.fails works failed_first past known)))
-      (λ works_first.
-      let t = h.stands past past (standing past a works known) in
-      let g = k.fails works_first f past (t.stands.working works_first) in
-      record { fails = g.fails; faults = subst (λ (n : ℕ). n < c.faults) (h.faults works_first past known) g.faults; left = g.left })
+      (λ had.
+      let g = h.fails works had past known in
+      record {
+        fails = f;
+        faults = subst (λ (n : ℕ). a.faults < n) (sym (ap (λ (s : Standing). s.faults) (k.failed had))) g.faults;
+        left = failed_but_places (IsOwnCopy past) past b c (k.failed had) g.left;
+      })
+      (λ between.
+      let g = k.fails between f past (knows_still a b h between past known) in
+      record { fails = f; faults = subst (λ (n : ℕ). n < c.faults) (h.faults between past known) g.faults; left = g.left })
       (cases_Bool b.failed);
   stands = λ mounted past s. k.stands mounted past (h.stands mounted past s);
 }
-  where
-    still : a.failed ≡ true → b.failed ≡ true
-    still f = ap (λ (s : Standing). s.failed) (h.failed f) ∙ f
-
-    same_left : (past : List Node) → FailsIn (IsOwnCopy past) past a b → FailsIn (IsOwnCopy past) past a (record b { places = c.places })
-    same_left past f =
-        let left = f.left in
-        record { fails = f.fails; faults = f.faults; left = record { clean = left.clean; tree = left.tree; left = left.left } }
 
 -- a cleaner is wanted only where the device works
 pub wanted_works : (core : Standing) → wants_cleaning core ≡ true → core.failed ≡ false
-wanted_works core wanted = turned core.failed (and_parts (not core.failed) _ wanted).0
-  where
-    turned : (b : Bool) → not b ≡ true → b ≡ false
-    turned true h = cc
-    turned false h = refl
+wanted_works core wanted = not-true core.failed (and_parts (not core.failed) _ wanted).0
 
 -- nothing was changed
 unchanged : (old new : Standing) → new ≡ old → KeepsHistory old new
@@ -113,9 +113,9 @@ read_failed old new works same now risen =
     record {
       sizes = subst (λ (c : Standing). HasSizes old.book.sectors old.book.sector_size c.book) (sym same) (refl, refl);
       erases = subst (ErasesAtMost 0 old) (sym same) (record { erases = omega arith; held = λ w. omega arith });
-      failed = λ f. absurd (failed_works old.failed f works);
-      faults = λ w past k. absurd (failed_works new.failed now w);
-      two = λ w past k. absurd (failed_works new.failed now w);
+      failed = λ f. absurd (both_ways old.failed works f);
+      faults = λ w past k. absurd (both_ways new.failed w now);
+      two = λ w past k. absurd (both_ways new.failed w now);
       fails = λ w f past k. record { fails = now; faults = risen; left = left past k (IsOwnCopy past) };
       stands = λ mounted past s. record {
         grown = s.grown;
@@ -134,19 +134,7 @@ read_kept old new (Err cause) works same ok refused = by_cause cause refused
     by_cause causes.Memory why = unchanged old new why.1
     by_cause causes.Device why = read_failed old new works same why.1 why.2
     by_cause causes.Failed why = unchanged old new why.1
-    by_cause causes.VersionsSpent why = absurd why
-    by_cause causes.NoSpace why = absurd why
-    by_cause causes.RootFixed why = absurd why
-    by_cause causes.NoParent why = absurd why
-    by_cause causes.NameTaken why = absurd why
-    by_cause causes.NotFound why = absurd why
-    by_cause causes.IsDirectory why = absurd why
-    by_cause causes.DataLong why = absurd why
-    by_cause causes.FileLong why = absurd why
-    by_cause causes.NotEmpty why = absurd why
-    by_cause causes.NotNeeded why = absurd why
-    by_cause causes.Stale why = absurd why
-    by_cause causes.InodesSpent why = absurd why
+    by_cause _ why = absurd why
 
 -- dead sectors were erased, as far as that went
 pub erased_dead :
@@ -161,19 +149,19 @@ erased_dead old new (Ok count) works sizes erased stopped either erases =
     record {
       sizes = sizes;
       erases = erases;
-      failed = λ f. absurd (failed_works old.failed f works);
+      failed = λ f. absurd (both_ways old.failed works f);
       faults = λ w past known. (did past known).faults;
       two = λ w past known. (did past known).two;
-      fails = λ w f past known. absurd (failed_works new.failed f (did past known).still_works);
+      fails = λ w f past known. absurd (both_ways new.failed (did past known).still_works f);
       stands = λ mounted past s. (erased mounted past s).stands;
     }
 erased_dead old new (Err cause) works sizes erased stopped either erases =
     record {
       sizes = sizes;
       erases = erases;
-      failed = λ f. absurd (failed_works old.failed f works);
-      faults = λ w past known. absurd (failed_works new.failed (let h = fell past known in h.fails) w);
-      two = λ w past known. absurd (failed_works new.failed (let h = fell past known in h.fails) w);
+      failed = λ f. absurd (both_ways old.failed works f);
+      faults = λ w past known. absurd (both_ways new.failed w (let h = fell past known in h.fails));
+      two = λ w past known. absurd (both_ways new.failed w (let h = fell past known in h.fails));
       fails = λ w f past known. fell past known;
       stands = λ mounted past s. (stopped mounted past s).0;
     }
@@ -181,7 +169,7 @@ erased_dead old new (Err cause) works sizes erased stopped either erases =
     by_cause : (past : List Node) → StopIs cause past old new → FailsIn (IsOwnCopy past) past old new
     by_cause past why = elim either [
       | inl device ↦ (subst (λ (c : Cause). StopIs c past old new) device why).1
-      | inr failed ↦ absurd (failed_works old.failed (subst (λ (c : Cause). StopIs c past old new) failed why).0 works)
+      | inr failed ↦ absurd (both_ways old.failed works (subst (λ (c : Cause). StopIs c past old new) failed why).0)
     ]
 
     fell : (past : List Node) → Knows past old → FailsIn (IsOwnCopy past) past old new

@@ -9,14 +9,14 @@ use Rattle.jffs_node.specs.declared.node.Node.{Node}
 use Rattle.jffs_tree.specs.declared.wish.Cause.{Cause}
 use Rattle.jffs_tree.specs.declared.wish.Wish.TheVariants.{Unmount}
 use Rattle.jffs_tree.specs.declared.wish.Outcome.{Outcome}
-use Rattle.jffs_tree.specs.declared.wish.Outcome.TheVariants.{Appended, Copied, Closed, Refused}
+use Rattle.jffs_tree.specs.declared.wish.Outcome.TheVariants.{Closed, Refused}
 use Rattle.jffs_line.specs.declared.request.Request.{Request}
 use Rattle.jffs_line.specs.Requests.{of}
 use Rattle.jffs_log.specs.Book.{HasSizes}
 use Rattle.jffs_index.specs.declared.step.Step.{Step}
-use Rattle.jffs_core.specs.Standing.{Standing}
+use Rattle.jffs_core.specs.Standing.{Standing, IsSameButPlaces}
 use Rattle.jffs_core.specs.Past.{StandsFor}
-use Rattle.jffs_core.specs.Acting.{AnswersWith, KeepsAnswer, is_closed}
+use Rattle.jffs_core.specs.Answering.{AnswersWith, KeepsAnswer, is_closed}
 use Rattle.jffs_core.specs.Erases.{ErasesAtMost}
 use Rattle.jffs_core.specs.Nodes.{HasNode}
 use Rattle.jffs_core.specs.declared.answer.Answer.{Answer}
@@ -28,6 +28,7 @@ use Rattle.jffs_serve.specs.declared.session.Session.{Session}
 use Rattle.jffs_serve.specs.Kept.{unput, ending_of, ending_after}
 use Rattle.jffs_serve.specs.Replies.{Reply, Replies, AllReply, answer_in, any_closed, RefusesUnmount, FitsServed}
 use Rattle.jffs_serve.specs.Answered.{Start, HasReplied, KeepsHistory, FitsEnding, RepliesMore, HasSameReplies}
+use Rattle.jffs_serve.proofs.Keeping.{same_but_places}
 use Rattle.jffs_serve.proofs.Erasing.{since_start, since_answer, since_same}
 use Rattle.jffs_serve.proofs.Running.{step_of, reply_of, runs_more, runs_same, runs_from}
 
@@ -58,9 +59,7 @@ ends_so unmounts Closed r replies before closed wish is now s ends =
 ends_so true (Refused cause) r replies before closed wish is now s ends =
     let same : served.NotClosed cause ≡ s = cc in
     subst (λ (t : Served). FitsServed t closed (replies ++ r ∷ [])) same (refuses_last replies r cause (wish refl) is)
-ends_so false (Refused cause) r replies before closed wish is now s ends = absurd (cc)
-ends_so unmounts (Appended inode version) r replies before closed wish is now s ends = absurd (cc)
-ends_so unmounts (Copied version) r replies before closed wish is now s ends = absurd (cc)
+ends_so _ _ r replies before closed wish is now s ends = absurd (cc)
 
 -- one request more is taken and answered
 pub replied_more :
@@ -120,6 +119,14 @@ replied_same start old new kept put before now replies answers closed keeps take
   erases = since_same start.standing old new (length replies) keeps was.erases;
   lawful = λ mounted past stands. runs_same start.standing old new mounted past replies keeps (was.lawful mounted past stands);
 }
+
+-- nothing but the places for answers was changed
+pub replied_places :
+    (start : Start) (old new : Standing) (kept : Option Kept) (put : List Step) (before now : ℕ → List Request) (replies : List Reply)
+    → IsSameButPlaces old new → ((w : ℕ) → now w ≡ before w)
+    → HasReplied start old kept put before replies → HasReplied start new kept put now replies
+replied_places start old new kept put before now replies same taken was =
+    replied_same start old new kept put before now replies (ap (λ (s : Standing). s.answers) same) (ap (λ (s : Standing). s.closed) same) (same_but_places old new same) taken was
 
 -- the step that was kept is put
 pub replied_put :

@@ -1,13 +1,14 @@
 -- The run that replies make goes on.
-use Rattle.std.proofs.Common.{◌≡◌, ◌⊎◌, ◌<◌, ℕ, inl, inr, ⊎_elim, Bool, true, false, ◌&&◌, ◌||◌, List, [], ◌∷◌, ◌++◌, map, refl, sym, ap, subst, ◌∙◌, arith, Option}
+use Rattle.std.proofs.Common.{◌≡◌, ◌⊎◌, ◌<◌, ℕ, inl, inr, ⊎_elim, true, false, ◌&&◌, ◌||◌, List, [], ◌∷◌, ◌++◌, map, refl, sym, ap, subst, ◌∙◌, arith, Option}
+use Rattle.std.proofs.Math.Bool.{or-false}
 use Rattle.std.proofs.lemmas.List.{map-append}
 use Rattle.std.proofs.lemmas.List.Elements.{Contains-append_left, Contains-append_right}
 use Rattle.std.proofs.lemmas.List.Folds.{list_any-append}
-use Rattle.std.proofs.lemmas.Bool.{and_parts, cases_Bool, ltb-true}
+use Rattle.std.proofs.lemmas.Bool.{and_parts, both_ways, cases_Bool, false_from_ne_true, ltb-true, or_cases}
 use Rattle.jffs_node.specs.declared.node.Node.{Node}
 use Rattle.jffs_tree.specs.declared.wish.Cause.TheVariants as causes
 use Rattle.jffs_tree.specs.declared.wish.Outcome.{Outcome}
-use Rattle.jffs_tree.specs.declared.wish.Outcome.TheVariants.{Appended, Copied, Closed, Refused}
+use Rattle.jffs_tree.specs.declared.wish.Outcome.TheVariants.{Refused}
 use Rattle.jffs_line.specs.declared.request.Request.{Request}
 use Rattle.jffs_log.specs.Book.{HasSizes}
 use Rattle.jffs_index.specs.declared.step.Step.{Step}
@@ -16,13 +17,13 @@ use Rattle.jffs_core.specs.History.{IsOwnCopy}
 use Rattle.jffs_core.specs.Step.{Volume, IsStep, OutcomeIs, IsInHand}
 use Rattle.jffs_core.specs.Past.{StandsFor, HasFailed}
 use Rattle.jffs_core.specs.Run.{OnlyCopies, is_failure}
-use Rattle.jffs_core.specs.Acting.{Answers, AnswersWith, KeepsAnswer, turn_of}
-use Rattle.jffs_core.proofs.Stepping.{failed_more}
+use Rattle.jffs_core.specs.Answering.{Answers, AnswersWith, KeepsAnswer, turn_of}
+use Rattle.jffs_core.proofs.Refusing.{failed_more}
 use Rattle.jffs_core.specs.declared.answer.Answer.{Answer}
 use Rattle.jffs_serve.specs.Replies.{Reply, AllReply, answer_in, any_closed}
 use Rattle.jffs_serve.specs.Turns.{IsReplied, has_two, all_keep_two}
 use Rattle.jffs_serve.specs.Answered.{IsRequested, RunsTo, KeepsHistory, FailuresAreFaults, any_failure, volume_of}
-use Rattle.jffs_serve.proofs.Keeping.{failed_works, keeps_worked}
+use Rattle.jffs_serve.proofs.Keeping.{failed_but_places, keeps_worked, stays_failed}
 use Rattle.jffs_serve.proofs.Turns.{replied_further, all_keep_parts, has_two_erased, may_follow, in_order_further}
 
 -- the step of a request
@@ -64,25 +65,9 @@ failed_before volume before after old new q o replies r step is kept was =
 
 -- an answer that tells of a failure is one of two
 which_failure : (o : Outcome) → is_failure o ≡ true → (o ≡ Refused causes.Device) ⊎ (o ≡ Refused causes.Failed)
-which_failure (Appended inode version) h = cc
-which_failure (Copied version) h = cc
-which_failure Closed h = cc
 which_failure (Refused causes.Device) h = inl refl
 which_failure (Refused causes.Failed) h = inr refl
-which_failure (Refused causes.RootFixed) h = cc
-which_failure (Refused causes.NoParent) h = cc
-which_failure (Refused causes.NameTaken) h = cc
-which_failure (Refused causes.NotFound) h = cc
-which_failure (Refused causes.IsDirectory) h = cc
-which_failure (Refused causes.DataLong) h = cc
-which_failure (Refused causes.FileLong) h = cc
-which_failure (Refused causes.NotEmpty) h = cc
-which_failure (Refused causes.NotNeeded) h = cc
-which_failure (Refused causes.Stale) h = cc
-which_failure (Refused causes.InodesSpent) h = cc
-which_failure (Refused causes.VersionsSpent) h = cc
-which_failure (Refused causes.Memory) h = cc
-which_failure (Refused causes.NoSpace) h = cc
+which_failure _ h = cc
 
 fails_now :
     (volume : Volume) (mounted before : List Node) (old new : Standing) (q : Request) (replies : List Reply) (o : Outcome) (node : Option Node)
@@ -110,7 +95,7 @@ fails_now volume mounted before old new q replies o node h same works fails = �
       copies = copies;
       node = own;
     }))) h.after new (h.in_hand device))
-    (λ failed. absurd (failed_works old.failed (h.step.failed_says_so.1 failed) works))
+    (λ failed. absurd (both_ways old.failed works (h.step.failed_says_so.1 failed)))
     (which_failure o fails)
 
 -- where a core that worked answers so, the device failed a call
@@ -122,7 +107,7 @@ faults_now before after old new q o step works fails = ⊎_elim
     let t = turn_of before old new in
     let why : OutcomeIs (Refused causes.Device) t q step.copies step.own = subst (λ x. OutcomeIs x t q step.copies step.own) device step.outcome in
     ltb-true old.faults new.faults why.0)
-    (λ failed. absurd (failed_works old.failed (step.failed_says_so.1 failed) works))
+    (λ failed. absurd (both_ways old.failed works (step.failed_says_so.1 failed)))
     (which_failure o fails)
 
 -- the next answer is lawful where the core stands
@@ -142,7 +127,7 @@ runs_more start old new mounted past request outcome node replies sizes all open
     let volume = volume_of start in
     let same : volume_of old ≡ volume = ap (λ k. record (volume_of old) { sectors = k }) (sym sizes.0) ∙ ap (λ k. record volume { sector_size = k }) (sym sizes.1) in
     let says : old.failed ≡ true → outcome ≡ Refused causes.Failed = step.step.failed_says_so.0 in
-    let worked : new.failed ≡ false → old.failed ≡ false = λ works. worked_before old.failed (λ f. failed_works new.failed (step.fails ∙ tells outcome (says f)) works) in
+    let worked : new.failed ≡ false → old.failed ≡ false = λ works. false_from_ne_true old.failed (λ f. both_ways new.failed works (step.fails ∙ ap is_failure (says f))) in
     let replied : IsReplied volume (has_two start && all_keep_two replies) was.after r step.after = record {
       turn = turn_of was.after old new;
       same_volume = same;
@@ -156,33 +141,24 @@ runs_more start old new mounted past request outcome node replies sizes all open
       stands = step.stands;
       each = replied_further volume (has_two start) past was.after step.after replies r was.each replied;
       in_order = in_order_further start old mounted past replies r step.after was all (may_follow (map answer_in replies) (answer_in r) opened (λ f. says (was.failed f))) replied (refl, refl);
-      two = λ keep works.
+      two = λ keep works two.
           let both = all_keep_parts replies r keep in
-          λ two. step.two both.1 (was.two both.0 (worked works) two);
+          step.two both.1 (was.two both.0 (worked works) two);
       works = λ works. step.faults works ∙ was.works (worked works);
       faults = λ began fails. ⊎_elim
           (λ had. subst (λ (c : Standing). start.faults < c.faults) (sym (kept had)) (was.faults began had))
           (λ now. subst (λ (n : ℕ). n < new.faults) (was.works now) (faults_now was.after step.after old new request outcome step.step now (sym step.fails ∙ fails)))
           (cases_Bool old.failed);
-      failed = λ f. still (any_failure (map answer_in replies)) (is_failure outcome) (λ g. step.fails ∙ tells outcome (says (was.failed g))) (λ e. step.fails ∙ e) (parted f);
+      failed = λ f. ⊎_elim
+          (λ had. step.fails ∙ ap is_failure (says (was.failed had)))
+          (λ now. step.fails ∙ (sym (or-false (is_failure outcome)) ∙ now))
+          (or_cases (any_failure (map answer_in replies)) (is_failure outcome || false) (parted f));
       in_hand = λ works fails. ⊎_elim
           (λ had. failed_before volume was.after step.after old new request outcome replies r step.step (says had) (kept had) (was.in_hand works had))
           (λ now. fails_now volume mounted was.after old new request replies outcome node step same now (sym step.fails ∙ fails))
           (cases_Bool old.failed);
     }
   where
-    tells : (o : Outcome) → o ≡ Refused causes.Failed → is_failure o ≡ true
-    tells o is = ap is_failure is
-
-    worked_before : (b : Bool) → (b ≡ true → ⊥) → b ≡ false
-    worked_before true never = absurd (never refl)
-    worked_before false never = refl
-
-    still : {P : Type 0} (a b : Bool) → (a ≡ true → P) → (b ≡ true → P) → (a || (b || false)) ≡ true → P
-    still true b f g h = f refl
-    still false true f g h = g refl
-    still false false f g h = absurd (cc)
-
     parted : any_failure (map answer_in (replies ++ reply_of request outcome node ∷ [])) ≡ true → (any_failure (map answer_in replies) || (is_failure outcome || false)) ≡ true
     parted f =
         let r : Reply = reply_of request outcome node in
@@ -194,15 +170,14 @@ pub runs_same :
     (start old new : Standing) (mounted past : List Node) (replies : List Reply) → KeepsHistory old new → RunsTo start old mounted past replies → RunsTo start new mounted past replies
 runs_same start old new mounted past replies keeps run =
     let s = run.stands in
-    let same : old.failed ≡ true → new.failed ≡ true = λ had. ap (λ (c : Standing). c.failed) (keeps.failed had) ∙ had in
     record {
       after = run.after;
       stands = keeps.stands mounted run.after s;
       each = run.each;
       in_order = run.in_order;
-      two = λ keep works.
+      two = λ keep works two.
           let worked = keeps_worked old new keeps works in
-          λ two. keeps.two works run.after (s.stands.working worked) (run.two keep worked two);
+          keeps.two works run.after (s.stands.working worked) (run.two keep worked two);
       works = λ works.
           let worked = keeps_worked old new keeps works in
           keeps.faults works run.after (s.stands.working worked) ∙ run.works worked;
@@ -210,11 +185,9 @@ runs_same start old new mounted past replies keeps run =
           (λ had. subst (λ (c : Standing). start.faults < c.faults) (sym (keeps.failed had)) (run.faults began had))
           (λ now. let f = keeps.fails now fails run.after (s.stands.working now) in subst (λ (n : ℕ). n < new.faults) (run.works now) f.faults)
           (cases_Bool old.failed);
-      failed = λ f. same (run.failed f);
+      failed = λ f. stays_failed old new keeps (run.failed f);
       in_hand = λ works fails. ⊎_elim
-          (λ had.
-          let h = run.in_hand works had in
-          subst (HasFailed (InHandOf (volume_of start) replies run.after) run.after) (sym (keeps.failed had)) (record { clean = h.clean; tree = h.tree; left = h.left }))
+          (λ had. failed_but_places (InHandOf (volume_of start) replies run.after) run.after old new (keeps.failed had) (run.in_hand works had))
           (λ now.
           let f = keeps.fails now fails run.after (s.stands.working now) in
           failed_more (IsOwnCopy run.after) (InHandOf (volume_of start) replies run.after) (λ n copy. inl copy) run.after new f.left)
@@ -230,13 +203,11 @@ runs_from start mounted past stands = record {
   in_order = tt;
   two = λ keep works two. two;
   works = λ works. refl;
-  faults = λ works fails. absurd (failed_works start.failed fails works);
+  faults = λ works fails. absurd (both_ways start.failed works fails);
   failed = λ f. absurd (cc);
-  in_hand = λ works fails. absurd (failed_works start.failed fails works);
+  in_hand = λ works fails. absurd (both_ways start.failed works fails);
 }
 
 pub failures_are_faults : FailuresAreFaults
-failures_are_faults start core mounted past replies run began same = elim (cases_Bool (any_failure (map answer_in replies))) [
-  | inl tells ↦ absurd (let risen = run.faults began (run.failed tells) in omega (arith, same, risen))
-  | inr none ↦ none
-]
+failures_are_faults start core mounted past replies run began same = false_from_ne_true (any_failure (map answer_in replies))
+    (λ tells. let risen = run.faults began (run.failed tells) in omega (arith, same, risen))

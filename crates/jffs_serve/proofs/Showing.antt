@@ -1,6 +1,6 @@
 -- What is put shows the core.
 use Rattle.std.proofs.Common.{◌≡◌, true, false, ⊎_elim, List, [], ◌∷◌, ◌++◌, Option, Some, None, refl, sym, ap, ap₂, subst, ◌∙◌, append_assoc}
-use Rattle.std.proofs.lemmas.Bool.{cases_Bool}
+use Rattle.std.proofs.lemmas.Bool.{both_ways, cases_Bool}
 use Rattle.jffs_node.specs.declared.node.Node.{Node}
 use Rattle.jffs_tree.specs.State.{apply}
 use Rattle.jffs_tree.specs.Origin.{Tree, state_in}
@@ -19,7 +19,6 @@ use Rattle.jffs_serve.specs.declared.session.Served.{Served}
 use Rattle.jffs_serve.specs.declared.session.Session.{Session}
 use Rattle.jffs_serve.specs.Kept.{unput, IsReady}
 use Rattle.jffs_serve.specs.Showing.{ShowsCore, IsShown, CanServe}
-use Rattle.jffs_serve.proofs.Keeping.{failed_works}
 
 -- a tree of the state of the one that took a node takes it too
 takes_too : (tree old new : Tree) (node : Option Node) → state_in tree ≡ state_in old → TakesNode old node new → (fits_node tree node ≡ true) × (state_in (tree_with tree node) ≡ state_in new)
@@ -29,7 +28,7 @@ takes_too tree old new (Some n) same took = (test_by_state tree old n same ∙ t
 -- The step of an answer fits what shows the core, and shows it then.
 pub shows_step : (shown : Shown) (old new : Standing) (step : Step) → TellsNode old new step.node → ShowsCore shown.tree old → (fits shown step ≡ true) × ShowsCore (after_step shown step).tree new
 shows_step shown old new step tells shows = ⊎_elim
-    (λ fails. (ap (fits_node shown.tree) (tells.none fails), λ works. absurd (failed_works new.failed fails works)))
+    (λ fails. (ap (fits_node shown.tree) (tells.none fails), λ works. absurd (both_ways new.failed works fails)))
     (λ works.
     let took = takes_too shown.tree old.tree new.tree step.node (shows (tells.worked works)) (tells.taken works) in
     (took.0, λ w. took.1))
@@ -45,7 +44,7 @@ read_tree old new worked same = λ works. (worked, ap (λ (c : Standing). c.tree
 pub places_tree : (old new : Standing) → IsSameButPlaces old new → KeepsTree old new
 places_tree old new same = λ works. (ap (λ (c : Standing). c.failed) (sym same) ∙ works, ap (λ (c : Standing). c.tree) same)
 
-pub shows_on : (tree : Tree) (old new : Standing) → KeepsTree old new → ShowsCore tree old → ShowsCore tree new
+shows_on : (tree : Tree) (old new : Standing) → KeepsTree old new → ShowsCore tree old → ShowsCore tree new
 shows_on tree old new keeps shows = λ works. let k = keeps works in shows k.0 ∙ ap state_in (sym k.1)
 
 pub shown_on : (kept : Option Kept) (shown : Shown) (old new : Standing) → KeepsTree old new → IsShown kept shown old → IsShown kept shown new

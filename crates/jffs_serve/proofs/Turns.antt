@@ -1,22 +1,22 @@
 -- Replies, each lawful in its turn.
-use Rattle.std.proofs.Common.{◌≡◌, ◌≤◌, inl, inr, Bool, true, false, ◌&&◌, ◌||◌, List, [], ◌∷◌, ◌++◌, map, refl, sym, ap, subst, ◌∙◌}
+use Rattle.std.proofs.Common.{◌≡◌, ◌≤◌, Bool, true, false, ◌&&◌, ◌||◌, List, [], ◌∷◌, ◌++◌, map, refl, sym, ap, subst, ◌∙◌}
 use Rattle.std.proofs.Math.Bool.{and-true, and_assoc, or-true}
-use Rattle.std.proofs.lemmas.Bool.{and_parts, or_parts, leb-true, cases_Bool}
+use Rattle.std.proofs.lemmas.Bool.{and_parts, both_ways, false_from_ne_true, leb-true, or_parts}
 use Rattle.std.proofs.lemmas.List.{map-append}
 use Rattle.std.proofs.lemmas.List.Folds.{list_all-append}
 use Rattle.jffs_node.specs.declared.node.Node.{Node}
 use Rattle.jffs_node.specs.Record.{is_fresh}
 use Rattle.jffs_tree.specs.declared.wish.Cause.TheVariants as causes
-use Rattle.jffs_tree.specs.Decide.{with}
+use Rattle.jffs_tree.specs.Decide.{with, is_unmount_wish}
 use Rattle.jffs_tree.specs.declared.wish.Outcome.{Outcome}
-use Rattle.jffs_tree.specs.declared.wish.Outcome.TheVariants.{Closed, Refused}
+use Rattle.jffs_tree.specs.declared.wish.Outcome.TheVariants.{Refused}
 use Rattle.jffs_log.specs.Book.{layout_in}
 use Rattle.jffs_log.specs.Room.{heavy, weight}
 use Rattle.jffs_core.specs.Standing.{Standing}
-use Rattle.jffs_core.specs.Step.{Volume, Turn, IsStep, OutcomeIs, is_unmount_wish}
+use Rattle.jffs_core.specs.Step.{Volume, Turn, IsStep, OutcomeIs}
 use Rattle.jffs_line.specs.declared.request.Request.{Request}
 use Rattle.jffs_core.specs.Run.{OnlyCopies, IsAnswered, AreAnswered, IsInOrder, MayFollowAll, is_failure}
-use Rattle.jffs_core.specs.Acting.{keeps_two, is_closed}
+use Rattle.jffs_core.specs.Answering.{keeps_two, is_closed}
 use Rattle.jffs_core.specs.declared.answer.Answer.{Answer}
 use Rattle.jffs_core.proofs.Lawful.{none_made, run_goes_on}
 use Rattle.jffs_core.proofs.Stepping.{unmounts_have_room}
@@ -86,10 +86,7 @@ replies_have_two volume past after (q ∷ before) later r are keep =
 
 -- a turn that is answered NoSpace is that of a core that works
 no_space_works : (t : Turn) (past after : List Node) (r : Reply) → IsStep t r.request r.step.outcome after → r.step.outcome ≡ Refused causes.NoSpace → t.failed ≡ false
-no_space_works t past after r step is = elim (cases_Bool t.failed) [
-  | inl failed ↦ absurd (let other : Refused causes.NoSpace ≡ Refused causes.Failed = sym is ∙ step.failed_says_so.0 failed in cc)
-  | inr works ↦ works
-]
+no_space_works t past after r step is = false_from_ne_true t.failed (λ failed. let other : Refused causes.NoSpace ≡ Refused causes.Failed = sym is ∙ step.failed_says_so.0 failed in cc)
 
 pub no_space_is_heavy : NoSpaceIsHeavy
 no_space_is_heavy volume past after r n replied is decided fresh =
@@ -109,14 +106,11 @@ unmounts_have_space volume past after r replied wish is =
     let step : IsStep t r.request (Refused causes.NoSpace) after = subst (λ (o : Outcome). IsStep t r.request o after) is replied.step in
     unmounts_have_room t r.request after (ap is_unmount_wish wish) (replied.two_erased refl (no_space_works t past after r replied.step is)) step
 
-closes : is_closed Closed ≡ false → ⊥
-closes e = cc
-
 -- where none closed the session, and a failure was followed by none but Failed, the next may follow
 pub may_follow : (answers : List Answer) (b : Answer) → any_closed answers ≡ false → (any_failure answers ≡ true → b.outcome ≡ Refused causes.Failed) → MayFollowAll answers b
 may_follow [] b opened failed = tt
 may_follow (a ∷ []) b opened failed = record {
-  not_closed = λ is. closes (ap is_closed (sym is) ∙ (or_parts (is_closed a.outcome) false opened).0);
+  not_closed = λ is. both_ways (is_closed a.outcome) (or_parts (is_closed a.outcome) false opened).0 (ap is_closed is);
   failed_stays = λ is. failed (ap (λ (f : Bool). f || false) is);
 }
 may_follow (a ∷ c ∷ answers) b opened failed =

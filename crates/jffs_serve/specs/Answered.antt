@@ -13,7 +13,7 @@ use Rattle.jffs_core.specs.History.{IsOwnCopy}
 use Rattle.jffs_core.specs.Step.{Volume, Turn, IsNodeFor}
 use Rattle.jffs_core.specs.Past.{Knows, StandsFor, HasFailed}
 use Rattle.jffs_core.specs.Run.{IsLawful, IsInOrder, OnlyCopies, is_failure}
-use Rattle.jffs_core.specs.Acting.{FailsIn, KeepsTwo}
+use Rattle.jffs_core.specs.Calls.{FailsIn, KeepsTwo}
 use Rattle.jffs_core.specs.Erases.{ErasesAtMost}
 use Rattle.jffs_core.specs.declared.answer.Answer.{Answer}
 use Rattle.jffs_serve.specs.declared.session.Kept.{Kept}

@@ -3,17 +3,11 @@ use Rattle.std.specs.Prelude.{◌≡◌, ℕ, List, ◌++◌, length}
 use Rattle.std.specs.List.{AllByRecursion}
 use Rattle.jffs_line.specs.declared.request.Request.{Request}
 use Rattle.jffs_tree.specs.declared.wish.Wish.{Wish}
-use Rattle.jffs_tree.specs.declared.wish.Wish.TheVariants.{MakeDir, Create, Write, Truncate, Rename, Remove, Copy, Unmount}
+use Rattle.jffs_tree.specs.declared.wish.Wish.TheVariants.{Copy}
 
 abbrev pub IsCopy : Wish → Type 0
-IsCopy (MakeDir path) = ⊥
-IsCopy (Create path) = ⊥
-IsCopy (Write path offset bytes) = ⊥
-IsCopy (Truncate path size) = ⊥
-IsCopy (Rename from to) = ⊥
-IsCopy (Remove path) = ⊥
 IsCopy (Copy source parent name offset bytes) = Unit {0}
-IsCopy Unmount = ⊥
+IsCopy _ = ⊥
 
 -- so many requests were accepted since, and each asks for a copy
 abbrev pub HandsInCopies : List Request → List Request → ℕ → Type 0

@@ -1,7 +1,7 @@
 -- What a session still has to do with its last answer.
-use Rattle.std.specs.Prelude.{◌≡◌, Bool, true, false, List, [], ◌∷◌, Option, Some, None}
+use Rattle.std.specs.Prelude.{◌≡◌, Bool, true, List, [], ◌∷◌, Option, Some, None}
 use Rattle.jffs_tree.specs.declared.wish.Outcome.{Outcome}
-use Rattle.jffs_tree.specs.declared.wish.Outcome.TheVariants.{Appended, Copied, Closed, Refused}
+use Rattle.jffs_tree.specs.declared.wish.Outcome.TheVariants.{Closed, Refused}
 use Rattle.jffs_index.specs.declared.step.Step.{Step}
 use Rattle.jffs_serve.specs.declared.session.Kept.{Kept}
 use Rattle.jffs_serve.specs.declared.session.Kept.TheVariants.{Unput, Unpublished}
@@ -24,9 +24,7 @@ ending_of (Some (Unpublished ending)) = ending
 abbrev pub ending_after : Bool → Outcome → Option Served
 ending_after unmounts Closed = Some served.Closed
 ending_after true (Refused cause) = Some (served.NotClosed cause)
-ending_after false (Refused cause) = None
-ending_after unmounts (Appended inode version) = None
-ending_after unmounts (Copied version) = None
+ending_after _ _ = None
 
 -- steps wait to be published only where the session knows of it
 abbrev pub IsReady : Option Kept → List Step → Type 0

@@ -7,7 +7,7 @@ use Rattle.jffs_tree.specs.declared.wish.Wish.TheVariants.{Unmount}
 use Rattle.jffs_tree.specs.declared.wish.Outcome.TheVariants.{Refused}
 use Rattle.jffs_index.specs.declared.step.Step.{Step}
 use Rattle.jffs_core.specs.declared.answer.Answer.{Answer}
-use Rattle.jffs_core.specs.Acting.{is_closed}
+use Rattle.jffs_core.specs.Answering.{is_closed}
 use Rattle.jffs_core.specs.Nodes.{HasNode}
 use Rattle.jffs_serve.specs.declared.session.Served.{Served}
 use Rattle.jffs_serve.specs.declared.session.Served.TheVariants as served

@@ -12,7 +12,7 @@ use Rattle.jffs_log.specs.Book.{layout_in}
 use Rattle.jffs_log.specs.Room.{weight, heavy}
 use Rattle.jffs_core.specs.Standing.{Standing}
 use Rattle.jffs_core.specs.Step.{Volume, Turn, IsStep, decision}
-use Rattle.jffs_core.specs.Acting.{keeps_two}
+use Rattle.jffs_core.specs.Answering.{keeps_two}
 use Rattle.jffs_core.specs.Nodes.{listed}
 use Rattle.jffs_serve.specs.Replies.{Reply}
 

@@ -1,7 +1,6 @@
 //! What a session does by itself: it answers a request, erases dead sectors, and sends jobs.
 
 ghost use Rattle.std.specs.Prelude.{◌≡◌, true};
-ghost use Rattle.jffs_tree.specs.declared.wish.Wish.TheVariants.{Unmount};
 ghost use Rattle.jffs_serve.specs.Kept.{ending_after as ending_word};
 
 use crate::jobs::Jobs;
@@ -10,7 +9,7 @@ use jffs_core::Answered;
 use jffs_flash::Flash;
 use jffs_index::Step;
 use jffs_line::Request;
-use jffs_tree::{Outcome, Wish};
+use jffs_tree::Outcome;
 
 impl<F: Flash> Session<F> {
     ghost use Rattle.std.specs.Prelude.{◌≡◌, ◌≢◌, ◌<◌, ℕ, List, [], ◌∷◌, ◌++◌, ◌⊎◌, true, false, Some, None, length};
@@ -35,7 +34,7 @@ impl<F: Flash> Session<F> {
         ensures ready { IsReady self.new.kept [] }
         ensures shown { (shown : Shown) → ShowsCore shown.tree self.old.core → IsShown self.new.kept shown self.new.core }
     {
-        let unmounts = is_unmount(&request.wish);
+        let unmounts = request.wish.is_unmount();
         let writer = request.writer;
         let seq = request.seq;
         let Answered { outcome, node } = self.core.answer_with_node(request);
@@ -108,12 +107,6 @@ impl<F: Flash> Session<F> {
     {
         self.core.wants_cleaning() && self.sent_at != Some(erases)
     }
-}
-
-fn is_unmount(wish: &Wish) -> bool
-    ensures { result ≡ true → wish.now ≡ Unmount }
-{
-    matches!(wish, Wish::Unmount)
 }
 
 /// How serving ends with the answer to a request, if it does.

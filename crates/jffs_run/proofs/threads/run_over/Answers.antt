@@ -53,7 +53,7 @@ returns-clause-run g c =
     let count : vec_len script.writers ≡ length script.writers.items = let ok = script.writers.ok in omega arith in
     let run = whole_run g.T.Of.Hand script.writers.items script.readers.items _ finished.hands
     finished.log.side.session.core finished.log.side.session.kept (published finished.log.side.publisher) (pending finished.log.side.publisher)
-    start (g.T.Taker.taken finished.log.side.taker) more.0 c.in_ok-run.run'.waiting.items finished.readers.items finished.log.served _ _ _ _ _
+    start (g.T.Taker.taken finished.log.side.taker) more.0 c.in_ok-run.run'.waiting.items finished.readers.items finished.log.served _
     (let eight = line.eight in omega (arith, count)) (line.numbers ∙ ap senders count) ran.hands
     line.untaken (ap (λ (s : Standing). s.answers) c.new.ensures.core ∙ c.requires.core.0)
     (ap₂ (λ (h : History) (s : List Step). h.steps ++ s) opened.0 opened.1)

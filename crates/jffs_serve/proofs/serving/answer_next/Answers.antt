@@ -1,8 +1,6 @@
 use Rattle.std.proofs.Common.{rules, ◌≡◌, ap, refl, Some, None}
-use Rattle.jffs_core.specs.Standing.{Standing}
 use Rattle.jffs_serve.specs.declared.session.Served.TheVariants as served
-use Rattle.jffs_serve.proofs.Keeping.{same_but_places}
-use Rattle.jffs_serve.proofs.Replying.{nothing_more, replied_same}
+use Rattle.jffs_serve.proofs.Replying.{nothing_more, replied_places}
 use Rattle.jffs_serve.proofs.Showing.{places_tree, shown_on, shown_sent}
 use Rattle.jffs_serve.specs.Kept.{unput}
 use Rattle.jffs_serve.proofs.serving.answer_next.Goals as goal
@@ -14,7 +12,7 @@ returns-then-is_err-clause-replies g c put start replies was =
     let taken = g.T.Taker.taken c.args.taker.now in
     let same = c.reserve_answer.ensures.same in
     nothing_more start core old.kept put taken replies (Some served.Memory)
-    (replied_same start old.core core old.kept put taken taken replies (ap (λ (s : Standing). s.answers) same) (ap (λ (s : Standing). s.closed) same) (same_but_places old.core core same) (λ w. refl) was) tt
+    (replied_places start old.core core old.kept put taken taken replies same (λ w. refl) was) tt
 
 pub returns-in-Some-clause-replies : goal.returns-in-Some-clause-replies
 returns-in-Some-clause-replies g c put start replies was =
@@ -24,7 +22,7 @@ returns-in-Some-clause-replies g c put start replies was =
     let now = g.T.Taker.taken c.take.new.self in
     let same = c.reserve_answer.ensures.same in
     c.answer.ensures.replies put before now c.in-Some.ensures.taken start replies
-    (replied_same start old.core core old.kept put before before replies (ap (λ (s : Standing). s.answers) same) (ap (λ (s : Standing). s.closed) same) (same_but_places old.core core same) (λ w. refl) was)
+    (replied_places start old.core core old.kept put before before replies same (λ w. refl) was)
 
 pub returns-in-None-clause-replies : goal.returns-in-None-clause-replies
 returns-in-None-clause-replies g c put start replies was =
@@ -34,7 +32,7 @@ returns-in-None-clause-replies g c put start replies was =
     let now = g.T.Taker.taken c.take.new.self in
     let same = c.reserve_answer.ensures.same in
     nothing_more start core old.kept put now replies (Some served.Ended)
-    (replied_same start old.core core old.kept put before now replies (ap (λ (s : Standing). s.answers) same) (ap (λ (s : Standing). s.closed) same) (same_but_places old.core core same) c.in-None.ensures.none was) tt
+    (replied_places start old.core core old.kept put before now replies same c.in-None.ensures.none was) tt
 
 pub returns-then-is_err-clause-shown : goal.returns-then-is_err-clause-shown
 returns-then-is_err-clause-shown g c shown is =

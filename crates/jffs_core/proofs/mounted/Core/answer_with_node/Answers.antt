@@ -6,7 +6,7 @@ use Rattle.jffs_core.specs.Standing.{Standing}
 use Rattle.jffs_core.specs.declared.answer.Answered.{Answered}
 use Rattle.jffs_core.specs.Nodes.{HasNode}
 use Rattle.jffs_core.specs.Past.{Knows}
-use Rattle.jffs_core.specs.Acting.{HasAnswered, KeepsAnswer}
+use Rattle.jffs_core.specs.Answering.{HasAnswered, KeepsAnswer}
 use Rattle.jffs_core.specs.Trees.{TellsNode}
 use Rattle.jffs_core.proofs.Stepping.{failed_answer, answered}
 use Rattle.jffs_core.proofs.Told.{node_told}

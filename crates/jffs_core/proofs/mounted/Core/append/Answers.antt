@@ -7,7 +7,7 @@ use Rattle.jffs_log.specs.History.{IsHistory}
 use Rattle.jffs_log.specs.Room.{has_room}
 use Rattle.jffs_core.specs.Standing.{Standing}
 use Rattle.jffs_core.specs.Past.{IsPast, Knows, has_room_for}
-use Rattle.jffs_core.specs.Acting.{MayPut}
+use Rattle.jffs_core.specs.Appending.{MayPut}
 use Rattle.jffs_core.proofs.Putting.{put_failed, places_kept, counted, put_past, same_history, same_layout}
 use Rattle.jffs_core.proofs.Mounting.{clean_ends}
 use Rattle.jffs_core.proofs.mounted.Core.append.Goals as goal
@@ -27,7 +27,7 @@ had g c =
 
 -- what the core knows after the node
 put_known : (g : _) (c : goal.After-self-1 g) (past : List Node) → Knows past c.args.self.now → MayPut past c.args.self.now.book.sector_size c.args.room c.args.node.now
-    → IsPast (c.args.node.now ∷ past) (g.F.Flash.image c.append.new.self.flash) c.append.new.self.book c.apply.new.self c.count.new.limits c.ends_session-self-inside.result
+    → IsPast (c.args.node.now ∷ past) (g.F.Flash.image c.append.new.self.flash) c.append.new.self.book c.apply.new.self c.count.new.limits c.is_unmount-self-inside.result
 put_known g c past known fits =
     let n = c.args.node.now in
     let b = c.self.inside.log.book in
@@ -41,11 +41,11 @@ put_known g c past known fits =
     let same = c.reserve.ensures.same in
     let e = c.in-Ok.ensures in
     let before : IsHistory (g.F.Flash.image c.reserve.new.self.flash) r past = subst (λ (xs : List ℕ). IsHistory xs r past) (sym same_image) (same_history old b r past (sym same.sectors) (sym same.sector_size) h.history) in
-    put_past past c.args.room n old new b r d c.self.inside.tree c.apply.new.self c.self.inside.limits c.count.new.limits c.self.inside.clean c.ends_session-self-inside.result h may same e.book_sizes
+    put_past past c.args.room n old new b r d c.self.inside.tree c.apply.new.self c.self.inside.limits c.count.new.limits c.self.inside.clean c.is_unmount-self-inside.result h may same e.book_sizes
     (had g c) (e.history past before may.rules) (e.layout ∙ ap (λ (xs : List ℕ). put r.sector_size c.args.room n (layout_in xs r)) same_image)
     (c.in_ok-apply.ensures.ok past h.tree_is)
     (counted b.sector_size past n c.self.inside.limits c.count.new.limits h.limits_are c.count.ensures.data_max c.count.ensures.version c.count.ensures.inode)
-    (c.ends_session-self-inside.ensures ∙ sym e.clean)
+    (c.is_unmount-self-inside.ensures ∙ sym e.clean)
 
 pub invariant_of-self-in-Ok : goal.invariant_of-self-in-Ok
 invariant_of-self-in-Ok g c =

@@ -1,5 +1,7 @@
 use Rattle.std.proofs.Common.{◌≡◌, ◌∙◌, false, ◌/◌, ◌≤◌, inl, inr, Some, None, ap, sym, subst}
+use Rattle.std.proofs.lemmas.Result.{err_from_is_err_and}
 use Rattle.jffs_node.specs.declared.node.Node.{Node}
+use Rattle.jffs_tree.specs.declared.wish.Outcome.TheVariants.{Appended}
 use Rattle.jffs_tree.specs.declared.wish.Cause.{Cause}
 use Rattle.jffs_tree.specs.declared.wish.Cause.TheVariants as causes
 use Rattle.jffs_log.specs.declared.room.Room.TheVariants as rooms
@@ -8,31 +10,34 @@ use Rattle.jffs_core.specs.Standing.{Standing}
 use Rattle.jffs_core.specs.History.{IsOwnCopy, MayFollow}
 use Rattle.jffs_core.specs.Step.{IsInHand}
 use Rattle.jffs_core.specs.Past.{has_room_for}
-use Rattle.jffs_core.specs.Acting.{turn_of}
-use Rattle.jffs_core.proofs.Stepping.{make_stopped, own_in_hand, copies_follow, later_put_keeps, known_version, may_later, its_makes_room, its_len, its_short, its_full, fresh_is, fresh_room, put_fresh, works_past, refused_along, turn_was_full, none_left}
+use Rattle.jffs_core.specs.Answering.{turn_of}
+use Rattle.jffs_core.proofs.Refusing.{copies_follow, works_past, refused_along}
+use Rattle.jffs_core.proofs.Asked.{own_in_hand, known_version, may_later, its_makes_room, its_len, its_short, its_full, fresh_is, fresh_room}
+use Rattle.jffs_core.proofs.Full.{turn_was_full}
+use Rattle.jffs_core.proofs.Stepping.{answers_same, make_stopped, later_put_keeps, put_fresh, none_left}
 use Rattle.jffs_core.proofs.mounted.Core.clean_for.Goals as goal
 
 pub record_len-requires : goal.record_len-requires
 record_len-requires g c = let d = c.requires.decided in its_len d.past _ c.args.request.now c.args.node d.known d
 
-pub returns-in-Err-clause-acted : goal.returns-in-Err-clause-acted
-returns-in-Err-clause-acted g c = λ past known.
+pub returns-in_err-make_room-clause-acted : goal.returns-in_err-make_room-clause-acted
+returns-in_err-make_room-clause-acted g c = let p = err_from_is_err_and c.from_residual.result c.from_residual.ensures.1 in rw (p.1, p.2) λ past known.
     let d = c.requires.decided in
     let q = c.args.request.now in
     let n = c.args.node in
-    let made = c.in-Err.ensures.refused past known in
+    let made = c.in_err-make_room.ensures.refused past known in
     let stopped = made.1 in
-    make_stopped past _ _ q c.requires.working known (IsOwnCopy made.0) n c.in-Err.cause made.0 d (λ m own. (inl own, copies_follow made.0 m own)) (fresh_is past _ q n known d c.requires.no_copy c.requires.no_unmount)
+    make_stopped past _ _ q c.requires.working known (IsOwnCopy made.0) n _ made.0 d (λ m own. (inl own, copies_follow made.0 m own)) (fresh_is past _ q n known d c.requires.no_copy c.requires.no_unmount)
     (its_full past _ q n known d c.make_room.new.self (fresh_room past _ q n known d c.requires.no_copy c.requires.no_unmount) c.requires.no_room) stopped.copies stopped.stands (λ is two. absurd (stopped.no_room is two)) (λ is two. absurd (stopped.no_room is two))
 
-pub returns-in_default-next_version-clause-acted : goal.returns-in_default-next_version-clause-acted
-returns-in_default-next_version-clause-acted g c = λ past known.
+pub returns-in_default-clause-acted : goal.returns-in_default-clause-acted
+returns-in_default-clause-acted g c = λ past known.
     let d = c.requires.decided in
     let q = c.args.request.now in
     let n = c.args.node in
-    let m = c.in_default.ensures.made past known in
+    let m = c.in_ok-make_room.ensures.made past known in
     let h = m.1 in
-    let none = none_left _ c.in_default-next_version.not-Some in
+    let none = none_left _ c.in_default.not-Some in
     let spent = known_version m.0 c.make_room.new.self None h.stands.knows (ap (λ (v : Standing). v.limits.next_version) (sym c.self.view_is) ∙ none) in
     make_stopped past _ _ q c.requires.working known (IsOwnCopy m.0) n causes.VersionsSpent m.0 d (λ m2 own. (inl own, copies_follow m.0 m2 own)) (fresh_is past _ q n known d c.requires.no_copy c.requires.no_unmount)
     (its_full past _ q n known d c.make_room.new.self (fresh_room past _ q n known d c.requires.no_copy c.requires.no_unmount) c.requires.no_room) h.copies (h.stands, spent) (λ is two. absurd (other is)) (λ is. absurd (other is))
@@ -43,7 +48,7 @@ returns-in_default-next_version-clause-acted g c = λ past known.
 pub append-requires-clause-follows : goal.append-requires-clause-follows
 append-requires-clause-follows g c =
     let d = c.requires.decided in
-    let m = c.in_default.ensures.made d.past d.known in
+    let m = c.in_ok-make_room.ensures.made d.past d.known in
     let h = m.1 in (
       m.0,
       h.stands.knows,
@@ -51,42 +56,43 @@ append-requires-clause-follows g c =
           (ap (λ (v : Standing). v.limits.next_version) (sym c.self.view_is) ∙ c.in-Some.is),
     )
 
-pub returns-in-Ok-clause-acted : goal.returns-in-Ok-clause-acted
-returns-in-Ok-clause-acted g c = λ past known.
+pub returns-clause-acted : goal.returns-clause-acted
+returns-clause-acted g c = λ past known.
     let d = c.requires.decided in
     let q = c.args.request.now in
     let n = c.args.node in
     let later : Node = record n { version = c.in-Some.version } in
-    let m = c.in_default.ensures.made past known in
+    let m = c.in_ok-make_room.ensures.made past known in
     let h = m.1 in
-    let p = c.in-Ok.ensures.done in
+    let p = c.in_ok-append.ensures.done in
     let next = ap (λ (v : Standing). v.limits.next_version) (sym c.self.view_is) ∙ c.in-Some.is in
     let may = may_later past m.0 _ c.make_room.new.self q n d c.in-Some.version known c.requires.no_copy c.requires.no_unmount h.copies h.stands.knows c.make_room.ensures.sizes next in
     let fresh = fresh_is past _ q n known d c.requires.no_copy c.requires.no_unmount in
-    put_fresh past _ _ q c.requires.working known n later m.0 d fresh h.copies
+    answers_same past _ _ q c.appended.result (record { outcome = Appended later.inode later.version; node = Some later }) c.appended.ensures
+    (put_fresh past _ _ q c.requires.working known n later m.0 d fresh h.copies
     (inr (its_makes_room past _ q n known d c.append.new.self (fresh_room past _ q n known d c.requires.no_copy c.requires.no_unmount) c.requires.no_room fresh))
     (ap (λ (x : Node). record x { version = c.in-Some.version }) d.is)
     (known_version m.0 c.make_room.new.self (Some c.in-Some.version) h.stands.knows next)
-    p.works (p.faults ∙ h.stands.faults) (later_put_keeps later c.args.self.now c.make_room.new.self c.append.new.self h.two p) (works_past _ _ p.works (p.knows m.0 h.stands.knows may))
+    p.works (p.faults ∙ h.stands.faults) (later_put_keeps later c.args.self.now c.make_room.new.self c.append.new.self h.two p) (works_past _ _ p.works (p.knows m.0 h.stands.knows may)))
 
-pub returns-in-Err-append-clause-acted : goal.returns-in-Err-append-clause-acted
-returns-in-Err-append-clause-acted g c = λ past known.
+pub returns-in_err-append-clause-acted : goal.returns-in_err-append-clause-acted
+returns-in_err-append-clause-acted g c = let p = err_from_is_err_and c.from_residual-in_err-append.result c.from_residual-in_err-append.ensures.1 in rw (p.1, p.2) λ past known.
     let d = c.requires.decided in
     let q = c.args.request.now in
     let n = c.args.node in
     let later : Node = record n { version = c.in-Some.version } in
-    let m = c.in_default.ensures.made past known in
+    let m = c.in_ok-make_room.ensures.made past known in
     let h = m.1 in
-    let r = c.in-Err-append.ensures.refused in
+    let r = c.in_err-append.ensures.refused in
     let next = ap (λ (v : Standing). v.limits.next_version) (sym c.self.view_is) ∙ c.in-Some.is in
     let may = may_later past m.0 _ c.make_room.new.self q n d c.in-Some.version known c.requires.no_copy c.requires.no_unmount h.copies h.stands.knows c.make_room.ensures.sizes next in
     let len = c.record_len.ensures in
     let own : IsInHand (turn_of past c.args.self.now c.append.new.self) q m.0 later = own_in_hand past c.args.self.now q known n later d m.0 c.append.new.self (ap (λ (x : Node). record x { version = c.in-Some.version }) d.is)
     (known_version m.0 c.make_room.new.self (Some c.in-Some.version) h.stands.knows next) in
-    make_stopped past _ _ q c.requires.working known (λ x. x ≡ later) n c.in-Err-append.cause m.0 d
+    make_stopped past _ _ q c.requires.working known (λ x. x ≡ later) n _ m.0 d
     (λ x same. (subst (IsInHand (turn_of past c.args.self.now c.append.new.self) q m.0) (sym same) own, subst (MayFollow m.0) (sym same) may.follows)) (fresh_is past _ q n known d c.requires.no_copy c.requires.no_unmount)
     (its_full past _ q n known d c.append.new.self (fresh_room past _ q n known d c.requires.no_copy c.requires.no_unmount) c.requires.no_room) h.copies
-    (refused_along (λ x. x ≡ later) c.in-Err-append.cause m.0 _ c.make_room.new.self _ h.stands.faults (r.stands m.0 h.stands.knows may))
+    (refused_along (λ x. x ≡ later) _ m.0 _ c.make_room.new.self _ h.stands.faults (r.stands m.0 h.stands.knows may))
     (λ is two. turn_was_full c.record_len.result past m.0 _ c.make_room.new.self known h (subst (λ k. k ≤ c.args.self.now.book.sector_size / 4) (sym len) (its_short past _ q n known d))
     (subst (λ k. has_room_for c.make_room.new.self rooms.Fresh k ≡ false) (sym len) (r.no_room is)) two)
     (λ is two. subst (λ (l : Layout). 2 ≤ l.erased) (sym (r.kept is)) (h.two two))

@@ -1,6 +1,6 @@
 use Rattle.std.proofs.Common.{◌∙◌, sym, ap}
 use Rattle.jffs_core.specs.Standing.{Standing}
-use Rattle.jffs_core.proofs.Turning.{ok_map, err_map, did_clean, did_stop}
+use Rattle.jffs_core.proofs.Called.{ok_map, err_map, did_clean, did_stop}
 use Rattle.jffs_core.proofs.mounted.Core.clean_oldest.Goals as goal
 
 pub returns-clause-cleaned : goal.returns-clause-cleaned

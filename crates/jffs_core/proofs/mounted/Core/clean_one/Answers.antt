@@ -1,7 +1,9 @@
-use Rattle.std.proofs.Common.{◌∙◌, ◌≤◌, ◌<◌, length, refl, sym, ap, subst, arith}
-use Rattle.jffs_log.specs.Book.{layout_in}
+use Rattle.std.proofs.Common.{◌≡◌, ◌∙◌, ℕ, ◌≤◌, ◌<◌, List, [], length, refl, sym, ap, subst, arith}
+use Rattle.jffs_log.specs.declared.book.Book.{Book}
+use Rattle.jffs_log.specs.Book.{IsBook, layout_in}
 use Rattle.jffs_core.specs.Standing.{Standing}
 use Rattle.jffs_core.proofs.Sweeping.{held_is}
+use Rattle.jffs_core.proofs.Copying.{not_for_copy, no_space_for_copy}
 use Rattle.jffs_core.proofs.mounted.Core.clean_one.Goals as goal
 
 pub returns-then-held-lt2-clause-cleaned : goal.returns-then-held-lt2-clause-cleaned
@@ -13,11 +15,28 @@ returns-then-held-lt2-clause-cleaned g c = λ past known.
     let low : length (layout_in (g.F.Flash.image c.self.inside.log.flash) c.self.inside.log.book).sectors < 2 = omega arith in
     (refl, subst (λ (v : Standing). length (layout_in v.image v.book).sectors < 2) c.self.view_is low)
 
+-- the log has as many sectors as are counted
+counted : (image : List ℕ) (b : Book) (held : ℕ) → IsBook image b → held ≡ b.held → 2 ≤ held → 2 ≤ length (layout_in image b).sectors
+counted image b held book is two = let many = held_is image b book in omega arith
+
 pub clean_sector-requires-clause-several : goal.clean_sector-requires-clause-several
 clean_sector-requires-clause-several g c =
     let works = ap (λ (v : Standing). v.failed) c.self.view_is ∙ c.requires.working in
-    let many = held_is (g.F.Flash.image c.self.inside.log.flash) c.self.inside.log.book (c.self.invariant.book works) in
-    let is = c.held.ensures in
-    let test = c.if-held-lt2.false in
-    let low : 2 ≤ length (layout_in (g.F.Flash.image c.self.inside.log.flash) c.self.inside.log.book).sectors = omega arith in
+    let low = counted (g.F.Flash.image c.self.inside.log.flash) c.self.inside.log.book c.held.result (c.self.invariant.book works) c.held.ensures (let test = c.if-held-lt2.false in omega arith) in
     subst (λ (v : Standing). 2 ≤ length (layout_in v.image v.book).sectors) (c.self.view_is ∙ sym c.in-Ok.ensures.kept) low
+
+pub returns-in-Err-clause-stopped : goal.returns-in-Err-clause-stopped
+returns-in-Err-clause-stopped g c = λ past known.
+    let works = ap (λ (v : Standing). v.failed) c.self.view_is ∙ c.requires.working in
+    let low = counted (g.F.Flash.image c.self.inside.log.flash) c.self.inside.log.book c.held.result (c.self.invariant.book works) c.held.ensures (let test = c.if-held-lt2.false in omega arith) in (
+      past,
+      record {
+        several = subst (λ (v : Standing). 2 ≤ length (layout_in v.image v.book).sectors) c.self.view_is low;
+        stopped = record {
+          copies = record { copies = []; true_copies = tt; joined = refl };
+          stands = c.in-Err.ensures.refused past known;
+          no_room = λ e. absurd (no_space_for_copy c.in-Err.cause c.in-Err.ensures.causes e);
+        };
+        wants = not_for_copy c.in-Err.cause past past c.args.self.now c.in-Err.ensures.causes;
+      },
+    )

@@ -1,7 +1,7 @@
 use Rattle.std.proofs.Common.{◌∙◌, ap}
 use Rattle.jffs_core.specs.Standing.{Standing}
 use Rattle.jffs_core.proofs.Sweeping.{oldest_is}
-use Rattle.jffs_core.proofs.Turning.{still_several, now_dead, then_erased}
+use Rattle.jffs_core.proofs.Copying.{still_several, now_dead, then_erased}
 use Rattle.jffs_core.proofs.mounted.Core.clean_sector.Goals as goal
 
 pub copy_each-requires-clause-oldest : goal.copy_each-requires-clause-oldest

@@ -1,10 +1,12 @@
-use Rattle.std.proofs.Common.{◌∙◌, sym, ap, subst, OnOk, IfErr, Result, Ok, Err}
+use Rattle.std.proofs.Common.{◌∙◌, refl, sym, ap, subst, OnOk, IfErr, Result, Ok, Err, None}
 use Rattle.jffs_log.specs.declared.room.Room.TheVariants as rooms
 use Rattle.jffs_tree.specs.Origin.{state_in}
 use Rattle.jffs_tree.specs.Decide.{cleaning_copy}
 use Rattle.jffs_core.specs.Standing.{Standing}
-use Rattle.jffs_core.specs.Acting.{MayPut, HasPut, PutRefused}
-use Rattle.jffs_core.proofs.Sweeping.{is_live_in, copy_is, copy_may, copy_put, copy_refused}
+use Rattle.jffs_core.specs.Appending.{MayPut, HasPut, PutRefused}
+use Rattle.jffs_core.proofs.Sweeping.{lives_by_tree, copy_is, copy_may, copy_put, copy_refused}
+use Rattle.jffs_core.proofs.Asked.{known_version}
+use Rattle.jffs_core.proofs.Stepping.{none_left}
 use Rattle.jffs_core.proofs.mounted.Core.copy.Goals as goal
 
 ok_then : {A E : Type 0} (r : Result A E) (P Q : Type 0) → (P → Q) → OnOk r P → OnOk r Q
@@ -20,7 +22,7 @@ append-requires-clause-follows g c =
     let k = c.requires.known in
     let source = c.args.source.now in
     let old : Standing = c.args.self.now in
-    let live = sym (is_live_in k.0 old.tree source (let h = k.1 in h.tree_is) (let h = k.1 in h.history.rules.falls) k.2) ∙ c.requires.live in
+    let live = lives_by_tree k.0 old source k.1 k.2 c.requires.live in
     let next = ap (λ (v : Standing). v.limits.next_version) (sym c.self.view_is) ∙ c.in-Some.is in
     let is = copy_is k.0 old source c.with.result c.in-Ok.copied c.in-Some.version k.1 c.with.ensures (c.in-Ok.ensures ∙ ap (λ (v : Standing). cleaning_copy (state_in v.tree) source) c.self.view_is) next in
     (k.0, k.1, subst (MayPut k.0 old.book.sector_size rooms.Copy) (sym is) (copy_may k.0 old source c.in-Some.version k.1 k.2 live next c.requires.short))
@@ -32,7 +34,7 @@ returns-in-Ok-clause-copied g c =
     let next = ap (λ (v : Standing). v.limits.next_version) (sym c.self.view_is) ∙ c.in-Some.is in
     ok_then c.append.result (HasPut rooms.Copy c.with.result old c.append.new.self) _
     (λ h past known among.
-    let live = sym (is_live_in past old.tree source known.tree_is known.history.rules.falls among) ∙ c.requires.live in
+    let live = lives_by_tree past old source known among c.requires.live in
     let is = copy_is past old source c.with.result c.in-Ok.copied c.in-Some.version known c.with.ensures (c.in-Ok.ensures ∙ ap (λ (v : Standing). cleaning_copy (state_in v.tree) source) c.self.view_is) next in
     copy_put past old source c.in-Some.version known among live next c.append.new.self c.with.result is c.requires.short h)
     c.append.ensures.done
@@ -44,7 +46,24 @@ returns-in-Ok-clause-stopped g c =
     let next = ap (λ (v : Standing). v.limits.next_version) (sym c.self.view_is) ∙ c.in-Some.is in
     err_then c.append.result (λ cause. PutRefused rooms.Copy c.with.result cause old c.append.new.self) _
     (λ cause h past known among.
-    let live = sym (is_live_in past old.tree source known.tree_is known.history.rules.falls among) ∙ c.requires.live in
+    let live = lives_by_tree past old source known among c.requires.live in
     let is = copy_is past old source c.with.result c.in-Ok.copied c.in-Some.version known c.with.ensures (c.in-Ok.ensures ∙ ap (λ (v : Standing). cleaning_copy (state_in v.tree) source) c.self.view_is) next in
     copy_refused past old source c.in-Some.version known among live next c.append.new.self c.with.result cause is c.requires.short h)
     c.append.ensures.refused
+
+pub returns-in_default-clause-stopped : goal.returns-in_default-clause-stopped
+returns-in_default-clause-stopped g c = λ past known among.
+    let old : Standing = c.args.self.now in
+    let none = ap (λ (v : Standing). v.limits.next_version) (sym c.self.view_is) ∙ none_left _ c.in_default.not-Some in
+    record {
+      live = lives_by_tree past old c.args.source.now known among c.requires.live;
+      stands = (record { works = c.requires.working; faults = refl; knows = known }, known_version past old None known none);
+      no_room = λ e. cc;
+    }
+
+pub returns-in-Err-clause-stopped : goal.returns-in-Err-clause-stopped
+returns-in-Err-clause-stopped g c = λ past known among. record {
+  live = lives_by_tree past c.args.self.now c.args.source.now known among c.requires.live;
+  stands = record { works = c.requires.working; faults = refl; knows = known };
+  no_room = λ e. cc;
+}

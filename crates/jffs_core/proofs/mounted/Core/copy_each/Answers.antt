@@ -7,8 +7,8 @@ use Rattle.jffs_log.specs.RoomLaws.{Among}
 use Rattle.jffs_log.proofs.Appended.{sizes_small}
 use Rattle.jffs_core.specs.Standing.{Standing}
 use Rattle.jffs_core.specs.Past.{Knows}
-use Rattle.jffs_core.specs.Acting.{HasCopied}
-use Rattle.jffs_core.proofs.Turning.{copying_begins, copying_goes_on, copying_has_room, among_more, one_known, one_short, are_few, all_taken}
+use Rattle.jffs_core.specs.Cleaning.{HasCopied}
+use Rattle.jffs_core.proofs.Copying.{copying_begins, copying_goes_on, copying_has_room, among_more, one_known, one_short, are_few, all_taken}
 use Rattle.jffs_core.proofs.mounted.Core.copy_each.Goals as goal
 
 one_most : (b : Bool) (r : ℕ) → r ≡ cond b 1 0 → r ≤ 1

@@ -1,9 +1,9 @@
 use Rattle.std.proofs.Common.{◌∙◌, sym, ap, subst}
 use Rattle.jffs_core.specs.Standing.{Standing}
 use Rattle.jffs_core.specs.Past.{Knows}
-use Rattle.jffs_core.proofs.Stepping.{works_past}
+use Rattle.jffs_core.proofs.Refusing.{works_past}
 use Rattle.jffs_core.proofs.Trees.{tree_kept}
-use Rattle.jffs_core.proofs.Turning.{ok_map, erased_keeps, err_both, device_stop}
+use Rattle.jffs_core.proofs.Called.{ok_map, erased_keeps, err_both, device_stop}
 use Rattle.jffs_core.proofs.mounted.Core.erase_dead.Goals as goal
 
 pub returns-clause-erased : goal.returns-clause-erased
@@ -18,6 +18,7 @@ returns-clause-erased g c =
       faults = e.stands.faults;
       stands = record { grown = s.grown; stands = works_past past _ e.stands.works e.stands.knows };
       log = e.log;
+      dead = e.dead;
       last = e.last;
       two = erased_keeps count c.args.self.now c.erase_while_dead.new.self e.log;
     }) c.erase_while_dead.ensures.erased

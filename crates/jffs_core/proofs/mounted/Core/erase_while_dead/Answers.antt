@@ -2,8 +2,8 @@ use Rattle.std.proofs.Common.{◌≡◌, ◌∙◌, true, false, length, sym, ap
 use Rattle.jffs_log.specs.Book.{layout_in}
 use Rattle.jffs_log.specs.Cleaning.{Layout}
 use Rattle.jffs_core.specs.History.{IsOwnCopy}
-use Rattle.jffs_core.specs.Acting.{IsDeadOldest}
-use Rattle.jffs_core.proofs.Stepping.{refused_along}
+use Rattle.jffs_core.specs.Cleaning.{IsDeadOldest}
+use Rattle.jffs_core.proofs.Refusing.{refused_along}
 use Rattle.jffs_core.proofs.Erasing.{erased_none, erased_along, erasing_goes_on, one_fewer}
 use Rattle.jffs_core.proofs.mounted.Core.erase_while_dead.Goals as goal
 
@@ -19,12 +19,12 @@ pub loop-self-preserved : goal.loop-self-preserved
 loop-self-preserved g c =
     let e = c.in-Ok.ensures in
     let dead : IsDeadOldest c.loop-self.self = c.is_dead_oldest.ensures.0 c.loop-self-test.true in
-    erasing_goes_on c.loop-self.erased c.args.self.now c.loop-self.self c.erase_oldest.new.self c.loop-self.invariant dead.several e.works e.same e.sizes e.log e.erased c.in-Ok.ensures.erases
+    erasing_goes_on c.loop-self.erased c.args.self.now c.loop-self.self c.erase_oldest.new.self c.loop-self.invariant dead e.works e.same e.sizes e.log e.erased c.in-Ok.ensures.erases
 
 pub returns-clause-erased : goal.returns-clause-erased
 returns-clause-erased g c = λ past known.
     let v = c.loop-self.invariant in
-    record { stands = v.done past known; log = v.log; last = λ dead. true_false (sym (c.is_dead_oldest.ensures.1 dead) ∙ c.loop-self-test.false) }
+    record { stands = v.done past known; log = v.log; dead = v.dead past known; last = λ dead. true_false (sym (c.is_dead_oldest.ensures.1 dead) ∙ c.loop-self-test.false) }
   where
     true_false : true ≡ false → ⊥
     true_false e = cc

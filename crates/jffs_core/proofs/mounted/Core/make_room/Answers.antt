@@ -2,7 +2,7 @@ use Rattle.std.proofs.Common.{◌≡◌, ◌∙◌, ◌-◌, ◌+◌, ◌≤◌,
 use Rattle.jffs_log.specs.Book.{layout_in}
 use Rattle.jffs_core.specs.declared.cleaning.Cleaned.{Cleaned}
 use Rattle.jffs_core.specs.Standing.{Standing}
-use Rattle.jffs_core.specs.Acting.{DidClean}
+use Rattle.jffs_core.specs.Cleaning.{DidClean}
 use Rattle.jffs_core.proofs.Sweeping.{held_is}
 use Rattle.jffs_core.proofs.Turning.{HasTurned, turning_begins, turning_ends, turning_goes_on, turning_stopped, full_has_several}
 use Rattle.jffs_core.proofs.mounted.Core.make_room.Goals as goal
@@ -35,7 +35,7 @@ returns-in-Err-clause-refused g c = λ past known.
     let d = c.loop-turn.invariant.done past known in
     let h = d.1 in
     let s = c.in-Err.ensures.stopped d.0 h.stands.knows in
-    (s.0, turning_stopped c.args.len _ past d.0 s.0 c.in-Err.cause c.args.self.now c.loop-turn.self c.clean_one.new.self h s.1)
+    (s.0, turning_stopped c.args.len _ past d.0 s.0 c.in-Err.cause c.args.self.now c.loop-turn.self c.clean_one.new.self h (let one = s.1 in one.stopped))
 
 pub loop-turn-preserved : goal.loop-turn-preserved
 loop-turn-preserved g c =

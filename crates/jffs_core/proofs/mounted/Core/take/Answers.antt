@@ -1,4 +1,4 @@
-use Rattle.jffs_core.proofs.Stepping.{its_len}
+use Rattle.jffs_core.proofs.Asked.{its_len}
 use Rattle.jffs_core.proofs.mounted.Core.take.Goals as goal
 
 pub record_len-requires : goal.record_len-requires

@@ -1,4 +1,5 @@
-use Rattle.std.proofs.Common.{[], ◌∷◌, ◌++◌, sym, subst, Option, Some}
+use Rattle.std.proofs.Common.{[], ◌∷◌, ◌++◌, ◌∙◌, sym, subst, Option, Some}
+use Rattle.jffs_tree.proofs.Wishes.{unmount_wish}
 use Rattle.jffs_serve.specs.declared.session.Kept.{Kept}
 use Rattle.jffs_serve.specs.declared.session.Kept.TheVariants.{Unput}
 use Rattle.jffs_serve.specs.declared.session.Served.{Served}
@@ -19,7 +20,7 @@ returns-clause-replies g c put before now took start replies was =
       r ∷ [],
       subst (λ (e : Option Served). HasReplied start core (Some (Unput r.step e)) put now (replies ++ r ∷ [])) (sym c.ending_after.ensures)
           (replied_more start c.args.self.now.core core c.args.request answered.outcome answered.node c.is_unmount-unmounts.result
-          put before now replies c.requires.opened made.kept made.closed made.node c.is_unmount-unmounts.ensures took made.sizes made.step made.failed made.erases nothing),
+          put before now replies c.requires.opened made.kept made.closed made.node (λ is. unmount_wish c.args.request.wish (sym c.is_unmount-unmounts.ensures ∙ is)) took made.sizes made.step made.failed made.erases nothing),
       tt,
     )
 

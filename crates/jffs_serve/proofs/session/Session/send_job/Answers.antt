@@ -1,8 +1,31 @@
-use Rattle.std.proofs.Common.{rules, ◌≡◌, ◌∙◌, ◌++◌, ◌∷◌, [], true, Some, inr, refl, sym, ap}
+use Rattle.std.proofs.Common.{rules, ◌≡◌, ◌∙◌, ◌++◌, ◌∷◌, [], true, false, Some, inr, refl, sym, ap}
 use Rattle.jffs_core.specs.Standing.{Standing}
+use Rattle.jffs_core.specs.Trees.{KeepsTree}
+use Rattle.jffs_serve.specs.Answered.{HasSameReplies}
 use Rattle.jffs_serve.proofs.Keeping.{read_kept, wanted_works}
 use Rattle.jffs_serve.proofs.Showing.{read_tree}
 use Rattle.jffs_serve.proofs.session.Session.send_job.Goals as goal
+use Rattle.jffs_serve.proofs.session.Session.send_job.Goals.{After-oldest_image}
+
+-- a cleaner is wanted, so the core had not failed when it read
+worked : (g : _) (c : After-oldest_image g) → c.args.self.now.core.failed ≡ false
+worked g c =
+    let asked : c.is_due.result ≡ true = search rules in
+    wanted_works c.args.self.now.core (c.is_due.ensures asked).0
+
+-- the session after the reading, whatever it keeps of the sending
+same_replies : (g : _) (c : After-oldest_image g) → HasSameReplies c.args.self.now (record c.args.self.now { core = c.oldest_image.new.self })
+same_replies g c =
+    let old : Standing = c.args.self.now.core in
+    let read = c.oldest_image.ensures in (
+      ap (λ (s : Standing). s.answers) read.same,
+      ap (λ (s : Standing). s.closed) read.same,
+      refl,
+      read_kept old c.oldest_image.new.self c.oldest_image.result (worked g c) read.same read.works read.refused,
+    )
+
+same_tree : (g : _) (c : After-oldest_image g) → KeepsTree c.args.self.now.core c.oldest_image.new.self
+same_tree g c = read_tree c.args.self.now.core c.oldest_image.new.self (worked g c) c.oldest_image.ensures.same
 
 pub returns-in-Ok-send-clause-job : goal.returns-in-Ok-send-clause-job
 returns-in-Ok-send-clause-job g c =
@@ -16,49 +39,19 @@ returns-in-Ok-send-clause-job g c =
     )
 
 pub returns-in-Ok-send-clause-replies : goal.returns-in-Ok-send-clause-replies
-returns-in-Ok-send-clause-replies g c =
-    let asked : c.is_due.result ≡ true = search rules in
-    let old : Standing = c.args.self.now.core in
-    let read = c.oldest_image.ensures in (
-      ap (λ (s : Standing). s.answers) read.same,
-      ap (λ (s : Standing). s.closed) read.same,
-      refl,
-      read_kept old c.oldest_image.new.self c.oldest_image.result (wanted_works old (c.is_due.ensures asked).0) read.same read.works read.refused,
-    )
+returns-in-Ok-send-clause-replies g c = same_replies g (goal.at.returns-in-Ok-send-clause-replies g c).After-oldest_image
 
 pub returns-in_default-send-clause-replies : goal.returns-in_default-send-clause-replies
-returns-in_default-send-clause-replies g c =
-    let asked : c.is_due.result ≡ true = search rules in
-    let old : Standing = c.args.self.now.core in
-    let read = c.oldest_image.ensures in (
-      ap (λ (s : Standing). s.answers) read.same,
-      ap (λ (s : Standing). s.closed) read.same,
-      refl,
-      read_kept old c.oldest_image.new.self c.oldest_image.result (wanted_works old (c.is_due.ensures asked).0) read.same read.works read.refused,
-    )
+returns-in_default-send-clause-replies g c = same_replies g (goal.at.returns-in_default-send-clause-replies g c).After-oldest_image
 
 pub returns-in_default-clause-replies : goal.returns-in_default-clause-replies
-returns-in_default-clause-replies g c =
-    let asked : c.is_due.result ≡ true = search rules in
-    let old : Standing = c.args.self.now.core in
-    let read = c.oldest_image.ensures in (
-      ap (λ (s : Standing). s.answers) read.same,
-      ap (λ (s : Standing). s.closed) read.same,
-      refl,
-      read_kept old c.oldest_image.new.self c.oldest_image.result (wanted_works old (c.is_due.ensures asked).0) read.same read.works read.refused,
-    )
+returns-in_default-clause-replies g c = same_replies g (goal.at.returns-in_default-clause-replies g c).After-oldest_image
 
 pub returns-in-Ok-send-clause-tree : goal.returns-in-Ok-send-clause-tree
-returns-in-Ok-send-clause-tree g c =
-    let asked : c.is_due.result ≡ true = search rules in
-    read_tree c.args.self.now.core c.oldest_image.new.self (wanted_works c.args.self.now.core (c.is_due.ensures asked).0) c.oldest_image.ensures.same
+returns-in-Ok-send-clause-tree g c = same_tree g (goal.at.returns-in-Ok-send-clause-tree g c).After-oldest_image
 
 pub returns-in_default-send-clause-tree : goal.returns-in_default-send-clause-tree
-returns-in_default-send-clause-tree g c =
-    let asked : c.is_due.result ≡ true = search rules in
-    read_tree c.args.self.now.core c.oldest_image.new.self (wanted_works c.args.self.now.core (c.is_due.ensures asked).0) c.oldest_image.ensures.same
+returns-in_default-send-clause-tree g c = same_tree g (goal.at.returns-in_default-send-clause-tree g c).After-oldest_image
 
 pub returns-in_default-clause-tree : goal.returns-in_default-clause-tree
-returns-in_default-clause-tree g c =
-    let asked : c.is_due.result ≡ true = search rules in
-    read_tree c.args.self.now.core c.oldest_image.new.self (wanted_works c.args.self.now.core (c.is_due.ensures asked).0) c.oldest_image.ensures.same
+returns-in_default-clause-tree g c = same_tree g (goal.at.returns-in_default-clause-tree g c).After-oldest_image

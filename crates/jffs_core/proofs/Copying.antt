@@ -1,0 +1,223 @@
+-- The oldest sector, record by record.
+use Rattle.std.proofs.Common.{◌≡◌, ◌⊎◌, inl, inr, ℕ, zero, suc, ◌+◌, ◌-◌, ◌/◌, ◌≤◌, ◌<◌, Bool, true, false, cond, List, [], ◌∷◌, ◌++◌, length, map, take, drop, get_or, refl, sym, ap, subst, ◌∙◌, arith, drop-cons}
+use Rattle.std.specs.List.{AllByRecursion}
+use Rattle.std.proofs.Math.Seq.{take-suc}
+use Rattle.std.proofs.lemmas.List.{take-append-drop}
+use Rattle.std.proofs.lemmas.Bool.{and_parts}
+use Rattle.jffs_node.specs.declared.node.Node.{Node}
+use Rattle.jffs_node.specs.Record.{record_len, dsize, has_place}
+use Rattle.jffs_tree.specs.declared.wish.Cause.{Cause}
+use Rattle.jffs_tree.specs.declared.wish.Cause.TheVariants as causes
+use Rattle.jffs_tree.specs.Origin.{Tree, is_live, tree_of}
+use Rattle.jffs_log.specs.Image.{Placed}
+use Rattle.jffs_log.specs.Book.{HasSizes, layout_in, oldest_in, lives_in}
+use Rattle.jffs_log.specs.Cleaning.{Session, handled, handled_each, copy_has_room, copies_have_room, oldest_records, erase_oldest, stands_from, versions_fall}
+use Rattle.jffs_log.specs.RoomLaws.{Among}
+use Rattle.jffs_log.proofs.Sectors.{stands_among}
+use Rattle.jffs_log.proofs.SectorSpellings.{in_place_fits, record_long}
+use Rattle.jffs_log.proofs.Histories.{lives_as}
+use Rattle.jffs_log.proofs.Copied.{opposite, copies_take_over, unmounts_are_dead}
+use Rattle.jffs_log.proofs.Loop.{handled_in_parts, oldest_stays}
+use Rattle.jffs_log.proofs.Bound.{cleaning_has_room, handled_are_dead, no_room}
+use Rattle.jffs_core.specs.Standing.{Standing, SameAnswers}
+use Rattle.jffs_core.specs.History.{IsOwnCopy}
+use Rattle.jffs_core.specs.Past.{Knows, session}
+use Rattle.jffs_core.specs.Cleaning.{HasHandled, CopyStopped, HasCopied, HasCleaned, HasErased, WantsCopy, SectorStopped, copies_would_fit}
+use Rattle.jffs_core.proofs.Lawful.{copies_along}
+use Rattle.jffs_core.proofs.RoomMade.{oldest_known}
+use Rattle.jffs_core.proofs.Refusing.{refused_along}
+use Rattle.jffs_core.proofs.Full.{sizes_low}
+use Rattle.jffs_core.proofs.Sweeping.{oldest_is}
+
+-- So many of the oldest sector's records were handled.
+pub record IsCopying (nodes : List Node) (k copies : ℕ) (old now : Standing) : Type 0 where
+  pub works : now.failed ≡ false
+  pub same : SameAnswers old now
+  pub sizes : HasSizes old.book.sectors old.book.sector_size now.book
+  pub erases : now.book.erases ≡ old.book.erases
+  pub few : copies ≤ k
+  pub done : (past : List Node) → Knows past old → (after : List Node) × HasCopied (take k nodes) past after copies old now
+
+pub copying_begins : (nodes : List Node) (c : Standing) → c.failed ≡ false → IsCopying nodes 0 0 c c
+copying_begins nodes c works = record {
+  works = works;
+  same = record { answers = refl; places = refl; closed = refl };
+  sizes = (refl, refl);
+  erases = refl;
+  few = omega arith;
+  done = λ past known. (
+    past,
+    record {
+      added = record { copies = []; true_copies = tt; joined = refl };
+      stands = record { works = works; faults = refl; knows = known };
+      turn = refl;
+      counted = omega arith;
+    },
+  );
+}
+
+all_at : (P : Node → Type 0) (xs : List Node) (i : ℕ) (d : Node) → i < length xs → AllByRecursion P xs → P (get_or xs i d)
+all_at P [] i d l h = absurd (omega arith)
+all_at P (x ∷ xs) zero d l h = h.0
+all_at P (x ∷ xs) (suc i) d l h = all_at P xs i d (omega arith) h.1
+
+pub among_more : (n : Node) (copies past after : List Node) → after ≡ copies ++ past → Among n past → Among n after
+among_more n copies past after is a = subst (Among n) (sym is) (behind copies)
+  where
+    behind : (xs : List Node) → Among n (xs ++ past)
+    behind [] = a
+    behind (x ∷ xs) = inr (behind xs)
+
+-- the records of the oldest sector are in the history, and short
+module _ (nodes past : List Node) (c : Standing) (known : Knows past c) (oldest : nodes ≡ oldest_records (layout_in c.image c.book).sectors) where
+  all_known : AllByRecursion (λ n. Among n past) nodes
+  all_known = subst (AllByRecursion (λ n. Among n past)) (sym oldest) (oldest_known past (layout_in c.image c.book).sectors known.sound.known)
+
+  oldest_stands : (sectors : List (List Node)) → AllByRecursion (λ ns. stands_from c.book.sector_size 0 ns ≡ true) sectors → stands_from c.book.sector_size 0 (oldest_records sectors) ≡ true
+  oldest_stands [] h = refl
+  oldest_stands (s ∷ sectors) h = h.0
+
+  its_stand : stands_from c.book.sector_size 0 nodes ≡ true
+  its_stand = ap (stands_from c.book.sector_size 0) oldest ∙ oldest_stands (layout_in c.image c.book).sectors known.sound.stands
+
+  pub one_known : (i : ℕ) (d : Node) → i < length nodes → Among (get_or nodes i d) past
+  one_known i d l = all_at (λ n. Among n past) nodes i d l all_known
+
+  pub one_short : (i : ℕ) (d : Node) → i < length nodes → record_len (get_or nodes i d) ≤ c.book.sector_size / 4
+  one_short i d l = all_at (λ n. record_len n ≤ c.book.sector_size / 4) nodes i d l (stands_among c.book.sector_size 0 nodes its_stand)
+
+  count : (z place : ℕ) (ns : List Node) → stands_from z place ns ≡ true → length ns ≤ z - place
+  count z place [] h = omega arith
+  count z place (n ∷ ns) h =
+      let a = and_parts (has_place n.kind (dsize n) (z / 4) (z - place)) (stands_from z (place + record_len n) ns) h in
+      let fits = in_place_fits n.kind (dsize n) (z / 4) (z - place) a.0 in
+      let long = record_long n in
+      let later = count z (place + record_len n) ns a.1 in
+      omega arith
+
+  pub are_few : length nodes ≤ c.book.sector_size
+  are_few = let l = count c.book.sector_size 0 nodes its_stand in omega arith
+
+pub all_taken : (xs : List Node) (k : ℕ) → length xs ≤ k → take k xs ≡ xs
+all_taken [] zero l = refl
+all_taken [] (suc k) l = refl
+all_taken (x ∷ xs) zero l = absurd (omega arith)
+all_taken (x ∷ xs) (suc k) l = ap (λ (ys : List Node). x ∷ ys) (all_taken xs k (omega arith))
+
+-- One record more.
+pub copying_goes_on : (nodes past after : List Node) (k copies more : ℕ) (node : Node) (is_copied : Bool) (old middle new : Standing) → k < length nodes → node ≡ get_or nodes k node → HasSizes old.book.sectors old.book.sector_size middle.book
+    → HasCopied (take k nodes) past after copies old middle → HasHandled after node is_copied middle new → more ≡ copies + (cond is_copied 1 0) → (later : List Node) × HasCopied (take (k + 1) nodes) past later more old new
+copying_goes_on nodes past after k copies more node is_copied old middle new below is sizes h one sum =
+    let z = old.book.sector_size in
+    let s = session past old in
+    let taken : take (k + 1) nodes ≡ take k nodes ++ node ∷ [] = ap (λ j. take j nodes) add-one_at ∙ take-suc nodes k node below ∙ ap (λ m. take k nodes ++ m ∷ []) (sym is) in (
+      one.after,
+      record {
+        added = copies_along past after one.after h.added one.added;
+        stands = record { works = one.stands.works; faults = one.stands.faults ∙ h.stands.faults; knows = one.stands.knows };
+        turn =
+            one.turn
+            ∙ ap (λ y. handled y node (session after middle)) (sym sizes.1)
+            ∙ ap (handled z node) h.turn
+            ∙ sym (handled_in_parts z (take k nodes) (node ∷ []) s).0
+            ∙ ap (λ ns. handled_each z ns s) (sym taken);
+        counted = let a = one.counted in let b = h.counted in let e = by_cond is_copied in omega arith;
+      },
+    )
+  where
+    add-one_at : k + 1 ≡ suc k
+    add-one_at = omega arith
+
+    by_cond : (b : Bool) → cond b 1 0 + length after ≡ length after + cond b 1 0
+    by_cond b = omega arith
+
+among_all : (xs : List Node) (i : ℕ) (d : Node) → i < length xs → Among (get_or xs i d) xs
+among_all [] i d below = absurd (omega arith)
+among_all (x ∷ xs) zero d below = inl refl
+among_all (x ∷ xs) (suc i) d below = inr (among_all xs i d (omega arith))
+
+-- memory that was refused, or a device that failed, has nothing to do with a copy
+pub no_space_for_copy : (cause : Cause) → (cause ≡ causes.Memory) ⊎ (cause ≡ causes.Device) → cause ≡ causes.NoSpace → ⊥
+no_space_for_copy cause (inl memory) e = let same = sym memory ∙ e in cc
+no_space_for_copy cause (inr device) e = let same = sym device ∙ e in cc
+
+pub not_for_copy : (cause : Cause) (past after : List Node) (c : Standing) → (cause ≡ causes.Memory) ⊎ (cause ≡ causes.Device) → WantsCopy cause past after c
+not_for_copy cause past after c (inl memory) = subst (λ k. WantsCopy k past after c) (sym memory) (record { at_turn = λ e. cc; to_copy = λ e. cc })
+not_for_copy cause past after c (inr device) = subst (λ k. WantsCopy k past after c) (sym device) (record { at_turn = λ e. cc; to_copy = λ e. cc })
+
+-- what isn't so
+not_so : (b : Bool) → (b ≡ true → ⊥) → b ≡ false
+not_so true none = absurd (none refl)
+not_so false none = refl
+
+-- One that had no room at its turn is among those that cleaning would make; and with two sectors erased each has room.
+pub copying_has_room : (nodes past after : List Node) (k copies : ℕ) (node : Node) (cause : Cause) (old middle new : Standing) → Knows past old → nodes ≡ oldest_records (layout_in old.image old.book).sectors
+    → 2 ≤ length (layout_in old.image old.book).sectors → k < length nodes → node ≡ get_or nodes k node → HasCopied (take k nodes) past after copies old middle → CopyStopped cause after node middle new → SectorStopped cause past after old new
+copying_has_room nodes past after k copies node cause old middle new known oldest several below is h stopped = record {
+  several = several;
+  stopped = record {
+    copies = h.added;
+    stands = refused_along (IsOwnCopy after) cause after old middle new h.stands.faults stopped.stands;
+    no_room = λ e two.
+        let sizes = sizes_low old.book.sectors z known.history.sizes in
+        opposite _ (cleaning_has_room copies_take_over unmounts_are_dead old.book.sectors z s sizes.1 known.sound two several).0 (without e);
+  };
+  wants = record {
+    at_turn = without;
+    to_copy = λ e. (node, subst (Among node) oldest (subst (λ n. Among n nodes) (sym is) (among_all nodes k node below)), stopped.live);
+  };
+}
+  where
+    z : ℕ
+    z = old.book.sector_size
+
+    s : Session
+    s = session past old
+
+    without : cause ≡ causes.NoSpace → copies_would_fit past old ≡ false
+    without e = not_so (copies_would_fit past old) (λ all.
+        let rest = drop (suc k) nodes in
+        let split : nodes ≡ take k nodes ++ node ∷ rest = sym (take-append-drop k nodes) ∙ ap (λ xs. take k nodes ++ xs) (drop-cons nodes k node below ∙ ap (λ m. m ∷ rest) (sym is)) in
+        let room : copies_have_room z (take k nodes ++ node ∷ rest) s ≡ true = ap (λ ns. copies_have_room z ns s) (sym split ∙ oldest) ∙ all in
+        let parts = and_parts (copies_have_room z (take k nodes) s) (copies_have_room z (node ∷ rest) (handled_each z (take k nodes) s)) (sym (handled_in_parts z (take k nodes) (node ∷ rest) s).1 ∙ room) in
+        let one = and_parts (copy_has_room node (handled_each z (take k nodes) s)) (copies_have_room z rest (handled z node (handled_each z (take k nodes) s))) parts.1 in
+        opposite _ one.0 (ap (copy_has_room node) (sym h.turn) ∙ stopped.no_room e))
+
+-- Once all were handled none of them is live.
+each_dead : (ps : List Placed) (past : List Node) (tree : Tree) → tree ≡ tree_of past → versions_fall past ≡ true → AllByRecursion (λ n. Among n past) (map (λ (p : Placed). p.node) ps)
+    → AllByRecursion (λ n. is_live past n.version ≡ false) (map (λ (p : Placed). p.node) ps) → AllByRecursion (λ p. lives_in tree p ≡ false) ps
+each_dead [] past tree is falls among dead = tt
+each_dead (p ∷ ps) past tree is falls among dead =
+    (ap (λ t. lives_in t p) is ∙ lives_as past p falls among.0 ∙ dead.0, each_dead ps past tree is falls among.1 dead.1)
+
+module _ (nodes past after : List Node) (copies : ℕ) (old middle : Standing) (known : Knows past old) (oldest : nodes ≡ oldest_records (layout_in old.image old.book).sectors)
+    (several : 2 ≤ length (layout_in old.image old.book).sectors) (h : HasCopied nodes past after copies old middle) where
+  stays : (oldest_records (handled_each old.book.sector_size nodes (session past old)).log.sectors ≡ oldest_records (layout_in old.image old.book).sectors) × (2 ≤ length (handled_each old.book.sector_size nodes (session past old)).log.sectors)
+  stays = oldest_stays old.book.sector_size nodes (session past old) several
+
+  pub still_several : 2 ≤ length (layout_in middle.image middle.book).sectors
+  still_several = subst (λ (s : Session). 2 ≤ length s.log.sectors) (sym h.turn) stays.1
+
+  still_oldest : map (λ (p : Placed). p.node) (oldest_in middle.image middle.book) ≡ nodes
+  still_oldest = oldest_is middle.image middle.book ∙ ap (λ (s : Session). oldest_records s.log.sectors) h.turn ∙ stays.0 ∙ sym oldest
+
+  pub now_dead : AllByRecursion (λ p. lives_in middle.tree p ≡ false) (oldest_in middle.image middle.book)
+  now_dead =
+      let k = h.stands.knows in
+      let dead = handled_are_dead copies_take_over old.book.sector_size nodes (session past old) known.sound.history (all_known nodes past old known oldest) in
+      let later : AllByRecursion (λ n. is_live after n.version ≡ false) nodes = subst (λ (s : Session). AllByRecursion (λ n. is_live s.past n.version ≡ false) nodes) (sym h.turn) dead in
+      let among = oldest_known after (layout_in middle.image middle.book).sectors k.sound.known in
+      each_dead (oldest_in middle.image middle.book) after middle.tree k.tree_is k.history.rules.falls
+      (subst (AllByRecursion (λ n. Among n after)) (sym (oldest_is middle.image middle.book)) among)
+      (subst (AllByRecursion (λ n. is_live after n.version ≡ false)) (sym still_oldest) later)
+
+  pub then_erased : (new : Standing) → HasErased after middle new → HasCleaned past after copies old new
+  then_erased new e = record {
+    added = h.added;
+    stands = record { works = e.stands.works; faults = e.stands.faults ∙ h.stands.faults; knows = e.stands.knows };
+    turn =
+        (λ i. record { past = after; log = e.log i })
+        ∙ ap (λ (s : Session). record { past = s.past; log = erase_oldest s.log }) h.turn
+        ∙ ap (λ ns. let a = handled_each old.book.sector_size ns (session past old) in record { past = a.past; log = erase_oldest a.log }) oldest;
+    counted = h.counted;
+  }

@@ -1,0 +1,93 @@
+-- One request, one answer.
+use Rattle.std.specs.Prelude.{◌≡◌, ℕ, ◌<◌, ◌^◌, Bool, true, false, ◌&&◌, ◌||◌, nat_lt, List, [], ◌∷◌, ◌++◌, Option, Some, None, Result, Ok, Err}
+use Rattle.jffs_node.specs.declared.node.Node.{Node}
+use Rattle.jffs_tree.specs.declared.wish.Cause.{Cause}
+use Rattle.jffs_tree.specs.declared.wish.Cause.TheVariants.{VersionsSpent, Memory, Device}
+use Rattle.jffs_tree.specs.declared.wish.NewNode.{NewNode}
+use Rattle.jffs_tree.specs.declared.wish.Outcome.{Outcome}
+use Rattle.jffs_tree.specs.declared.wish.Outcome.TheVariants.{Closed, Refused}
+use Rattle.jffs_tree.specs.Decide.{decide_on, with, is_unmount_wish}
+use Rattle.jffs_tree.specs.Deciding.{IsWish}
+use Rattle.jffs_line.specs.declared.request.Request.{Request}
+use Rattle.jffs_log.specs.Book.{layout_in}
+use Rattle.jffs_core.specs.declared.answer.Answered.{Answered}
+use Rattle.jffs_core.specs.Standing.{Standing}
+use Rattle.jffs_core.specs.Run.{is_failure}
+use Rattle.jffs_core.specs.Past.{Knows, HasFailed, HasPast, StandsFor}
+use Rattle.jffs_core.specs.Step.{Turn, IsStep, IsInHand}
+use Rattle.jffs_core.specs.Nodes.{listed}
+use Rattle.jffs_core.specs.Calls.{KeepsTwo}
+
+-- the node that was decided on for the request, with the next version, by a core that knows some history
+pub record IsNodeOf (c : Standing) (q : Request) (node : Node) : Type 0 where
+  pub past : List Node
+  pub known : Knows past c
+  pub new : NewNode
+  pub decided : decide_on c.tree c.limits q.wish ≡ Ok new
+  pub is : node ≡ with new node.version q.writer q.seq
+  pub next : c.limits.next_version ≡ Some node.version
+  pub wish : IsWish q.wish
+  pub takes_node : (is_unmount_wish q.wish && c.clean) ≡ false
+  pub writer : q.writer < 2 ^ 16
+  pub seq : q.seq < 2 ^ 32
+
+-- an answer after which two sectors are erased where two were before
+abbrev pub keeps_two : Outcome → Bool
+keeps_two Closed = false
+keeps_two (Refused VersionsSpent) = false
+keeps_two (Refused Memory) = false
+keeps_two (Refused Device) = false
+keeps_two _ = true
+
+-- what stands when a request is taken, and whether the device failed while it was answered
+abbrev pub turn_of : List Node → Standing → Standing → Turn
+turn_of past old new = record {
+  volume = record { sectors = old.book.sectors; sector_size = old.book.sector_size };
+  past = past;
+  free = (layout_in old.image old.book).free;
+  erased = (layout_in old.image old.book).erased;
+  clean = old.clean;
+  failed = old.failed;
+  device_faulted = nat_lt old.faults new.faults;
+}
+
+-- The answer is a lawful step from this history to another, which the core has then, and this node is what it appended for the request itself. The core has failed exactly where the answer is Device or Failed, and while it works the device failed no call. After Device only the node in hand may stand beside that history.
+pub record HasAnswered (past : List Node) (old new : Standing) (q : Request) (o : Outcome) (node : Option Node) : Type 0 where
+  pub after : List Node
+  pub stands : HasPast after new
+  pub step : IsStep (turn_of past old new) q o after
+  pub own : step.own ≡ listed node
+  pub fails : new.failed ≡ is_failure o
+  pub faults : new.failed ≡ false → new.faults ≡ old.faults
+  pub in_hand : o ≡ Refused Device → HasFailed (IsInHand (turn_of past old new) q after) after new
+  pub two : keeps_two o ≡ true → KeepsTwo old new
+
+-- so is what was carried out, or why nothing was
+abbrev pub HasActed : List Node → Standing → Standing → Request → Result Answered Cause → Type 0
+HasActed past old new q (Ok a) = HasAnswered past old new q a.outcome a.node
+HasActed past old new q (Err cause) = HasAnswered past old new q (Refused cause) None
+
+-- the same of the history since a mount, but for the node
+pub record Answers (mounted past : List Node) (old new : Standing) (q : Request) (o : Outcome) : Type 0 where
+  pub after : List Node
+  pub stands : StandsFor mounted after new
+  pub step : IsStep (turn_of past old new) q o after
+  pub fails : new.failed ≡ is_failure o
+  pub faults : new.failed ≡ false → new.faults ≡ old.faults
+  pub in_hand : o ≡ Refused Device → HasFailed (IsInHand (turn_of past old new) q after) after new
+  pub two : keeps_two o ≡ true → KeepsTwo old new
+
+-- the answer with the node that was appended for the request itself
+pub record AnswersWith (mounted past : List Node) (old new : Standing) (q : Request) (o : Outcome) (node : Option Node) : Type 0 where
+  pub answers : Answers mounted past old new q o
+  pub own : answers.step.own ≡ listed node
+
+-- an answer that ends the session
+abbrev pub is_closed : Outcome → Bool
+is_closed Closed = true
+is_closed _ = false
+
+-- one answer more, and nothing else
+abbrev pub KeepsAnswer : ℕ → ℕ → Outcome → Standing → Standing → Type 0
+KeepsAnswer writer seq o old new =
+    new ≡ record old { answers = old.answers ++ record { writer = writer; seq = seq; outcome = o } ∷ []; closed = old.closed || is_closed o }

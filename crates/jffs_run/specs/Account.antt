@@ -1,0 +1,36 @@
+-- What a run was given, and what came of it.
+use Rattle.std.specs.Prelude.{ℕ, List}
+use Rattle.jffs_flash.specs.declared.flash.Flash as Flash
+use Rattle.jffs_line.specs.declared.request.Request.{Request}
+use Rattle.jffs_core.specs.declared.answer.Answer.{Answer}
+use Rattle.jffs_serve.specs.declared.session.Served.{Served}
+use Rattle.jffs_text.specs.declared.script.Script.{Script}
+use Rattle.jffs_text.specs.declared.script.Writer.{Writer}
+use Rattle.jffs_text.specs.declared.script.ReaderStatement.{ReaderStatement}
+use Rattle.jffs_run.specs.declared.outcome.Run.{Run}
+use Rattle.jffs_run.specs.declared.reader.ReaderEnd.{ReaderEnd}
+use Rattle.jffs_run.specs.Device.{Device, device_of}
+
+-- The writers and the readers' statements of a script; what each sender had accepted, all answers, what waits, what became of each reader, what was served, and the device at the end.
+pub record Account : Type 0 where
+  pub script : List Writer
+  pub statements : List ReaderStatement
+  pub accepted : ℕ → List Request
+  pub answers : List Answer
+  pub waiting : List Request
+  pub ends : List ReaderEnd
+  pub served : Served
+  pub device : Device
+
+-- the account of a run of this script, whose senders had accepted this
+abbrev pub account_of : {F A : Type 0} → Flash.Ghosts F → Script → (ℕ → List Request) → Run F A → Account
+account_of g script accepted run = record {
+  script = script.writers.items;
+  statements = script.readers.items;
+  accepted = accepted;
+  answers = run.answers.items;
+  waiting = run.waiting.items;
+  ends = run.readers.items;
+  served = run.served;
+  device = device_of g run.flash;
+}

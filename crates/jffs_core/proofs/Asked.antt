@@ -1,6 +1,6 @@
 -- The node of a request.
-use Rattle.std.proofs.Common.{◌≡◌, inl, inr, ℕ, ◌/◌, ◌^◌, ◌≤◌, ◌<◌, Bool, true, false, not, List, [], ◌∷◌, Option, Some, None, is_none, Ok, refl, sym, ap, subst, ◌∙◌, arith}
-use Rattle.std.proofs.lemmas.Bool.{and_parts}
+use Rattle.std.proofs.Common.{◌≡◌, inl, inr, ℕ, ◌/◌, ◌^◌, ◌≤◌, ◌<◌, true, false, not, List, [], ◌∷◌, Option, Some, None, is_none, Ok, refl, sym, ap, subst, ◌∙◌, arith}
+use Rattle.std.proofs.lemmas.Bool.{and_parts, both_ways, not-true}
 use Rattle.jffs_node.specs.declared.node.Node.{Node}
 use Rattle.jffs_node.specs.Record.{record_len, is_fresh, is_unmount}
 use Rattle.jffs_tree.specs.declared.wish.Cause.TheVariants as causes
@@ -9,7 +9,7 @@ use Rattle.jffs_tree.specs.declared.wish.NewNode.{NewNode}
 use Rattle.jffs_tree.specs.State.{Entry}
 use Rattle.jffs_tree.specs.Origin.{IsTrueCopy}
 use Rattle.jffs_tree.specs.declared.wish.Wish.{Wish}
-use Rattle.jffs_tree.specs.declared.wish.Wish.TheVariants.{MakeDir, Create, Write, Truncate, Rename, Remove, Copy, Unmount}
+use Rattle.jffs_tree.specs.declared.wish.Wish.TheVariants.{Unmount}
 use Rattle.jffs_tree.specs.Decide.{decide, decide_on, with, unless, unmount_node, is_unmount_wish, is_copy_wish}
 use Rattle.jffs_tree.proofs.Copies.{decides_by_tree}
 use Rattle.jffs_line.specs.declared.request.Request.{Request}
@@ -27,7 +27,6 @@ use Rattle.jffs_core.specs.Answering.{IsNodeOf, turn_of}
 use Rattle.jffs_log.specs.RoomLaws.{suits_room}
 use Rattle.jffs_log.specs.History.{KeepsRules}
 use Rattle.jffs_log.proofs.Appended.{sizes_small}
-use Rattle.jffs_log.proofs.Copied.{opposite}
 use Rattle.jffs_core.proofs.Deciding.{may_put, put_short, is_made_fresh, limits_given, limits_stay, decision_stays}
 use Rattle.jffs_core.proofs.Contents.{copy_given}
 
@@ -40,25 +39,15 @@ decision_is past c q h =
 
 -- The node of a request, by its wish.
 pub unmount_is : (past : List Node) (limits : Limits) (wish : Wish) (n : NewNode) → is_unmount_wish wish ≡ true → decide past limits wish ≡ Ok n → unmount_node ≡ n
-unmount_is past limits (MakeDir path) n w is = cc
-unmount_is past limits (Create path) n w is = cc
-unmount_is past limits (Write path offset bytes) n w is = cc
-unmount_is past limits (Truncate path size) n w is = cc
-unmount_is past limits (Rename source target) n w is = cc
-unmount_is past limits (Remove path) n w is = cc
-unmount_is past limits (Copy source parent name offset bytes) n w is = cc
 unmount_is past limits Unmount n w is = passed limits.next_version is
   where
     passed : (next : Option ℕ) → unless ((is_none next, causes.VersionsSpent) ∷ []) unmount_node ≡ Ok n → unmount_node ≡ n
     passed None e = cc
     passed (Some v) e = cc
+unmount_is past limits _ n w is = cc
 
 fresh_room_of : (n : NewNode) → is_unmount n.kind ≡ false → rooms.Fresh ≡ room_of n
 fresh_room_of n e = ap (λ t. elim t [ true ↦ rooms.Unmount | false ↦ rooms.Fresh ]) (sym e)
-
-not_both : (b : Bool) → not b ≡ true → b ≡ false
-not_both true h = cc
-not_both false h = refl
 
 module _ (past : List Node) (c : Standing) (q : Request) (node : Node) (known : Knows past c) (of : IsNodeOf c q node) where
   its_decision : decide past (limits_of c.book.sector_size past) q.wish ≡ Ok of.new
@@ -87,7 +76,7 @@ module _ (past : List Node) (c : Standing) (q : Request) (node : Node) (known : 
   unmount_room u = ap room_of (unmount_is past (limits_of c.book.sector_size past) q.wish of.new u its_decision)
 
   pub unmount_old : is_unmount_wish q.wish ≡ true → is_fresh (with of.new 0 0 0) ≡ true → ⊥
-  unmount_old u f = opposite (is_fresh (with unmount_node 0 0 0)) (ap (λ n. is_fresh (with n 0 0 0)) (unmount_is past (limits_of c.book.sector_size past) q.wish of.new u its_decision) ∙ f) refl
+  unmount_old u f = both_ways (is_fresh (with unmount_node 0 0 0)) refl (ap (λ n. is_fresh (with n 0 0 0)) (unmount_is past (limits_of c.book.sector_size past) q.wish of.new u its_decision) ∙ f)
 
   its_copy : is_copy_wish q.wish ≡ true → (e : Entry) × IsTrueCopy past (with of.new node.version q.writer q.seq) e
   its_copy k = copy_given past (limits_of c.book.sector_size past) q.wish of.new node.version q.writer q.seq k its_decision
@@ -96,10 +85,10 @@ module _ (past : List Node) (c : Standing) (q : Request) (node : Node) (known : 
   copy_may k = its_may rooms.Fresh refl (inr (inr (its_copy k)))
 
   pub copy_room : is_copy_wish q.wish ≡ true → rooms.Fresh ≡ room_of of.new
-  copy_room k = let e = its_copy k in fresh_room_of of.new (not_both (is_unmount of.new.kind) (and_parts (not (is_unmount of.new.kind)) (not of.new.deleted) e.1.stands).0)
+  copy_room k = let e = its_copy k in fresh_room_of of.new (not-true (is_unmount of.new.kind) (and_parts (not (is_unmount of.new.kind)) (not of.new.deleted) e.1.stands).0)
 
   pub copy_old : is_copy_wish q.wish ≡ true → is_fresh (with of.new 0 0 0) ≡ true → ⊥
-  copy_old k f = let e = its_copy k in opposite (not of.new.copy) (and_parts (not of.new.copy) (not (is_unmount of.new.kind)) f).0 (ap not e.1.flag)
+  copy_old k f = let e = its_copy k in both_ways (not of.new.copy) (ap not e.1.flag) (and_parts (not of.new.copy) (not (is_unmount of.new.kind)) f).0
 
   pub fresh_is : is_copy_wish q.wish ≡ false → is_unmount_wish q.wish ≡ false → is_fresh (with of.new 0 0 0) ≡ true
   fresh_is k u =
@@ -109,7 +98,7 @@ module _ (past : List Node) (c : Standing) (q : Request) (node : Node) (known : 
   fresh_may k u = its_may rooms.Fresh refl (inl (fresh_is k u))
 
   pub fresh_room : is_copy_wish q.wish ≡ false → is_unmount_wish q.wish ≡ false → rooms.Fresh ≡ room_of of.new
-  fresh_room k u = fresh_room_of of.new (not_both (is_unmount of.new.kind) (and_parts (not of.new.copy) (not (is_unmount of.new.kind)) (fresh_is k u)).1)
+  fresh_room k u = fresh_room_of of.new (not-true (is_unmount of.new.kind) (and_parts (not of.new.copy) (not (is_unmount of.new.kind)) (fresh_is k u)).1)
 
   pub its_full : (new : Standing) → rooms.Fresh ≡ room_of of.new → has_room_for c rooms.Fresh (record_len node) ≡ false → had_room (turn_of past c new) of.new ≡ false
   its_full new is e =

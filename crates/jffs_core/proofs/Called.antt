@@ -1,11 +1,12 @@
 -- What the calls that clean and erase leave.
 use Rattle.std.proofs.Common.{◌≡◌, ℕ, zero, suc, ◌≤◌, true, false, List, [], length, Result, Ok, Err, IfErr, IfOk, refl, sym, ap, subst, ◌∙◌, arith}
+use Rattle.std.proofs.lemmas.Bool.{both_ways}
 use Rattle.jffs_node.specs.declared.node.Node.{Node}
 use Rattle.jffs_tree.specs.declared.wish.Cause.{Cause}
 use Rattle.jffs_tree.specs.declared.wish.Cause.TheVariants as causes
 use Rattle.jffs_log.specs.Book.{layout_in}
 use Rattle.jffs_log.specs.Cleaning.{Layout, Session, cleaned}
-use Rattle.jffs_log.proofs.Copied.{opposite, copies_take_over, unmounts_are_dead}
+use Rattle.jffs_log.proofs.Copied.{copies_take_over, unmounts_are_dead}
 use Rattle.jffs_log.proofs.Bound.{cleaning_has_room, no_room}
 use Rattle.jffs_core.specs.Standing.{Standing}
 use Rattle.jffs_core.specs.Run.{OnlyCopies}
@@ -78,7 +79,7 @@ did_stop mounted past cause old new works s h =
     }
 
 pub stopped_before : (mounted past : List Node) (c : Standing) → c.failed ≡ true → StandsFor mounted past c → Stops mounted past causes.Failed c c
-stopped_before mounted past c fails s = record { after = past; added = record { copies = []; true_copies = tt; joined = refl }; stands = s; several = λ works. absurd (opposite c.failed fails works); why = (fails, refl); wants = record { at_turn = λ e. cc; to_copy = λ e. cc } }
+stopped_before mounted past c fails s = record { after = past; added = record { copies = []; true_copies = tt; joined = refl }; stands = s; several = λ works. absurd (both_ways c.failed works fails); why = (fails, refl); wants = record { at_turn = λ e. cc; to_copy = λ e. cc } }
 
 pub device_stop : (mounted past : List Node) (cause : Cause) (old new : Standing) → old.failed ≡ false → StandsFor mounted past old → cause ≡ causes.Device → RefusedAt cause past old new → StandsFor mounted past new × StopIs cause past old new
 device_stop mounted past cause old new works s is h =

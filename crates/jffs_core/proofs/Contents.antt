@@ -4,7 +4,7 @@ use Rattle.std.proofs.lemmas.Bool.{and_left, and_right, not_from_true}
 use Rattle.jffs_node.specs.declared.node.Node.{Node}
 use Rattle.jffs_node.specs.Record.{is_fresh, is_unmount}
 use Rattle.jffs_tree.specs.declared.wish.Wish.{Wish}
-use Rattle.jffs_tree.specs.declared.wish.Wish.TheVariants.{MakeDir, Create, Write, Truncate, Rename, Remove, Copy, Unmount}
+use Rattle.jffs_tree.specs.declared.wish.Wish.TheVariants.{Copy, Unmount}
 use Rattle.jffs_tree.specs.declared.wish.Limits.{Limits}
 use Rattle.jffs_tree.specs.declared.wish.Cause.TheVariants.{VersionsSpent}
 use Rattle.jffs_tree.specs.declared.wish.NewNode.{NewNode}
@@ -74,26 +74,14 @@ unmount_passed (Some v) n is = let same : unmount_node ≡ n = cc in ap (λ m. i
 
 -- an accepted Unmount gives an unmount node
 pub unmount_given : (past : List Node) (limits : Limits) (wish : Wish) (n : NewNode) → is_unmount_wish wish ≡ true → decide past limits wish ≡ Ok n → is_unmount n.kind ≡ true
-unmount_given past limits (MakeDir path) n w is = cc
-unmount_given past limits (Create path) n w is = cc
-unmount_given past limits (Write path offset bytes) n w is = cc
-unmount_given past limits (Truncate path size) n w is = cc
-unmount_given past limits (Rename source target) n w is = cc
-unmount_given past limits (Remove path) n w is = cc
-unmount_given past limits (Copy source parent name offset bytes) n w is = cc
 unmount_given past limits Unmount n w is = unmount_passed limits.next_version n is
+unmount_given past limits _ n w is = cc
 
 -- an accepted Copy gives a true copy
 pub copy_given : (past : List Node) (limits : Limits) (wish : Wish) (n : NewNode) (version writer seq : ℕ) → is_copy_wish wish ≡ true → decide past limits wish ≡ Ok n
     → (e : Entry) × IsTrueCopy past (with n version writer seq) e
-copy_given past limits (MakeDir path) n version writer seq w is = cc
-copy_given past limits (Create path) n version writer seq w is = cc
-copy_given past limits (Write path offset bytes) n version writer seq w is = cc
-copy_given past limits (Truncate path size) n version writer seq w is = cc
-copy_given past limits (Rename source target) n version writer seq w is = cc
-copy_given past limits (Remove path) n version writer seq w is = cc
 copy_given past limits (Copy source parent name offset bytes) n version writer seq w is = accepted_copies_are_true past limits source parent name offset bytes n version writer seq is
-copy_given past limits Unmount n version writer seq w is = cc
+copy_given past limits _ n version writer seq w is = cc
 
 -- what the request itself added
 own_grows : (t : Turn) (q : Request) (o : Outcome) (copies own : List Node) → OutcomeIs o t q copies own → IsGrown (copies ++ t.past) own

@@ -3,7 +3,7 @@ use Rattle.std.proofs.Common.{◌≡◌, ◌⊎◌, inl, inr, ℕ, zero, suc, �
 use Rattle.std.specs.List.{AllByRecursion}
 use Rattle.std.proofs.Math.Seq.{take-suc}
 use Rattle.std.proofs.lemmas.List.{take-append-drop}
-use Rattle.std.proofs.lemmas.Bool.{and_parts}
+use Rattle.std.proofs.lemmas.Bool.{and_parts, both_ways, false_from_ne_true}
 use Rattle.jffs_node.specs.declared.node.Node.{Node}
 use Rattle.jffs_node.specs.Record.{record_len, dsize, has_place}
 use Rattle.jffs_tree.specs.declared.wish.Cause.{Cause}
@@ -16,7 +16,7 @@ use Rattle.jffs_log.specs.RoomLaws.{Among}
 use Rattle.jffs_log.proofs.Sectors.{stands_among}
 use Rattle.jffs_log.proofs.SectorSpellings.{in_place_fits, record_long}
 use Rattle.jffs_log.proofs.Histories.{lives_as}
-use Rattle.jffs_log.proofs.Copied.{opposite, copies_take_over, unmounts_are_dead}
+use Rattle.jffs_log.proofs.Copied.{copies_take_over, unmounts_are_dead}
 use Rattle.jffs_log.proofs.Loop.{handled_in_parts, oldest_stays}
 use Rattle.jffs_log.proofs.Bound.{cleaning_has_room, handled_are_dead, no_room}
 use Rattle.jffs_core.specs.Standing.{Standing, SameAnswers}
@@ -145,11 +145,6 @@ pub not_for_copy : (cause : Cause) (past after : List Node) (c : Standing) → (
 not_for_copy cause past after c (inl memory) = subst (λ k. WantsCopy k past after c) (sym memory) (record { at_turn = λ e. cc; to_copy = λ e. cc })
 not_for_copy cause past after c (inr device) = subst (λ k. WantsCopy k past after c) (sym device) (record { at_turn = λ e. cc; to_copy = λ e. cc })
 
--- what isn't so
-not_so : (b : Bool) → (b ≡ true → ⊥) → b ≡ false
-not_so true none = absurd (none refl)
-not_so false none = refl
-
 -- One that had no room at its turn is among those that cleaning would make; and with two sectors erased each has room.
 pub copying_has_room : (nodes past after : List Node) (k copies : ℕ) (node : Node) (cause : Cause) (old middle new : Standing) → Knows past old → nodes ≡ oldest_records (layout_in old.image old.book).sectors
     → 2 ≤ length (layout_in old.image old.book).sectors → k < length nodes → node ≡ get_or nodes k node → HasCopied (take k nodes) past after copies old middle → CopyStopped cause after node middle new → SectorStopped cause past after old new
@@ -160,7 +155,7 @@ copying_has_room nodes past after k copies node cause old middle new known oldes
     stands = refused_along (IsOwnCopy after) cause after old middle new h.stands.faults stopped.stands;
     no_room = λ e two.
         let sizes = sizes_low old.book.sectors z known.history.sizes in
-        opposite _ (cleaning_has_room copies_take_over unmounts_are_dead old.book.sectors z s sizes.1 known.sound two several).0 (without e);
+        both_ways _ (without e) (cleaning_has_room copies_take_over unmounts_are_dead old.book.sectors z s sizes.1 known.sound two several).0;
   };
   wants = record {
     at_turn = without;
@@ -175,13 +170,13 @@ copying_has_room nodes past after k copies node cause old middle new known oldes
     s = session past old
 
     without : cause ≡ causes.NoSpace → copies_would_fit past old ≡ false
-    without e = not_so (copies_would_fit past old) (λ all.
+    without e = false_from_ne_true (copies_would_fit past old) (λ all.
         let rest = drop (suc k) nodes in
         let split : nodes ≡ take k nodes ++ node ∷ rest = sym (take-append-drop k nodes) ∙ ap (λ xs. take k nodes ++ xs) (drop-cons nodes k node below ∙ ap (λ m. m ∷ rest) (sym is)) in
         let room : copies_have_room z (take k nodes ++ node ∷ rest) s ≡ true = ap (λ ns. copies_have_room z ns s) (sym split ∙ oldest) ∙ all in
         let parts = and_parts (copies_have_room z (take k nodes) s) (copies_have_room z (node ∷ rest) (handled_each z (take k nodes) s)) (sym (handled_in_parts z (take k nodes) (node ∷ rest) s).1 ∙ room) in
         let one = and_parts (copy_has_room node (handled_each z (take k nodes) s)) (copies_have_room z rest (handled z node (handled_each z (take k nodes) s))) parts.1 in
-        opposite _ one.0 (ap (copy_has_room node) (sym h.turn) ∙ stopped.no_room e))
+        both_ways _ (ap (copy_has_room node) (sym h.turn) ∙ stopped.no_room e) one.0)
 
 -- Once all were handled none of them is live.
 each_dead : (ps : List Placed) (past : List Node) (tree : Tree) → tree ≡ tree_of past → versions_fall past ≡ true → AllByRecursion (λ n. Among n past) (map (λ (p : Placed). p.node) ps)

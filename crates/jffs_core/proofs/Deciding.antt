@@ -19,7 +19,7 @@ use Rattle.jffs_tree.specs.State.{Entry, State, written, is_directory_in, state_
 use Rattle.jffs_tree.specs.Origin.{Held, entry, concerns, holder, tree_of}
 use Rattle.jffs_tree.specs.Decide.{unless, is_root, has_parent, is_there, parent_in, last_name, inode_at, entry_of, is_empty, plain, write_node, truncate_node, copy_node, unmount_node, held_entry, held_inode, is_current, decide_in, decide, with, is_copy_wish, is_unmount_wish}
 use Rattle.jffs_tree.specs.Deciding.{IsLawfulPast, AreLimitsOf, IsWish}
-use Rattle.jffs_tree.proofs.Decided.{decided_nodes_keep_rules}
+use Rattle.jffs_tree.proofs.Decided.{decided_nodes_keep_rules, all_passed}
 use Rattle.jffs_tree.proofs.TrueCopy.{true_copy_keeps_state}
 use Rattle.jffs_log.specs.declared.room.Room.{Room}
 use Rattle.jffs_log.specs.RoomLaws.{suits_room}
@@ -108,19 +108,6 @@ decided_cause past limits wish cause is =
     let s = state_of_past past in
     let holds : ℕ → Option (ℕ × Held) = λ v. holder (tree_of past) v in
     one_of (causes_for s holds limits wish) (node_for s holds limits wish) cause (of_tree s holds limits wish) (sym (in_parts s holds limits wish) ∙ is)
-
--- A decision that gave a node passed each test, and gave that node.
-all_passed : (causes : List (Bool × Cause)) (n m : NewNode) → unless causes n ≡ Ok m → AllByRecursion (λ (c : Bool × Cause). c.0 ≡ false) causes × (n ≡ m)
-all_passed [] n m is = (tt, the_same is)
-  where
-    the_same : {n m : NewNode} → ◌≡◌ {A = Result NewNode Cause} (Ok n) (Ok m) → n ≡ m
-    the_same is = cc
-all_passed (c ∷ causes) n m is = one (λ h. all_passed causes n m h) c.0 refl is
-  where
-    one : (unless causes n ≡ Ok m → AllByRecursion (λ (x : Bool × Cause). x.0 ≡ false) causes × (n ≡ m)) → (b : Bool) → c.0 ≡ b → cond b (Err c.1) (unless causes n) ≡ Ok m
-        → AllByRecursion (λ (x : Bool × Cause). x.0 ≡ false) (c ∷ causes) × (n ≡ m)
-    one rest true e is = cc
-    one rest false e is = let later = rest is in ((e, later.0), later.1)
 
 has_version : (s : State) (holds : ℕ → Option (ℕ × Held)) (limits : Limits) (wish : Wish) → AllByRecursion (λ (c : Bool × Cause). c.0 ≡ false) (causes_for s holds limits wish) → is_none limits.next_version ≡ false
 has_version s holds limits (MakeDir path) h = h.1.1.1.1.0

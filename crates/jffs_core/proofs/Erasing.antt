@@ -2,6 +2,7 @@
 use Rattle.std.proofs.Common.{◌≡◌, ℕ, zero, suc, ◌+◌, ◌≤◌, ◌<◌, Bool, true, false, List, [], ◌∷◌, length, take, drop, get_or, refl, sym, ap, subst, ◌∙◌, arith, drop-cons}
 use Rattle.std.specs.List.{AllByRecursion}
 use Rattle.std.proofs.Math.Seq.{take-suc}
+use Rattle.std.proofs.lemmas.Bool.{both_ways}
 use Rattle.jffs_node.specs.declared.node.Node.{Node}
 use Rattle.jffs_tree.specs.Origin.{Tree, is_live}
 use Rattle.jffs_tree.specs.declared.wish.Limits.{Limits}
@@ -13,7 +14,6 @@ use Rattle.jffs_log.specs.RoomLaws.{Among}
 use Rattle.jffs_log.proofs.MountedLog.{each_append}
 use Rattle.jffs_log.proofs.Sectors.{each_among}
 use Rattle.jffs_log.proofs.Histories.{each_dead}
-use Rattle.jffs_log.proofs.Copied.{opposite}
 use Rattle.jffs_core.specs.Standing.{Standing, SameAnswers}
 use Rattle.jffs_core.specs.Past.{IsPast, Knows}
 use Rattle.jffs_core.specs.Calls.{WorksOn}
@@ -36,7 +36,7 @@ erased_one old new erases held = record { erases = omega arith; held = λ w. ome
 
 -- An erase failed.
 pub erase_failed : (old new : Standing) → new.failed ≡ true → new.book.erases ≤ old.book.erases + 1 → 2 ≤ old.book.held → ErasesAtMost 0 old new
-erase_failed old new fails erases several = record { erases = omega arith; held = λ w. absurd (opposite new.failed fails w) }
+erase_failed old new fails erases several = record { erases = omega arith; held = λ w. absurd (both_ways new.failed w fails) }
 
 -- Several were, and what came then.
 pub erased_along : (old middle new : Standing) → middle.book.erases + middle.book.held ≤ old.book.erases + old.book.held → ErasesAtMost 0 middle new → ErasesAtMost 0 old new

@@ -2,7 +2,7 @@
 use Rattle.std.proofs.Common.{◌≡◌, ℕ, zero, suc, ◌*◌, ◌<◌, Bool, true, false, List, [], ◌∷◌, ◌++◌, length, get_or, drop, flat_map, None, sym, ap, subst, ◌∙◌, arith, length-drop, reverse}
 use Rattle.std.specs.List.{AllByRecursion, last_or}
 use Rattle.std.proofs.lemmas.List.{length-take-le, append-nil}
-use Rattle.std.proofs.lemmas.Bool.{and_parts}
+use Rattle.std.proofs.lemmas.Bool.{and_parts, both_ways}
 use Rattle.jffs_node.specs.declared.node.Node.{Node}
 use Rattle.jffs_tree.specs.Origin.{Tree, tree_of}
 use Rattle.jffs_tree.specs.declared.wish.Limits.{Limits}
@@ -18,7 +18,6 @@ use Rattle.jffs_log.proofs.Ring.{Numbered}
 use Rattle.jffs_log.proofs.Volume.{length-split}
 use Rattle.jffs_log.proofs.MountedLog.{mounts_are_sound, ok_same, nodes_mapped, placed_nodes}
 use Rattle.jffs_log.proofs.MountHistory.{mounts_are_histories}
-use Rattle.jffs_log.proofs.Copied.{opposite}
 use Rattle.jffs_log.proofs.Histories.{histories_are_scanned, turned_round}
 use Rattle.jffs_core.specs.Standing.{Standing}
 use Rattle.jffs_core.specs.Step.{ends_with_unmount}
@@ -75,7 +74,7 @@ found_fresh count len image faults erase_failed c h same_image same_faults same_
         grown = no_growth past;
         stands = record {
           working = λ w. subst (λ (xs : List ℕ). IsPast past xs c.book c.tree c.limits c.clean) (sym same_image) (found_past image c.book c.tree c.clean c.limits (by_book count len image c.book c.tree c.clean c.limits h));
-          broken = λ f. absurd (opposite c.failed f works);
+          broken = λ f. absurd (both_ways c.failed works f);
         };
       };
       image_is = same_image;

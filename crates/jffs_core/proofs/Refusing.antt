@@ -1,5 +1,6 @@
 -- What stands where a call was refused.
 use Rattle.std.proofs.Common.{◌≡◌, inl, inr, ◌<◌, true, false, List, None, refl, subst, ◌∙◌}
+use Rattle.std.proofs.lemmas.Bool.{both_ways}
 use Rattle.jffs_node.specs.declared.node.Node.{Node}
 use Rattle.jffs_tree.specs.declared.wish.Cause.{Cause}
 use Rattle.jffs_tree.specs.declared.wish.Cause.TheVariants as causes
@@ -14,14 +15,13 @@ use Rattle.jffs_core.specs.Past.{Knows, HasPast, HasFailed, OrOneMore}
 use Rattle.jffs_core.specs.Calls.{WorksOn, FailsIn, RefusedWith, KeepsTwo}
 use Rattle.jffs_core.specs.Answering.{keeps_two}
 use Rattle.jffs_log.specs.History.{IsHistory}
-use Rattle.jffs_log.proofs.Copied.{opposite}
 
 -- what stands after a call
 pub works_past : (after : List Node) (new : Standing) → new.failed ≡ false → Knows after new → HasPast after new
-works_past after new works known = record { working = λ w. known; broken = λ f. absurd (opposite new.failed f works) }
+works_past after new works known = record { working = λ w. known; broken = λ f. absurd (both_ways new.failed works f) }
 
 pub fails_past : (after : List Node) (new : Standing) → new.failed ≡ true → HasFailed (MayFollow after) after new → HasPast after new
-fails_past after new fails left = record { working = λ w. absurd (opposite new.failed fails w); broken = λ f. left }
+fails_past after new fails left = record { working = λ w. absurd (both_ways new.failed w fails); broken = λ f. left }
 
 -- One kind of node in hand is also of another.
 more_kinds : (P Q : Node → Type 0) → ((n : Node) → P n → Q n) → (past : List Node) (R : List Node → Type 0) → OrOneMore P past R → OrOneMore Q past R
@@ -68,7 +68,7 @@ fails_as P cause after old new h =
 -- While a core works no call of the device failed.
 pub works_on_faults : (P : Node → Type 0) (cause : Cause) (after : List Node) (old new : Standing) → RefusedWith P cause after old new → new.failed ≡ false → new.faults ≡ old.faults
 works_on_faults P cause after old new h works =
-    by_refusal P after old new (λ c. new.faults ≡ old.faults) (λ w none. w.faults) (λ w. w.faults) (λ w. w.faults) (λ d. absurd (opposite new.failed d.fails works)) cause h
+    by_refusal P after old new (λ c. new.faults ≡ old.faults) (λ w none. w.faults) (λ w. w.faults) (λ w. w.faults) (λ d. absurd (both_ways new.failed works d.fails)) cause h
 
 pub same_cause : {a b : Cause} → ◌≡◌ {A = Outcome} (Refused a) (Refused b) → a ≡ b
 same_cause e = cc
@@ -82,10 +82,10 @@ device_left P Q f cause after old new h is =
 pub refused_keeps : (P : Node → Type 0) (cause : Cause) (after : List Node) (old new : Standing) → RefusedWith P cause after old new → (cause ≡ causes.NoSpace → KeepsTwo old new) → keeps_two (Refused cause) ≡ true → KeepsTwo old new
 refused_keeps P cause after old new h none k =
     by_refusal P after old new (λ c. (c ≡ causes.NoSpace → KeepsTwo old new) → keeps_two (Refused c) ≡ true → KeepsTwo old new)
-    (λ w spent none k. absurd (opposite (keeps_two (Refused causes.VersionsSpent)) k refl))
-    (λ w none k. absurd (opposite (keeps_two (Refused causes.Memory)) k refl))
+    (λ w spent none k. absurd (both_ways (keeps_two (Refused causes.VersionsSpent)) refl k))
+    (λ w none k. absurd (both_ways (keeps_two (Refused causes.Memory)) refl k))
     (λ w none k. none refl)
-    (λ d none k. absurd (opposite (keeps_two (Refused causes.Device)) k refl))
+    (λ d none k. absurd (both_ways (keeps_two (Refused causes.Device)) refl k))
     cause h none k
 
 -- Seen from before the cleaning.

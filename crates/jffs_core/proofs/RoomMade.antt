@@ -1,7 +1,7 @@
 -- Cleaning adds true copies alone, and NoSpace after a turn of it is a lawful answer.
-use Rattle.std.proofs.Common.{◌≡◌, ℕ, zero, suc, ◌+◌, ◌^◌, ◌≤◌, Bool, true, false, cond, List, [], ◌∷◌, ◌++◌, length, inr, ⊎_elim, Some, None, refl, sym, ap, subst, arith}
+use Rattle.std.proofs.Common.{◌≡◌, ℕ, zero, suc, ◌+◌, ◌^◌, ◌≤◌, true, cond, List, [], ◌∷◌, ◌++◌, length, inr, ⊎_elim, Some, None, refl, sym, ap, subst, arith}
 use Rattle.std.specs.List.{AllByRecursion}
-use Rattle.std.proofs.lemmas.Bool.{lt-ltb, cases_Bool}
+use Rattle.std.proofs.lemmas.Bool.{lt-ltb, cases_Bool, both_ways}
 use Rattle.jffs_node.specs.declared.node.Node.{Node}
 use Rattle.jffs_node.specs.Record.{record_len}
 use Rattle.jffs_tree.specs.Origin.{is_live}
@@ -118,12 +118,9 @@ no_space_is_a_step t q n s gone taken held low enough two takes decided fresh sh
       copies_are_true = made.true_copies;
       copies_make_room = inr (n, no, fresh);
       clean_is_so = taken.clean;
-      failed_says_so = ((λ f. absurd (opposite t.failed f taken.standing)), (λ f. absurd (not_failed f)));
+      failed_says_so = ((λ f. absurd (both_ways t.failed taken.standing f)), (λ f. absurd (not_failed f)));
       outcome = ((takes, (n, no, (λ f two. omega arith))), refl);
     }
   where
-    opposite : (b : Bool) → b ≡ true → b ≡ false → ⊥
-    opposite b t f = cc
-
     not_failed : ◌≡◌ {A = Outcome} (Refused causes.NoSpace) (Refused causes.Failed) → ⊥
     not_failed f = cc

@@ -1,6 +1,6 @@
 -- Each answer is a lawful step.
 use Rattle.std.proofs.Common.{◌≡◌, ◌⊎◌, inl, inr, ℕ, ◌≤◌, Bool, true, false, ◌&&◌, List, [], ◌∷◌, ◌++◌, leb, ltb, Option, Some, None, Result, Err, refl, sym, ap, subst, ◌∙◌}
-use Rattle.std.proofs.lemmas.Bool.{lt-ltb, le-leb, or_right}
+use Rattle.std.proofs.lemmas.Bool.{lt-ltb, le-leb, or_right, both_ways}
 use Rattle.jffs_node.specs.declared.node.Node.{Node}
 use Rattle.jffs_node.specs.Record.{record_len, is_fresh}
 use Rattle.jffs_tree.specs.declared.wish.Cause.{Cause}
@@ -27,7 +27,6 @@ use Rattle.jffs_core.specs.Calls.{RefusedWith, KeepsTwo}
 use Rattle.jffs_core.specs.Appending.{MayPut, HasPut, PutRefused}
 use Rattle.jffs_core.specs.Answering.{IsNodeOf, HasAnswered, AnswersWith, KeepsAnswer, keeps_two, turn_of}
 use Rattle.jffs_log.specs.Cleaning.{Layout}
-use Rattle.jffs_log.proofs.Copied.{opposite}
 use Rattle.jffs_log.proofs.Bound.{fresh_keeps_two}
 use Rattle.jffs_core.proofs.Deciding.{is_of_tree}
 use Rattle.jffs_core.proofs.Contents.{grows_along, step_grows}
@@ -45,10 +44,10 @@ by_tree causes.Failed t q h takes is = cc
 by_tree _ t q h takes is = (takes, is, refl)
 
 not_failed : (cause : Cause) → is_of_tree cause ≡ true → ◌≡◌ {A = Outcome} (Refused cause) (Refused causes.Failed) → ⊥
-not_failed cause h e = opposite (is_of_tree causes.Failed) (ap is_of_tree (sym (same_cause e)) ∙ h) refl
+not_failed cause h e = both_ways (is_of_tree causes.Failed) refl (ap is_of_tree (sym (same_cause e)) ∙ h)
 
 not_device : (cause : Cause) → is_of_tree cause ≡ true → ◌≡◌ {A = Outcome} (Refused cause) (Refused causes.Device) → ⊥
-not_device cause h e = opposite (is_of_tree causes.Device) (ap is_of_tree (sym (same_cause e)) ∙ h) refl
+not_device cause h e = both_ways (is_of_tree causes.Device) refl (ap is_of_tree (sym (same_cause e)) ∙ h)
 
 no_failure : (cause : Cause) → is_of_tree cause ≡ true → is_failure (Refused cause) ≡ false
 no_failure causes.Device h = cc
@@ -82,7 +81,7 @@ module _ (past : List Node) (old new : Standing) (q : Request) (works : old.fail
     copies_are_true = true_copies;
     copies_make_room = room;
     clean_is_so = clean_so;
-    failed_says_so = ((λ f. absurd (opposite old.failed f works)), (λ f. absurd (other f)));
+    failed_says_so = ((λ f. absurd (both_ways old.failed works f)), (λ f. absurd (other f)));
     outcome = outcome;
   }
 
@@ -100,7 +99,7 @@ module _ (past : List Node) (old new : Standing) (q : Request) (works : old.fail
     fails = ap (λ (c : Standing). c.failed) same ∙ works;
     faults = λ w. ap (λ (c : Standing). c.faults) same;
     in_hand = λ e. cc;
-    two = λ k. absurd (opposite (keeps_two Closed) k refl);
+    two = λ k. absurd (both_ways (keeps_two Closed) refl k);
   }
 
   -- by the decision, or for want of memory
@@ -151,7 +150,7 @@ module _ (past : List Node) (old new : Standing) (q : Request) (works : old.fail
     fails = h.works;
     faults = λ w. h.faults;
     in_hand = λ e. cc;
-    two = λ k. absurd (opposite (keeps_two Closed) k refl);
+    two = λ k. absurd (both_ways (keeps_two Closed) refl k);
   }
     where
       next : next_version past ≡ Some node.version
@@ -341,4 +340,4 @@ unmounts_have_room t q after u two step =
     let n = why.1.0 in
     let none = why.1.1 in
     let same = unmount_is t.past _ q.wish n u none.decided in
-    opposite (had_room t unmount_node) (or_right (leb 64 t.free) (leb 2 t.erased) (le-leb 2 t.erased two)) (ap (had_room t) same ∙ none.none)
+    both_ways (had_room t unmount_node) (ap (had_room t) same ∙ none.none) (or_right (leb 64 t.free) (leb 2 t.erased) (le-leb 2 t.erased two))

@@ -4,7 +4,7 @@ use Rattle.std.specs.Option.{option_map_or, unwrap_or}
 use Rattle.std.specs.Ordering.{eq_by_cmp}
 use Rattle.std.specs.declared.cmp.Ordering.TheVariants.{Less, Equal, Greater}
 use Rattle.std.specs.FinMap.Entries as entries
-use Rattle.std.proofs.lemmas.Bool.{and_parts, and_from}
+use Rattle.std.proofs.lemmas.Bool.{and_parts, and_from, both_ways}
 use Rattle.jffs_node.specs.declared.node.Node.{Node}
 use Rattle.jffs_node.specs.Record.{dsize, kind_byte, is_lawful, is_unmount}
 use Rattle.jffs_tree.specs.State.{Entry, State, at, bytes_of, written, apply, state_of_past}
@@ -19,7 +19,6 @@ use Rattle.jffs_tree.proofs.Tested.{trees_test_as_nodes}
 use Rattle.jffs_tree.proofs.Copies.{state_of_tree}
 use Rattle.jffs_line.specs.declared.request.Request.{Request}
 use Rattle.jffs_log.specs.History.{KeepsRules}
-use Rattle.jffs_log.proofs.Copied.{opposite}
 use Rattle.jffs_core.specs.Standing.{Standing}
 use Rattle.jffs_core.specs.History.{AreOwnCopies}
 use Rattle.jffs_core.specs.Past.{Knows}
@@ -173,8 +172,8 @@ tells_none old new writer seq o fails kept =
     let fails_still : new.failed ≡ true = ap (λ (c : Standing). c.failed) kept ∙ fails in
     record {
       none = λ f. refl;
-      worked = λ w. absurd (opposite new.failed fails_still w);
-      taken = λ w. absurd (opposite new.failed fails_still w);
+      worked = λ w. absurd (both_ways new.failed w fails_still);
+      taken = λ w. absurd (both_ways new.failed w fails_still);
     }
 
 -- Dead sectors were erased, as far as that went.
@@ -187,4 +186,4 @@ pub tree_kept :
 tree_kept past old new (Ok count) works known erased stopped device = λ w. (works, (erased past known).stands.knows.tree_is ∙ sym known.tree_is)
 tree_kept past old new (Err cause) works known erased stopped device = λ w.
     let failed = subst (λ (c : Cause). RefusedAt c past old new) device (stopped past known) in
-    absurd (opposite new.failed failed.fails w)
+    absurd (both_ways new.failed w failed.fails)

@@ -1,6 +1,6 @@
 -- The room bound.
 use Rattle.std.proofs.Common.{◌≡◌, ℕ, zero, suc, ◌+◌, ◌-◌, ◌*◌, ◌/◌, ◌≤◌, ◌<◌, Bool, true, false, cond, ◌&&◌, ◌||◌, leb, eqb, List, [], ◌∷◌, length, ◌⊎◌, inl, inr, ⊎_elim, refl, sym, ap, subst, ◌∙◌, arith}
-use Rattle.std.proofs.lemmas.Bool.{le-leb, eqb-true, and_parts, or_right, cases_Bool, cases_lt}
+use Rattle.std.proofs.lemmas.Bool.{le-leb, eqb-true, and_parts, or_right, cases_Bool, cases_lt, both_ways}
 use Rattle.std.proofs.Math.Nat.{mul-le-mul_right}
 use Rattle.jffs_node.specs.declared.node.Node.{Node}
 use Rattle.jffs_node.specs.Record.{record_len, len_of_data, dsize, is_unmount}
@@ -30,9 +30,6 @@ one_less : (total z weight k : ℕ) (s : Session) → 2 ≤ k → IsTurn total z
 one_less total z weight zero s h w = absurd (omega arith)
 one_less total z weight (suc left) s h w = (left, w)
 
-true_false : (b : Bool) → b ≡ true → b ≡ false → ⊥
-true_false b t f = cc
-
 module _ (takes : CopiesTakeOver) (unmounts : UnmountNodesAreDead) where
   pub cleaning_has_room : CleaningHasRoom
   cleaning_has_room total z s low sound two many =
@@ -52,8 +49,8 @@ module _ (takes : CopiesTakeOver) (unmounts : UnmountNodesAreDead) where
   module _ (total z weight len : ℕ) (low : 64 ≤ z) (enough : 6 ≤ total) where
     pub no_room : (s : Session) → fresh_has_room len s ≡ false → (s.log.free < len + 64) × (s.log.erased < 4)
     no_room s h =
-        let a = ⊎_elim (λ l. l) (λ g. absurd (true_false _ (or_from_left (leb (len + 64) s.log.free) (leb 4 s.log.erased) (le-leb (len + 64) s.log.free g)) h)) (cases_lt s.log.free (len + 64)) in
-        let b = ⊎_elim (λ l. l) (λ g. absurd (true_false _ (or_right (leb (len + 64) s.log.free) (leb 4 s.log.erased) (le-leb 4 s.log.erased g)) h)) (cases_lt s.log.erased 4) in
+        let a = ⊎_elim (λ l. l) (λ g. absurd (both_ways _ h (or_from_left (leb (len + 64) s.log.free) (leb 4 s.log.erased) (le-leb (len + 64) s.log.free g)))) (cases_lt s.log.free (len + 64)) in
+        let b = ⊎_elim (λ l. l) (λ g. absurd (both_ways _ h (or_right (leb (len + 64) s.log.free) (leb 4 s.log.erased) (le-leb 4 s.log.erased g)))) (cases_lt s.log.erased 4) in
         (a, b)
       where
         or_from_left : (a b : Bool) → a ≡ true → (a || b) ≡ true
@@ -94,7 +91,7 @@ module _ (takes : CopiesTakeOver) (unmounts : UnmountNodesAreDead) where
       let weight = charged (live_in s.past) (length s.log.sectors) s.log.sectors in
       let m = made total z weight len low enough (length s.log.sectors) s (start total z s sound two) in
       let after = room_made z len (length s.log.sectors) s in
-      let last : IsTurn total z weight 0 after = ⊎_elim (λ has. absurd (true_false _ has none)) (λ zero_left. subst (λ k. IsTurn total z weight k after) zero_left m.1) m.2 in
+      let last : IsTurn total z weight 0 after = ⊎_elim (λ has. absurd (both_ways _ none has)) (λ zero_left. subst (λ k. IsTurn total z weight k after) zero_left m.1) m.2 in
       let f = no_room total z weight len low enough after none in
       let counted = last.sound.counted in
       let few = f.1 in

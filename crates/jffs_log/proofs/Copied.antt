@@ -2,7 +2,7 @@
 use Rattle.std.proofs.Common.{◌≡◌, ℕ, zero, suc, min, ◌+◌, ◌-◌, ◌≤◌, ◌<◌, Bool, true, false, cond, not, ◌&&◌, ◌||◌, leb, ltb, eqb, List, [], ◌∷◌, ◌++◌, length, map, flat_map, option_to_list, take, drop, ◌⊎◌, inl, inr, ⊎_elim, Option, Some, None, unwrap_or, is_some, refl, sym, ap, subst, ◌∙◌, arith}
 use Rattle.std.specs.List.{list_any, list_all, range_with_len}
 use Rattle.std.specs.Option.{option_map_or}
-use Rattle.std.proofs.lemmas.Bool.{eqb-true, eq-eqb, leb-true, ltb-true, lt-ltb, le-leb, and_parts, and_from, or_left, or_right, cases_Bool, cases_lt}
+use Rattle.std.proofs.lemmas.Bool.{eqb-true, eq-eqb, leb-true, ltb-true, lt-ltb, le-leb, and_parts, and_from, or_left, or_right, cases_Bool, cases_lt, both_ways}
 use Rattle.std.proofs.lemmas.List.{length-take, length-drop}
 use Rattle.std.proofs.lemmas.List.Folds.{list_any-append}
 use Rattle.jffs_node.specs.declared.node.Node.{Node}
@@ -19,10 +19,6 @@ use Rattle.jffs_tree.proofs.Steps.{entry-other, entry-written, newest-other, new
 use Rattle.jffs_log.specs.Cleaning.{copied, version_after, versions_fall, keeps_length, is_history}
 use Rattle.jffs_log.specs.RoomLaws.{Among, CopiesTakeOver, UnmountNodesAreDead}
 
--- Booleans and options.
-pub opposite : (b : Bool) → b ≡ true → b ≡ false → ⊥
-opposite b t f = cc
-
 pub none_some : {A : Type 0} (o : Option A) (x : A) → o ≡ None → o ≡ Some x → ⊥
 none_some o x e f = cc
 
@@ -35,13 +31,13 @@ is_it v w = eqb w v
 
 held_by : (v : ℕ) (o : Option ℕ) → list_any (λ w. eqb w v) (option_to_list o) ≡ true → o ≡ Some v
 held_by v None h = cc
-held_by v (Some w) h = ⊎_elim (λ t. ap (λ x. Some x) (eqb-true w v t)) (λ f. absurd (opposite (eqb w v || false) h (ap (λ b. b || false) f))) (cases_Bool (eqb w v))
+held_by v (Some w) h = ⊎_elim (λ t. ap (λ x. Some x) (eqb-true w v t)) (λ f. absurd (both_ways (eqb w v || false) (ap (λ b. b || false) f) h)) (cases_Bool (eqb w v))
 
 any_of : {A : Type 0} (p : A → Bool) (xs ys : List A) → list_any p (xs ++ ys) ≡ true → (list_any p xs ≡ true) ⊎ (list_any p ys ≡ true)
 any_of p xs ys h = ⊎_elim (λ t. inl t) (λ f. inr (sym (list_any-append p xs ys ∙ ap (λ b. b || list_any p ys) f) ∙ h)) (cases_Bool (list_any p xs))
 
 at_place : (f : ℕ → Option ℕ) (v n a : ℕ) → list_any (λ w. eqb w v) (flat_map option_to_list (map f (range_with_len a n))) ≡ true → (p : ℕ) × (p < a + n) × (f p ≡ Some v)
-at_place f v zero a h = absurd (opposite false h refl)
+at_place f v zero a h = absurd (both_ways false refl h)
 at_place f v (suc n) a h = ⊎_elim
     (λ here. (a, omega arith, held_by v (f a) here))
     (λ there. let later = at_place f v n (a + 1) there in (later.0, (let l = later.1 in omega arith), later.2))
@@ -57,7 +53,7 @@ abbrev pub ComesFrom : List Node → ℕ → Type 0
 ComesFrom past v = (i : ℕ) × (IsNewest past v i ⊎ IsOrigin past v i)
 
 in_held : (past : List Node) (v : ℕ) (s : State) → list_any (λ w. eqb w v) (flat_map versions_held (map (held past) s)) ≡ true → ComesFrom past v
-in_held past v [] h = absurd (opposite false h refl)
+in_held past v [] h = absurd (both_ways false refl h)
 in_held past v (x ∷ s) h = ⊎_elim
     (λ here. (
       x.0,
@@ -255,7 +251,7 @@ not_unmount false t h = refl
 
 pub unmounts_are_dead : UnmountNodesAreDead
 unmounts_are_dead past n h a u = ⊎_elim
-    (λ live. absurd (opposite (is_unmount n.kind) u (not_unmount (is_unmount n.kind) (eqb n.inode n.inode) (live_concerns past n h a live))))
+    (λ live. absurd (both_ways (is_unmount n.kind) (not_unmount (is_unmount n.kind) (eqb n.inode n.inode) (live_concerns past n h a live)) u))
     (λ dead. dead)
     (cases_Bool (is_live past n.version))
 
@@ -323,11 +319,10 @@ module _ (past : List Node) (h : is_history past ≡ true) (c : Node) (e : Entry
       (λ live.
       let older = newer_version past m h a in
       let from = from_before m.version (omega arith) live in
-      absurd (opposite (is_live past m.version)
-      (⊎_elim
+      absurd (both_ways (is_live past m.version) dead (⊎_elim
       (λ new. is_newest_live past m.version from.0 new.1)
       (λ old. is_origin_live past m.version from.0 (old.0, old.1, old.2))
-      from.1) dead))
+      from.1)))
       (λ off. off)
       (cases_Bool (is_live (c ∷ past) m.version))
 
@@ -371,15 +366,15 @@ module _ (past : List Node) (h : is_history past ≡ true) (c : Node) (e : Entry
         let m = of_version (newest past i) n.version new.1 in
         let k = newest_among past i m.0 m.1 in
         let same = same_node past m.0 n h k.0 a m.2 in
-        opposite (concerns i c) (here i (ap (concerns i) (sym same) ∙ k.1)) new.0)
+        both_ways (concerns i c) new.0 (here i (ap (concerns i) (sym same) ∙ k.1)))
         (λ old.
         let m = of_version (origin past i old.0) n.version old.2 in
         let k = origin_among past i old.0 m.0 h m.1 in
         let same = same_node past m.0 n h k.0 a m.2 in
         let con : concerns i n ≡ true = ap (concerns i) (sym same) ∙ k.1 in
         ⊎_elim
-        (λ off. opposite (concerns i c) (here i con) off)
-        (λ off. opposite (writes c old.0) (covers old.0 (ap (λ x. writes x old.0) (sym same) ∙ k.2) (subst (λ j. old.0 < size_in past j) (sym (inode_of i n con)) old.1)) off)
+        (λ off. both_ways (concerns i c) off (here i con))
+        (λ off. both_ways (writes c old.0) off (covers old.0 (ap (λ x. writes x old.0) (sym same) ∙ k.2) (subst (λ j. old.0 < size_in past j) (sym (inode_of i n con)) old.1)))
         old.3)
         from.1))
         (λ off. off)

@@ -2,6 +2,7 @@
 use Rattle.std.proofs.Common.{◌≡◌, ℕ, zero, suc, ◌+◌, ◌/◌, Bool, true, false, cond, not, List, [], ◌∷◌, length, drop, map, flat_map, Option, Some, None, Result, Ok, Err, refl, sym, ap, subst, ◌∙◌}
 use Rattle.std.specs.List.{list_any, enumerate_from, AllByRecursion}
 use Rattle.std.proofs.lemmas.List.{append-nil}
+use Rattle.std.proofs.lemmas.Bool.{not-false}
 use Rattle.jffs_node.specs.declared.node.Node.{Node}
 use Rattle.jffs_node.specs.declared.read.Read.{Read}
 use Rattle.jffs_node.specs.declared.read.Read.TheVariants.{Closed, Free, Torn, Bad}
@@ -20,7 +21,7 @@ use Rattle.jffs_log.specs.Scan.{Scanned, bad_record, first_bad, versions_rise, o
 use Rattle.jffs_log.specs.History.{IsLawfulHistory, MountsAreHistories}
 use Rattle.jffs_log.proofs.Ring.{Numbered}
 use Rattle.jffs_log.proofs.Volume.{length-split}
-use Rattle.jffs_log.proofs.MountedLog.{Bytes, after_found, dropped_bytes, placed_nodes, nodes_mapped, no_bad, not_false, ok_same, passed, falls_backwards, each_numbered, each_append, each_turned, each_filtered}
+use Rattle.jffs_log.proofs.MountedLog.{Bytes, after_found, dropped_bytes, placed_nodes, nodes_mapped, no_bad, ok_same, passed, falls_backwards, each_numbered, each_append, each_turned, each_filtered}
 use Rattle.jffs_log.proofs.Histories.{all_turned}
 
 abbrev IsLawful : Node → Type 0
@@ -95,15 +96,15 @@ mounts_are_histories count len image scanned bytes is =
       sizes = ap (λ k. is_geometry k len) (sym (length-split count len image)) ∙ g.0;
       readable = record {
         sound = all_sound 0 sectors none;
-        erased = not_false (list_any (λ s. s.erased) sectors) b.0;
-        run = not_false (is_one_run sectors) c.0;
+        erased = not-false (list_any (λ s. s.erased) sectors) b.0;
+        run = not-false (is_one_run sectors) c.0;
       };
       rules = record {
         lawful = record {
           each = all_turned IsLawful (nodes_of log) lawful;
-          tree = not_false (makes_tree (past_of log)) e.0;
+          tree = not-false (makes_tree (past_of log)) e.0;
         };
-        falls = falls_backwards (nodes_of log) (not_false (versions_rise (nodes_of log)) d.0);
+        falls = falls_backwards (nodes_of log) (not-false (versions_rise (nodes_of log)) d.0);
       };
       gone = [];
       front = sym (append-nil (past_of log));

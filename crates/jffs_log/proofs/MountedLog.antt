@@ -1,7 +1,7 @@
 -- A mounted image is a session with a lawful log.
 use Rattle.std.proofs.Common.{◌≡◌, ℕ, zero, suc, ◌+◌, ◌-◌, ◌/◌, ◌≤◌, ◌<◌, Bool, true, false, cond, not, ◌&&◌, ◌||◌, leb, ltb, eqb, List, [], ◌∷◌, ◌++◌, length, map, filter, flat_map, take, drop, reverse, get_or, inl, inr, ⊎_elim, Option, Some, None, Result, Ok, Err, refl, sym, ap, subst, ◌∙◌, arith}
 use Rattle.std.specs.List.{AllByRecursion, list_any, list_all, last_or, enumerate_from}
-use Rattle.std.proofs.lemmas.Bool.{eqb-true, eq-eqb, le-leb, ltb-true, lt-ltb, and_parts, and_from}
+use Rattle.std.proofs.lemmas.Bool.{eqb-true, eq-eqb, le-leb, ltb-true, lt-ltb, and_parts, and_from, not-false}
 use Rattle.std.proofs.lemmas.List.{length-drop, length-append, length-map, get_or-drop, reverse-append, take-append-drop}
 use Rattle.std.proofs.lemmas.List.Elements.{filter-append}
 use Rattle.std.proofs.lemmas.List.Filters.{length-filter_both}
@@ -271,10 +271,6 @@ no_bad None r t h = h
 pub ok_same : (s t : Scanned) → ◌≡◌ {A = Result Scanned ScanWhy} (Ok s) (Ok t) → s ≡ t
 ok_same s t h = cc
 
-pub not_false : (b : Bool) → not b ≡ false → b ≡ true
-not_false true h = refl
-not_false false h = cc
-
 pub geometry : (g : Bool) (r : Result Scanned ScanWhy) (t : Scanned) → cond g r (Err why.Geometry) ≡ Ok t → r ≡ Ok t
 geometry true r t h = h
 geometry false r t h = cc
@@ -299,8 +295,8 @@ scan_parts z image scanned h =
     let e = passed (not (makes_tree (past_of (log_of sectors)))) why.BadTree [] result scanned d.1 in
     record {
       log = ap (λ (s : Scanned). s.log) (ok_same result scanned e.1);
-      rise = not_false (versions_rise (nodes_of (log_of sectors))) d.0;
-      tree = not_false (makes_tree (past_of (log_of sectors))) e.0;
+      rise = not-false (versions_rise (nodes_of (log_of sectors))) d.0;
+      tree = not-false (makes_tree (past_of (log_of sectors))) e.0;
     }
 
 pub mounts_are_sound : MountsAreSound

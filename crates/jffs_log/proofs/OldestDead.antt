@@ -1,7 +1,7 @@
 -- The records of a book that stand in its oldest sector.
 use Rattle.std.proofs.Common.{◌≡◌, ◌≢◌, ◌↔◌, ℕ, ◌+◌, Bool, true, false, cond, not, eqb, List, [], ◌∷◌, ◌++◌, map, flat_map, refl, sym, ap, subst, ◌∙◌}
 use Rattle.std.specs.List.{list_all, take_while, AllByRecursion}
-use Rattle.std.proofs.lemmas.Bool.{and_parts, and_from, eq-eqb, ne_eqb}
+use Rattle.std.proofs.lemmas.Bool.{and_parts, and_from, eq-eqb, ne_eqb, not-true}
 use Rattle.std.proofs.lemmas.List.{map-append, append-nil}
 use Rattle.std.proofs.lemmas.List.Sums.{take_while-cons}
 use Rattle.jffs_node.specs.declared.node.Node.{Node}
@@ -54,15 +54,11 @@ oldest_taken first sectors (o ∷ rest) blank ring =
     ∙ append-nil (map kept (records_in o)))
 
 -- none lives
-opened : (b : Bool) → not b ≡ true → b ≡ false
-opened true h = cc
-opened false h = refl
-
 all_dead : (tree : Tree) (log : List Placed) → list_all (is_dead tree) (map kept log) ≡ true → AllByRecursion (λ p. lives_in tree p ≡ false) log
 all_dead tree [] h = tt
 all_dead tree (p ∷ log) h =
     let parts = and_parts (not (lives_in tree p)) (list_all (is_dead tree) (map kept log)) h in
-    (opened (lives_in tree p) parts.0, all_dead tree log parts.1)
+    (not-true (lives_in tree p) parts.0, all_dead tree log parts.1)
 
 dead_all : (tree : Tree) (log : List Placed) → AllByRecursion (λ p. lives_in tree p ≡ false) log → list_all (is_dead tree) (map kept log) ≡ true
 dead_all tree [] h = refl

@@ -3,7 +3,7 @@ use Rattle.std.proofs.Common.{◌≡◌, ⊎_elim, ℕ, ◌+◌, ◌<◌, ◌≤
 use Rattle.std.specs.List.{last_or, list_any, enumerate_from}
 use Rattle.std.specs.Prelude.{None}
 use Rattle.std.proofs.Math.Seq.{drop-append_seam, take-append_seam}
-use Rattle.std.proofs.lemmas.Bool.{cases_Bool, leb-true}
+use Rattle.std.proofs.lemmas.Bool.{cases_Bool, leb-true, not-true}
 use Rattle.std.proofs.lemmas.List.{append-nil}
 use Rattle.std.proofs.lemmas.List.FromFn.{length-enumerate_from}
 use Rattle.jffs_log.specs.Image.{Sector, starts_from, starts, is_erased_option, is_one_run, oldest_of, turned}
@@ -53,10 +53,6 @@ both_true true true h = (refl, refl)
 both_true true false h = cc
 both_true false b h = cc
 
-not_true : (b : Bool) → not b ≡ true → b ≡ false
-not_true true h = cc
-not_true false h = refl
-
 one_start : (e : Bool) (k a : ℕ) (xs : List Numbered) → starts_from e k (sectors_of xs) ≡ a ∷ [] → OneStart e k a xs
 one_start e k a [] h = absurd (cc)
 one_start e k a (s ∷ xs) h =
@@ -66,7 +62,7 @@ one_start e k a (s ∷ xs) h =
     (λ (yes : t ≡ true).
     let same : k ∷ r ≡ a ∷ [] = sym (start_here t k r yes) ∙ h in
     let parts = both_true e (not s.1.erased) yes in
-    let used = not_true s.1.erased parts.1 in
+    let used = not-true s.1.erased parts.1 in
     let number : k ≡ a = cc in
     let none : r ≡ [] = cc in
     record {

@@ -1,13 +1,13 @@
 -- A node that isn't live never comes to life.
 use Rattle.std.proofs.Common.{◌≡◌, ℕ, ◌<◌, true, false, ltb, List, [], ◌∷◌, ⊎_elim, Option, Some, None, length, sym, ap, subst, ◌∙◌, arith}
 use Rattle.std.specs.List.{list_all}
-use Rattle.std.proofs.lemmas.Bool.{and_parts, ltb-true, cases_Bool, cases_lt}
+use Rattle.std.proofs.lemmas.Bool.{and_parts, ltb-true, cases_Bool, cases_lt, both_ways}
 use Rattle.jffs_node.specs.declared.node.Node.{Node}
 use Rattle.jffs_tree.specs.Origin.{concerns, size_in, writes, place_before, origin, newest, version_of, is_live}
 use Rattle.jffs_tree.specs.Laws.{NoneLive}
 use Rattle.jffs_tree.proofs.Steps.{entry-other, newest-other, newest-deleted, newest-written, origin-other, origin-written, origin-moved, origin-padding}
 use Rattle.jffs_tree.specs.State.{bytes_of}
-use Rattle.jffs_log.proofs.Copied.{opposite, none_some, same_some, comes_from, is_newest_live, is_origin_live, origin_deleted}
+use Rattle.jffs_log.proofs.Copied.{none_some, same_some, comes_from, is_newest_live, is_origin_live, origin_deleted}
 
 of_none : (o : Option Node) (v : ℕ) → o ≡ None → version_of o ≡ Some v → ⊥
 of_none o v e f = none_some (version_of o) v (ap version_of e) f
@@ -49,10 +49,10 @@ module _ (n : Node) (past : List Node) (v : ℕ) (older : v < n.version) where
   stays_dead dead = ⊎_elim
       (λ live.
       let from = comes_from (n ∷ past) v live in
-      absurd (opposite (is_live past v) (⊎_elim
+      absurd (both_ways (is_live past v) dead (⊎_elim
       (λ new. newest_before from.0 new)
       (λ old. origin_before from.0 old.0 old.1 old.2)
-      from.1) dead))
+      from.1)))
       (λ off. off)
       (cases_Bool (is_live (n ∷ past) v))
 

@@ -6,7 +6,7 @@ use Rattle.jffs_node.specs.declared.read.Read.TheVariants.{Closed, Free, Torn}
 use Rattle.jffs_node.specs.declared.header.Head.{Head}
 use Rattle.jffs_node.specs.Laws.{IsClosedExactly}
 use Rattle.jffs_node.specs.Reading.{rules, broken_rule, byte_at, data_len, node_at, is_erased, closed_or_bad, found}
-use Rattle.std.proofs.lemmas.Bool.{or_parts, ltb-false}
+use Rattle.std.proofs.lemmas.Bool.{or_parts, ltb-false, not-true, not-false}
 use Rattle.jffs_node.specs.Record.{numbers_hold, is_unmount, len_of_data, record_len, BeginsWith}
 use Rattle.jffs_node.specs.Header.{head_at, head_or_why}
 use Rattle.jffs_node.proofs.Found.{records_are_found}
@@ -29,27 +29,20 @@ head_refused rest None w h = absurd (ok_differs w (head_at rest) (sym h))
 head_refused rest (Some v) w h = ap (λ x. Some x) (sym (err_same {A = Head} v w h))
 
 -- What is found, by its parts.
-not_true : (b : Bool) → not b ≡ true → b ≡ false
-not_true true h = cc
-not_true false h = refl
-
-not_false : (b : Bool) → not b ≡ false → b ≡ true
-not_false true h = refl
-not_false false h = cc
 
 -- a closed gate stands behind a whole header
 pub closed_long : (rest : List ℕ) (closed : Bool) → closed ≡ not (ltb (length rest) 64 || not (eqb (byte_at 7 rest) 0)) → closed ≡ true → 64 ≤ length rest
-closed_long rest closed e h = ltb-false (length rest) 64 (or_parts (ltb (length rest) 64) (not (eqb (byte_at 7 rest) 0)) (not_true _ (sym e ∙ h))).0
+closed_long rest closed e h = ltb-false (length rest) 64 (or_parts (ltb (length rest) 64) (not (eqb (byte_at 7 rest) 0)) (not-true _ (sym e ∙ h))).0
 
 pub found_without : (rest : List ℕ) (record_max : ℕ) (closed : Bool) → closed ≡ not (ltb (length rest) 64 || not (eqb (byte_at 7 rest) 0)) → closed ≡ false
     → cond (is_erased rest) Free Torn ≡ found record_max rest
-found_without rest record_max closed e h = ap (λ t. cond t (cond (is_erased rest) Free Torn) (closed_or_bad rest (broken_rule record_max rest))) (sym (not_false _ (sym e ∙ h)))
+found_without rest record_max closed e h = ap (λ t. cond t (cond (is_erased rest) Free Torn) (closed_or_bad rest (broken_rule record_max rest))) (sym (not-false _ (sym e ∙ h)))
 
 pub found_with : (rest : List ℕ) (record_max : ℕ) (closed : Bool) (o : Option Why) → closed ≡ not (ltb (length rest) 64 || not (eqb (byte_at 7 rest) 0)) → closed ≡ true
     → broken_rule record_max rest ≡ o → closed_or_bad rest o ≡ found record_max rest
 found_with rest record_max closed o e h b =
     ap (λ p. closed_or_bad rest p) (sym b)
-    ∙ ap (λ t. cond t (cond (is_erased rest) Free Torn) (closed_or_bad rest (broken_rule record_max rest))) (sym (not_true _ (sym e ∙ h)))
+    ∙ ap (λ t. cond t (cond (is_erased rest) Free Torn) (closed_or_bad rest (broken_rule record_max rest))) (sym (not-true _ (sym e ∙ h)))
 
 -- Both laws, of what was read.
 pub closed_exactly : (rest : List ℕ) (record_max : ℕ) (read : Read) → ((i : ℕ) → get_or rest i 0 < 256) → read ≡ found record_max rest → IsClosedExactly record_max rest read

@@ -4,7 +4,7 @@ use Rattle.std.proofs.Math.Seq.{drop-append_seam}
 use Rattle.std.specs.Option.{option_map_or}
 use Rattle.std.specs.List.{list_all, AllByRecursion}
 use Rattle.std.specs.Int.{to_be_bytes, from_be_bytes}
-use Rattle.std.proofs.lemmas.Bool.{and_parts, and_from, or_right, or_cases, or_parts, eqb-true, ltb-true, leb-true, ltb-false, lt-ltb, ne_eqb, cases_Bool, cases_lt}
+use Rattle.std.proofs.lemmas.Bool.{and_parts, and_from, or_right, or_cases, or_parts, eqb-true, ltb-true, leb-true, ltb-false, lt-ltb, ne_eqb, cases_Bool, cases_lt, not-false}
 use Rattle.std.proofs.lemmas.Nat.{be_bytes_2, be_bytes_4}
 use Rattle.std.proofs.lemmas.Slice.Eq.{bytes_eq-Decides}
 use Rattle.std.proofs.lemmas.List.{length-take, length-drop, get_or-take, get_or-drop, get_or_past}
@@ -302,17 +302,13 @@ closed_rules rest (Some w) n len h = absurd (bad_closed h)
     bad_closed : Bad w ≡ Closed n len → ⊥
     bad_closed e = cc
 
-not_not : (b : Bool) → not b ≡ false → b ≡ true
-not_not true h = refl
-not_not false h = cc
-
 pub found_are_records : FoundAreRecords
 found_are_records rest record_max n len bytes h = ⊎_elim
     (λ blank. absurd (no_erased_record rest n len (sym (ap (λ t. cond t (cond (is_erased rest) Free Torn) (closed_or_bad rest (broken_rule record_max rest))) blank) ∙ h)))
     (λ written.
     let parts = or_parts (ltb (length rest) 64) (not (eqb (byte_at 7 rest) 0)) written in
     let long = ltb-false (length rest) 64 parts.0 in
-    let gate = eqb-true (byte_at 7 rest) 0 (not_not (eqb (byte_at 7 rest) 0) parts.1) in
+    let gate = eqb-true (byte_at 7 rest) 0 (not-false (eqb (byte_at 7 rest) 0) parts.1) in
     let closed = closed_rules rest (broken_rule record_max rest) n len (sym (ap (λ t. cond t (cond (is_erased rest) Free Torn) (closed_or_bad rest (broken_rule record_max rest))) written) ∙ h) in
     let hold = all_hold (rules record_max rest) closed.0 in
     let d = dsize_is rest record_max bytes long gate hold in

@@ -104,7 +104,7 @@ replied_more start old new request outcome node unmounts put before now replies 
     }
 
 -- nothing that replies speak of has changed
-pub replied_same :
+replied_same :
     (start : Start) (old new : Standing) (kept : Option Kept) (put : List Step) (before now : ℕ → List Request) (replies : List Reply)
     → new.answers ≡ old.answers → new.closed ≡ old.closed → KeepsHistory old new → ((w : ℕ) → now w ≡ before w)
     → HasReplied start old kept put before replies → HasReplied start new kept put now replies

@@ -5,6 +5,7 @@ use Rattle.jffs_line.specs.declared.request.Request.{Request}
 use Rattle.jffs_tree.specs.declared.wish.Wish.{Wish}
 use Rattle.jffs_tree.specs.declared.wish.Wish.TheVariants.{Copy}
 
+-- the wish asks for a copy
 abbrev pub IsCopy : Wish → Type 0
 IsCopy (Copy source parent name offset bytes) = Unit {0}
 IsCopy _ = ⊥

@@ -1,7 +1,7 @@
 -- Nodes that change an inode, make one or remove one, as decisions give them.
 use Rattle.std.proofs.Common.{◌≡◌, ℕ, min, max, ◌+◌, ◌-◌, ◌<◌, ◌≤◌, ◌^◌, Bool, true, false, cond, not, ◌&&◌, eqb, ltb, List, [], ◌∷◌, length, take, drop, get_or, ◌⊎◌, inl, inr, ⊎_elim, Option, Some, None, refl, sym, ap, subst, ◌∙◌, arith}
 use Rattle.std.specs.List.{AllByRecursion, list_all, list_any}
-use Rattle.std.proofs.lemmas.Bool.{eqb-true, eqb-false, and_parts, cases_Bool, cases_lt}
+use Rattle.std.proofs.lemmas.Bool.{eqb-true, eqb-false, and_parts, cases_Bool, cases_lt, both_ways, not-true}
 use Rattle.std.proofs.lemmas.List.{get_or_past, get_or-take, get_or-drop, length-take, length-drop}
 use Rattle.jffs_node.specs.declared.node.Node.{Node}
 use Rattle.jffs_node.specs.declared.node.Kind.{Kind}
@@ -70,11 +70,8 @@ module _ (past : List Node) (before : IsLawfulPast past) (version writer seq : �
     pub its_file : is_directory_in (state_of_past past) i ≡ false → e.kind ≡ File
     its_file other = ⊎_elim
         (λ file. file)
-        (λ directory. absurd (opposite (is_directory_in (state_of_past past) i) (directory_there (state_of_past past) i e is (ap is_directory directory.0)) other))
+        (λ directory. absurd (both_ways (is_directory_in (state_of_past past) i) other (directory_there (state_of_past past) i e is (ap is_directory directory.0))))
         (its i e is).kind
-      where
-        opposite : (b : Bool) → b ≡ true → b ≡ false → ⊥
-        opposite b t f = cc
 
     module _ (copy : Bool) (offset rsize : ℕ) (size : Option ℕ) (bytes : List ℕ) where
       file_node : e.kind ≡ File → (k : ℕ) → size ≡ Some k → k ≤ file_max → offset + length bytes ≤ k → offset + rsize ≤ file_max → (rsize ≤ length bytes) ⊎ (length bytes ≡ 0)
@@ -191,13 +188,9 @@ module _ (past : List Node) (before : IsLawfulPast past) (version writer seq : �
           size = refl;
           bytes = refl;
           empty = λ j f there parent.
-              absurd (eqb-false f.parent i (none_at (λ x. eqb x.1.parent i) (state_of_past past) j f (not_back (list_any (λ (x : ℕ × Entry). eqb x.1.parent i) (state_of_past past)) empty) there) (sym parent));
+              absurd (eqb-false f.parent i (none_at (λ x. eqb x.1.parent i) (state_of_past past) j f (not-true (list_any (λ (x : ℕ × Entry). eqb x.1.parent i) (state_of_past past)) empty) there) (sym parent));
         })
         before
-      where
-        not_back : (b : Bool) → not b ≡ true → b ≡ false
-        not_back true h = cc
-        not_back false h = refl
 
   -- A directory with room for one name more below it.
   pub record IsHome (p : ℕ) (name : List ℕ) : Type 0 where

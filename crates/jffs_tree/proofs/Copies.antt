@@ -3,7 +3,7 @@ use Rattle.std.proofs.Common.{◌≡◌, ℕ, zero, suc, min, unwrap_or, ◌≤�
 use Rattle.std.specs.List.{list_any, find}
 use Rattle.std.specs.Ordering.{nat_cmp, eq_by_cmp, is_lt}
 use Rattle.std.proofs.Common.{Less, Equal, Greater}
-use Rattle.std.proofs.lemmas.Bool.{ltb-true}
+use Rattle.std.proofs.lemmas.Bool.{ltb-true, not-false}
 use Rattle.std.specs.Cmp.{unsigned_tied}
 use Rattle.std.specs.FinMap.Entries as entries
 use Rattle.std.proofs.lemmas.Bool.{eqb-true, eq-eqb, ne_eqb, leb-true, le-leb, and_parts, and_from, not_from_false, cases_Bool}
@@ -103,10 +103,6 @@ passed : (test : Bool) (cause : Cause) (causes : List (Bool × Cause)) (n m : Ne
 passed true cause causes n m is = cc
 passed false cause causes n m is = (refl, is)
 
-pub not_true : (b : Bool) → not b ≡ false → b ≡ true
-not_true true h = refl
-not_true false h = cc
-
 pub same_bytes : (xs ys : List ℕ) → bytes_eq xs ys ≡ true → xs ≡ ys
 same_bytes xs ys h = (bytes_eq-Decides xs ys).0 h
 
@@ -154,7 +150,7 @@ module _ (past : List Node) (limits : Limits) (parent : ℕ) (name : List ℕ) (
       let stale = passed (not known) Stale last copy n live.1 in
       let spent = passed (is_none limits.next_version) VersionsSpent [] copy n stale.1 in
       let h = the_holder o live.0 in
-      let current = (and_parts (eqb e.parent parent && bytes_eq e.name name) (is_current e offset bytes) (not_true known stale.0)).1 in
+      let current = (and_parts (eqb e.parent parent && bytes_eq e.name name) (is_current e offset bytes) (not-false known stale.0)).1 in
       let given : copy_node (held_inode o) e offset bytes ≡ n = ok_same spent.1 in (
         h.0.1.entry,
         accepted h.0 n (there h.0 h.1)

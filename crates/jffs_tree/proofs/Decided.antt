@@ -2,7 +2,7 @@
 use Rattle.std.proofs.Common.{◌≡◌, ℕ, zero, suc, min, max, ◌+◌, ◌-◌, ◌<◌, ◌≤◌, Bool, true, false, cond, not, ◌&&◌, ◌||◌, eqb, leb, ltb, IsTrue, List, [], ◌∷◌, length, take, drop, get_or, ⊎_elim, Option, Some, None, is_none, is_some, unwrap_or, Result, Ok, Err, bytes_eq, refl, sym, ap, subst, ◌∙◌, arith}
 use Rattle.std.specs.List.{AllByRecursion}
 use Rattle.std.specs.Option.{option_map_or}
-use Rattle.std.proofs.lemmas.Bool.{leb-true, le-leb, ltb-false, eqb-false, and_parts, or_parts}
+use Rattle.std.proofs.lemmas.Bool.{leb-true, le-leb, ltb-false, eqb-false, and_parts, or_parts, not-false}
 use Rattle.std.proofs.lemmas.List.{length-take}
 use Rattle.jffs_node.specs.declared.node.Node.{Node}
 use Rattle.jffs_node.specs.declared.node.Kind.{Kind}
@@ -24,15 +24,15 @@ use Rattle.jffs_tree.specs.Deciding.{IsLawfulPast, AreNumbers, IsNewInode, AreLi
 use Rattle.jffs_tree.proofs.Pointwise.{at-state, sorted-state}
 use Rattle.jffs_node.proofs.Fitting.{small_bytes}
 use Rattle.jffs_tree.proofs.There.{resolved_there}
-use Rattle.jffs_tree.proofs.Copies.{not_true, same_bytes, the_holder, holder_is_there, same_front, low_min}
+use Rattle.jffs_tree.proofs.Copies.{same_bytes, the_holder, holder_is_there, same_front, low_min}
 use Rattle.jffs_tree.proofs.Resolving.{led_within, led_to_last, the_parent, the_inode, nothing_there}
 use Rattle.jffs_tree.proofs.Lawful.{lawful_from}
 use Rattle.jffs_tree.proofs.Entries.{lawful_entry}
 use Rattle.jffs_tree.proofs.Ruled.{check_parts, each_fits_from, keeps_past}
 use Rattle.jffs_tree.proofs.Changing.{Keeps, IsHome, its_file, write_keeps, truncate_keeps, copy_keeps, remove_keeps, rename_keeps, create_keeps, make_directory_keeps}
 
--- a decision that gave a node passed all tests
-all_passed : (causes : List (Bool × Cause)) (n m : NewNode) → unless causes n ≡ Ok m → AllByRecursion (λ (c : Bool × Cause). c.0 ≡ false) causes × (n ≡ m)
+-- a decision that gave a node passed all tests, and gave that node
+pub all_passed : (causes : List (Bool × Cause)) (n m : NewNode) → unless causes n ≡ Ok m → AllByRecursion (λ (c : Bool × Cause). c.0 ≡ false) causes × (n ≡ m)
 all_passed [] n m is = (tt, the_same is)
   where
     the_same : {n m : NewNode} → ◌≡◌ {A = Result NewNode Cause} (Ok n) (Ok m) → n ≡ m
@@ -142,7 +142,7 @@ module _ (past : List Node) (limits : Limits) (version writer seq : ℕ) (before
       ∷ (ltb file_max (offset + length bytes), FileLong)
       ∷ (is_none limits.next_version, VersionsSpent)
       ∷ []) (write_node i (entry_of s i) offset bytes) n is in
-      let there = no_directory path (not_true _ passed.0.0) passed.0.1.0 in
+      let there = no_directory path (not-false _ passed.0.0) passed.0.1.0 in
       let file = its_file past before version writer seq v i (entry_of s i) there passed.0.1.0 in
       let data_fits = ltb-false limits.data_max (length bytes) passed.0.1.1.0 in
       subst Good passed.1 (
@@ -160,7 +160,7 @@ module _ (past : List Node) (limits : Limits) (version writer seq : ℕ) (before
       ∷ (ltb file_max size, FileLong)
       ∷ (is_none limits.next_version, VersionsSpent)
       ∷ []) (truncate_node i (entry_of s i) size) n is in
-      let there = no_directory path (not_true _ passed.0.0) passed.0.1.0 in
+      let there = no_directory path (not-false _ passed.0.0) passed.0.1.0 in
       let file = its_file past before version writer seq v i (entry_of s i) there passed.0.1.0 in
       subst Good passed.1 (truncate_keeps past before version writer seq v i (entry_of s i) there file size (ltb-false file_max size passed.0.1.1.0), omega arith)
 
@@ -179,8 +179,8 @@ module _ (past : List Node) (limits : Limits) (version writer seq : ℕ) (before
       ∷ (is_none limits.next_version, VersionsSpent)
       ∷ []) (plain i (record e { parent = parent; name = last_name target })) n is in
       let roots = or_parts (is_root source) (is_root target) passed.0.0 in
-      let home = a_home target names roots.1 (not_true _ passed.0.1.0) passed.0.1.1.0 in
-      let there = below_root source (not_true _ passed.0.1.1.1.0) roots.0 in
+      let home = a_home target names roots.1 (not-false _ passed.0.1.0) passed.0.1.1.0 in
+      let there = below_root source (not-false _ passed.0.1.1.1.0) roots.0 in
       subst Good passed.1 (rename_keeps past before version writer seq v parent (last_name target) home i e there passed.0.1.1.1.1.0, omega arith)
 
   decided_remove : (path : List (List ℕ)) (n : NewNode) → decide past limits (Remove path) ≡ Ok n → Good n
@@ -193,8 +193,8 @@ module _ (past : List Node) (limits : Limits) (version writer seq : ℕ) (before
       ∷ (not (is_empty s i), NotEmpty)
       ∷ (is_none limits.next_version, VersionsSpent)
       ∷ []) (record (plain i (entry_of s i)) { deleted = true; size = None }) n is in
-      let there = below_root path (not_true _ passed.0.1.0) passed.0.0 in
-      subst Good passed.1 (remove_keeps past before version writer seq v i (entry_of s i) there (not_true _ passed.0.1.1.0), omega arith)
+      let there = below_root path (not-false _ passed.0.1.0) passed.0.0 in
+      subst Good passed.1 (remove_keeps past before version writer seq v i (entry_of s i) there (not-false _ passed.0.1.1.0), omega arith)
 
   -- MakeDir and Create
   module _ (path : List (List ℕ)) (names : IsPath path) (fresh : AreLimitsOf past limits) where
@@ -212,7 +212,7 @@ module _ (past : List Node) (limits : Limits) (version writer seq : ℕ) (before
         ∷ (is_none limits.next_inode, InodesSpent)
         ∷ (is_none limits.next_version, VersionsSpent)
         ∷ []) (new_node kind) n is in
-        (a_home path names passed.0.0 (not_true _ passed.0.1.0) passed.0.1.1.0, fresh (unwrap_or limits.next_inode 0) (given limits.next_inode passed.0.1.1.1.0), passed.1)
+        (a_home path names passed.0.0 (not-false _ passed.0.1.0) passed.0.1.1.0, fresh (unwrap_or limits.next_inode 0) (given limits.next_inode passed.0.1.1.1.0), passed.1)
 
     decided_make_directory : (n : NewNode) → decide past limits (MakeDir path) ≡ Ok n → Good n
     decided_make_directory n is =
@@ -238,7 +238,7 @@ module _ (past : List Node) (limits : Limits) (version writer seq : ℕ) (before
           ∷ (is_none limits.next_version, VersionsSpent)
           ∷ []) (copy_node (held_inode o) e offset bytes) n is in
           let h = the_holder o passed.0.1.0 in
-          let current = (and_parts (eqb e.parent parent && bytes_eq e.name name) (is_current e offset bytes) (not_true known passed.0.1.1.0)).1 in
+          let current = (and_parts (eqb e.parent parent && bytes_eq e.name name) (is_current e offset bytes) (not-false known passed.0.1.1.0)).1 in
           let parts = and_parts (leb offset (length h.0.1.entry.bytes)) (bytes_eq (take (length bytes) (drop offset h.0.1.entry.bytes)) bytes)
           (ap (λ x. is_current (held_entry x) offset bytes) (sym h.1) ∙ current) in
           let there = at-state past h.0.0 ∙ holder_is_there past source h.0 (found ∙ h.1) in

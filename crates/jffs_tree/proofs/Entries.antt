@@ -2,7 +2,7 @@
 use Rattle.std.proofs.Common.{◌≡◌, ℕ, ◌+◌, ◌<◌, ◌≤◌, ◌^◌, Bool, true, false, not, ◌&&◌, ◌||◌, eqb, leb, IsTrue, List, [], ◌∷◌, length, get_or, ◌⊎◌, inl, inr, ⊎_elim, Option, Some, None, is_none, unwrap_or, refl, sym, ap, subst, ◌∙◌, arith}
 use Rattle.std.specs.List.{AllByRecursion}
 use Rattle.std.specs.Option.{option_map_or}
-use Rattle.std.proofs.lemmas.Bool.{eqb-true, leb-true, and_parts, or_cases, cases_Bool, cases_lt}
+use Rattle.std.proofs.lemmas.Bool.{eqb-true, leb-true, and_parts, or_cases, cases_Bool, cases_lt, both_ways, not-true}
 use Rattle.std.proofs.lemmas.List.{get_or_past}
 use Rattle.jffs_node.specs.declared.node.Node.{Node}
 use Rattle.jffs_node.specs.declared.node.Kind.{Kind}
@@ -74,12 +74,9 @@ module _ (n : Node) (past : List Node) (lawful : is_lawful n ≡ true) (stands :
 
   old_kind : (e : Entry) → entry past n.inode ≡ Some e → e.kind ≡ n.kind
   old_kind e is = ⊎_elim
-      (λ gone. absurd (opposite n.deleted gone d))
+      (λ gone. absurd (both_ways n.deleted d gone))
       (λ same. same_byte e.kind n.kind (sym (ap (λ o. option_map_or (λ x. eqb (kind_byte x.kind) (kind_byte n.kind)) o true) is) ∙ same))
       (or_cases n.deleted (option_map_or (λ x. eqb (kind_byte x.kind) (kind_byte n.kind)) (entry past n.inode) true) kind)
-    where
-      opposite : (b : Bool) → b ≡ true → b ≡ false → ⊥
-      opposite b t f = cc
 
   old_empty : n.kind ≡ Directory → bytes_of (entry past n.inode) ≡ []
   old_empty is = by_entry (entry past n.inode) refl
@@ -170,7 +167,7 @@ lawful_entry (n ∷ past) i e lawful fits is =
     (λ d.
     let tests = and_parts (not (is_unmount n.kind)) (eqb n.inode i) c in
     let at_inode : n.inode ≡ i = eqb-true n.inode i tests.1 in
-    let stands = not_back (is_unmount n.kind) tests.0 in
+    let stands = not-true (is_unmount n.kind) tests.0 in
     let made = subst (λ k. IsLawfulEntry k (written n (entry past k))) at_inode
     (lawful_written n past lawful.0 stands d parts.1 parts.2 (λ f was. lawful_entry past n.inode f lawful.1 parts.0 was)) in
     let same = the_same (entry (n ∷ past) i) (written n (entry past i)) e (entry-written i n past c d) is in
@@ -184,7 +181,3 @@ lawful_entry (n ∷ past) i e lawful fits is =
 
     the_same : (o : Option Entry) (a b : Entry) → o ≡ Some a → o ≡ Some b → a ≡ b
     the_same o a b p q = let r : Some a ≡ Some b = sym p ∙ q in cc
-
-    not_back : (b : Bool) → not b ≡ true → b ≡ false
-    not_back true h = cc
-    not_back false h = refl

@@ -1,11 +1,11 @@
 -- A state that keeps the rules keeps them when one inode is put or goes.
-use Rattle.std.proofs.Common.{◌≡◌, ℕ, zero, suc, Bool, true, false, not, ◌||◌, eqb, T, [], ◌∷◌, ◌⊎◌, inl, inr, ⊎_elim, Option, Some, None, refl, sym, ap, subst, ◌∙◌, nat_cmp}
+use Rattle.std.proofs.Common.{◌≡◌, ℕ, zero, suc, true, false, not, ◌||◌, eqb, T, [], ◌∷◌, ◌⊎◌, inl, inr, ⊎_elim, Option, Some, None, refl, sym, ap, subst, ◌∙◌, nat_cmp}
 use Rattle.std.specs.List.{list_any, list_all}
 use Rattle.std.specs.Option.{option_map_or}
 use Rattle.std.specs.Ordering.{eq_by_cmp}
 use Rattle.std.specs.Cmp.{unsigned_tied}
 use Rattle.std.specs.FinMap.Entries as entries
-use Rattle.std.proofs.lemmas.Bool.{eqb-true, eq-eqb, and_parts, and_from, or_left, or_right, or_cases, cases_Bool, cases_eq, not_from_false}
+use Rattle.std.proofs.lemmas.Bool.{eqb-true, eq-eqb, and_parts, and_from, or_left, or_right, or_cases, cases_Bool, cases_eq, not_from_false, both_ways, not-true}
 use Rattle.jffs_node.specs.Record.{is_directory}
 use Rattle.jffs_tree.specs.State.{Entry, State, at, is_child, is_directory_in}
 use Rattle.jffs_tree.specs.Check.{parents_are_there, names_differ, is_within}
@@ -179,16 +179,9 @@ names_apart (x ∷ s) j k f g h is was parent name =
   where
     twice : (f : Entry) (s : State) (k : ℕ) (g : Entry) → not (list_any (is_child f.parent f.name) s) ≡ true → at s k ≡ Some g → f.parent ≡ g.parent → f.name ≡ g.name → ⊥
     twice f s k g none is parent name =
-        let no = none_at (is_child f.parent f.name) s k g (not_back (list_any (is_child f.parent f.name) s) none) is in
+        let no = none_at (is_child f.parent f.name) s k g (not-true (list_any (is_child f.parent f.name) s) none) is in
         let yes = is_it f k g parent name in
-        opposite (is_child f.parent f.name (k, g)) yes no
-      where
-        not_back : (b : Bool) → not b ≡ true → b ≡ false
-        not_back true h = cc
-        not_back false h = refl
-
-        opposite : (b : Bool) → b ≡ true → b ≡ false → ⊥
-        opposite b t f = cc
+        both_ways (is_child f.parent f.name (k, g)) no yes
 
 names_apart_from : (s : State) → T (entries.is_sorted nat_cmp s) → ((j k : ℕ) (f g : Entry) → at s j ≡ Some f → at s k ≡ Some g → f.parent ≡ g.parent → f.name ≡ g.name → j ≡ k) → names_differ s ≡ true
 names_apart_from [] sorted h = refl

@@ -1,9 +1,9 @@
 -- Where a path leads.
-use Rattle.std.proofs.Common.{◌≡◌, ℕ, zero, suc, ◌+◌, ◌-◌, ◌≤◌, Bool, true, false, eqb, T, take, get_or, length, option_map, option_and_then, unwrap_or, is_some, List, [], ◌∷◌, ⊎_elim, Option, Some, None, refl, sym, ap, ◌∙◌, arith, nat_cmp}
+use Rattle.std.proofs.Common.{◌≡◌, ℕ, zero, suc, ◌+◌, ◌-◌, ◌≤◌, true, false, eqb, T, take, get_or, length, option_map, option_and_then, unwrap_or, is_some, List, [], ◌∷◌, ⊎_elim, Option, Some, None, refl, sym, ap, ◌∙◌, arith, nat_cmp}
 use Rattle.std.specs.List.{find}
 use Rattle.std.specs.Option.{option_map_or}
 use Rattle.std.specs.FinMap.Entries as entries
-use Rattle.std.proofs.lemmas.Bool.{eqb-true, eq-eqb, and_parts, and_from, or_left, or_right, or_cases}
+use Rattle.std.proofs.lemmas.Bool.{eqb-true, eq-eqb, and_parts, and_from, or_left, or_right, or_cases, both_ways}
 use Rattle.std.proofs.lemmas.Slice.Eq.{bytes_eq-Decides}
 use Rattle.jffs_tree.specs.State.{Entry, State, at, is_child, child, resolve_from, resolve, is_directory_in}
 use Rattle.jffs_tree.specs.Check.{is_within}
@@ -26,14 +26,11 @@ pub no_child : (s : State) (p : ℕ) (name : List ℕ) → child s p name ≡ No
 no_child s p name none j f is parent same =
     let no = not_found (is_child p name) s j f (by_found (find (is_child p name) s) none) is in
     let yes = and_from (eqb f.parent p) _ (eq-eqb f.parent p parent) ((bytes_eq-Decides f.name name).1 same) in
-    opposite (is_child p name (j, f)) yes no
+    both_ways (is_child p name (j, f)) no yes
   where
     by_found : (o : Option (ℕ × Entry)) → option_map (λ x. x.0) o ≡ None → o ≡ None
     by_found None h = refl
     by_found (Some x) h = cc
-
-    opposite : (b : Bool) → b ≡ true → b ≡ false → ⊥
-    opposite b t f = cc
 
 -- More names may lead so far.
 within_more : (k m : ℕ) (s : State) (i : ℕ) → k ≤ m → is_within k s i ≡ true → is_within m s i ≡ true

@@ -1,5 +1,5 @@
 use Rattle.std.proofs.Common.{◌≡◌, ◌∙◌, ◌+◌, ◌≤◌, Option, None, refl, sym, ap, subst, arith}
-use Rattle.jffs_log.proofs.Copied.{opposite}
+use Rattle.std.proofs.lemmas.Bool.{both_ways}
 use Rattle.jffs_log.specs.declared.book.Book.{Book}
 use Rattle.jffs_node.specs.declared.node.Node.{Node}
 use Rattle.jffs_core.specs.Standing.{Standing}
@@ -50,7 +50,7 @@ returns-clause-failed g c = λ fails.
     let q = c.args.request in
     elim c.if-self.branch [
       | then-self w ↦ subst (λ (v : Standing). KeepsAnswer q.writer q.seq c.if-self.answered.outcome v c.keep_answer.new.self) w.self-is c.keep_answer.ensures.kept
-      | else-self w ↦ absurd (opposite c.args.self.now.failed fails (ap (λ (v : Standing). v.failed) (sym c.self.view_is) ∙ w.if-self.false))
+      | else-self w ↦ absurd (both_ways c.args.self.now.failed (ap (λ (v : Standing). v.failed) (sym c.self.view_is) ∙ w.if-self.false) fails)
     ]
 
 pub returns-clause-erases : goal.returns-clause-erases

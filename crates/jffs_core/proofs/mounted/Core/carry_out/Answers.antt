@@ -1,5 +1,6 @@
-use Rattle.std.proofs.Common.{◌≡◌, ◌∙◌, Bool, true, false, ◌&&◌, inl, inr, refl, sym, ap, Err}
+use Rattle.std.proofs.Common.{◌≡◌, ◌∙◌, true, false, ◌&&◌, inl, inr, refl, sym, ap, Err}
 use Rattle.std.proofs.lemmas.Result.{err_from_is_err_and}
+use Rattle.std.proofs.lemmas.Bool.{and_left, and_right}
 use Rattle.jffs_tree.specs.Decide.{decide_on, is_unmount_wish}
 use Rattle.jffs_core.specs.Standing.{Standing}
 use Rattle.jffs_log.specs.Room.{limits as limits_of}
@@ -13,22 +14,14 @@ pub returns-then-self-clause-acted : goal.returns-then-self-clause-acted
 returns-then-self-clause-acted g c = λ past known.
     already_closed past _ _ c.args.request.now c.requires.working known refl (sym c.is_unmount.ensures ∙ c.if-is_unmount.true) (ap (λ (v : Standing). v.clean) (sym c.self.view_is) ∙ c.if-self.true)
 
-neither : (u b : Bool) → u ≡ false → (u && b) ≡ false
-neither false b h = refl
-neither true b h = cc
-
-second : (u b : Bool) → b ≡ false → (u && b) ≡ false
-second false b h = refl
-second true b h = h
-
 pub returns-in_err-new-clause-acted : goal.returns-in_err-new-clause-acted
 returns-in_err-new-clause-acted g c = let p = err_from_is_err_and c.from_residual.result c.from_residual.ensures.1 in rw (p.1, p.2) λ past known.
     let q = c.args.request.now in
     let v : Standing = c.args.self.now in
     let takes : (is_unmount_wish q.wish && v.clean) ≡ false =
     elim c.else-is_unmount.branch [
-      | else-is_unmount-via-then-is_unmount+else-self w ↦ second (is_unmount_wish q.wish) v.clean (ap (λ (s : Standing). s.clean) (sym c.self.view_is) ∙ w.if-self.false)
-      | else-is_unmount-via-else-is_unmount w ↦ neither (is_unmount_wish q.wish) v.clean (sym c.is_unmount.ensures ∙ w.if-is_unmount.false)
+      | else-is_unmount-via-then-is_unmount+else-self w ↦ and_right (is_unmount_wish q.wish) v.clean (ap (λ (s : Standing). s.clean) (sym c.self.view_is) ∙ w.if-self.false)
+      | else-is_unmount-via-else-is_unmount w ↦ and_left (is_unmount_wish q.wish) v.clean (sym c.is_unmount.ensures ∙ w.if-is_unmount.false)
     ] in
     let seen : decide_on c.self.inside.tree c.self.inside.limits q.wish ≡ decide_on v.tree v.limits q.wish = ap (λ (s : Standing). decide_on s.tree s.limits q.wish) c.self.view_is in
     decided_against past _ _ q c.requires.working known _ refl takes

@@ -1,8 +1,8 @@
 use Rattle.std.proofs.Common.{Some}
 use Rattle.std.proofs.lemmas.Result.{err_from_is_err_and}
+use Rattle.std.proofs.lemmas.Bool.{both_ways}
 use Rattle.jffs_tree.specs.declared.wish.Outcome.TheVariants.{Appended}
 use Rattle.jffs_log.specs.declared.room.Room.TheVariants as rooms
-use Rattle.jffs_log.proofs.Copied.{opposite}
 use Rattle.jffs_core.proofs.Refusing.{works_past}
 use Rattle.jffs_core.proofs.Asked.{fresh_is, fresh_may, fresh_room}
 use Rattle.jffs_core.proofs.Stepping.{answers_same, fresh_put_keeps, put_now, put_stopped}
@@ -29,4 +29,4 @@ returns-in_err-append-clause-acted g c = let p = err_from_is_err_and c.from_resi
     let q = c.args.request.now in
     let n = c.args.node in
     put_stopped past _ _ q c.requires.working known rooms.Fresh n _ d (fresh_room past _ q n known d c.requires.no_copy c.requires.no_unmount)
-    (fresh_may past _ q n known d c.requires.no_copy c.requires.no_unmount) c.in_err-append.ensures.refused (λ is f. opposite _ c.requires.room (c.in_err-append.ensures.refused.no_room is))
+    (fresh_may past _ q n known d c.requires.no_copy c.requires.no_unmount) c.in_err-append.ensures.refused (λ is f. both_ways _ (c.in_err-append.ensures.refused.no_room is) c.requires.room)

@@ -4,6 +4,7 @@ mod cleaned;
 mod copies;
 mod faults;
 mod images;
+mod refusals;
 mod session;
 mod sweeps;
 mod wishes;

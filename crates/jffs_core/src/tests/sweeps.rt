@@ -12,7 +12,7 @@ use std::test::Fail;
 const MOST_CALLS: u64 = 1000;
 
 /// A tenth write that finds no room, and a removal.
-const FILLING: &str = "create /f
+pub(super) const FILLING: &str = "create /f
      write /f 0 192*a
      write /f 192 192*a
      write /f 384 192*a
@@ -26,7 +26,7 @@ const FILLING: &str = "create /f
      remove /f";
 
 /// A file that is renamed, and another that is written over and over.
-const RENAMING: &str = "create /a
+pub(super) const RENAMING: &str = "create /a
      write /a 0 hello
      rename /a /b
      create /z

@@ -1,6 +1,6 @@
 //! Wishes in words.
 
-use jffs_node::{Bytes, Name, Path};
+use jffs_node::{Bytes, Name, Path, PathFault};
 use jffs_tree::Wish;
 use std::alloc::Global;
 use std::test::Fail;
@@ -21,7 +21,7 @@ impl<'a> Words<'a> {
     }
 
     fn take_path(&mut self) -> Result<Path, Fail> {
-        Ok(Path::parse(self.alloc, self.take())?)
+        path(self.alloc, self.take())
     }
 
     fn take_name(&mut self) -> Result<Name, Fail> {
@@ -38,7 +38,7 @@ impl<'a> Words<'a> {
         match word.split_once('*') {
             Some((times, byte)) => many(self.alloc, times.parse::<usize>()?, byte.as_bytes()),
             None if word == "-" => Ok(Bytes::none(self.alloc)),
-            None => Ok(Bytes::from_slice(self.alloc, word.as_bytes())?),
+            None => bytes(self.alloc, word.as_bytes()),
         }
     }
 
@@ -95,9 +95,25 @@ pub(super) fn wish_of(alloc: Global, line: &str) -> Result<Wish, Fail> {
     }
 }
 
+/// A path; where a growth is refused it is read again.
+fn path(alloc: Global, text: &str) -> Result<Path, Fail> {
+    match Path::parse(alloc, text) {
+        Err(PathFault::Memory) => Ok(Path::parse(alloc, text)?),
+        Err(fault) => Err(fault.into()),
+        Ok(path) => Ok(path),
+    }
+}
+
+/// Bytes; where a growth is refused they are copied again.
+fn bytes(alloc: Global, bytes: &[u8]) -> Result<Bytes, Fail> {
+    if let Ok(copied) = Bytes::from_slice(alloc, bytes) {
+        return Ok(copied);
+    }
+    Ok(Bytes::from_slice(alloc, bytes)?)
+}
+
 /// The same byte so many times, at most 256.
 fn many(alloc: Global, times: usize, byte: &[u8]) -> Result<Bytes, Fail> {
     let many = [*byte.first().ok_or("no byte")?; 256];
-    let many = many.get(..times).ok_or("too many bytes")?;
-    Ok(Bytes::from_slice(alloc, many)?)
+    bytes(alloc, many.get(..times).ok_or("too many bytes")?)
 }

@@ -1,5 +1,5 @@
 -- The oldest sector, record by record.
-use Rattle.std.proofs.Common.{◌≡◌, ◌⊎◌, inl, inr, ℕ, zero, suc, ◌+◌, ◌-◌, ◌/◌, ◌≤◌, ◌<◌, Bool, true, false, cond, List, [], ◌∷◌, ◌++◌, length, map, take, drop, get_or, refl, sym, ap, subst, ◌∙◌, arith, drop-cons}
+use Rattle.std.proofs.Common.{◌≡◌, ◌⊎◌, inl, inr, ℕ, zero, suc, ◌+◌, ◌-◌, ◌/◌, ◌≤◌, ◌<◌, Bool, true, false, cond, List, [], ◌∷◌, ◌++◌, length, take, drop, get_or, refl, sym, ap, subst, ◌∙◌, arith, drop-cons}
 use Rattle.std.specs.List.{AllByRecursion}
 use Rattle.std.proofs.Math.Seq.{take-suc}
 use Rattle.std.proofs.lemmas.List.{take-append-drop}
@@ -8,21 +8,21 @@ use Rattle.jffs_node.specs.declared.node.Node.{Node}
 use Rattle.jffs_node.specs.Record.{record_len, dsize, has_place}
 use Rattle.jffs_tree.specs.declared.wish.Cause.{Cause}
 use Rattle.jffs_tree.specs.declared.wish.Cause.TheVariants as causes
-use Rattle.jffs_tree.specs.Origin.{Tree, is_live, tree_of}
-use Rattle.jffs_log.specs.Image.{Placed}
+use Rattle.jffs_tree.specs.Laws.{NoneLive}
+use Rattle.jffs_log.specs.Image.{nodes_of}
 use Rattle.jffs_log.specs.Book.{HasSizes, layout_in, oldest_in, lives_in}
-use Rattle.jffs_log.specs.Cleaning.{Session, handled, handled_each, copy_has_room, copies_have_room, oldest_records, erase_oldest, stands_from, versions_fall}
+use Rattle.jffs_log.specs.Cleaning.{Session, handled, handled_each, copy_has_room, copies_have_room, oldest_records, erase_oldest, stands_from}
 use Rattle.jffs_log.specs.RoomLaws.{Among}
-use Rattle.jffs_log.proofs.Sectors.{stands_among}
+use Rattle.jffs_log.proofs.Sectors.{each_among, stands_among}
 use Rattle.jffs_log.proofs.SectorSpellings.{in_place_fits, record_long}
-use Rattle.jffs_log.proofs.Histories.{lives_as}
+use Rattle.jffs_log.proofs.Histories.{dead_as}
 use Rattle.jffs_log.proofs.Copied.{copies_take_over, unmounts_are_dead}
 use Rattle.jffs_log.proofs.Loop.{handled_in_parts, oldest_stays}
 use Rattle.jffs_log.proofs.Bound.{cleaning_has_room, handled_are_dead, no_room}
 use Rattle.jffs_core.specs.Standing.{Standing, SameAnswers}
 use Rattle.jffs_core.specs.History.{IsOwnCopy}
 use Rattle.jffs_core.specs.Past.{Knows, session}
-use Rattle.jffs_core.specs.Cleaning.{HasHandled, CopyStopped, HasCopied, HasCleaned, HasErased, WantsCopy, SectorStopped, copies_would_fit}
+use Rattle.jffs_core.specs.Cleaning.{HasHandled, CopyStopped, HasCopied, HasCleaned, HasErased, SectorStopped, copies_would_fit}
 use Rattle.jffs_core.proofs.Lawful.{copies_along}
 use Rattle.jffs_core.proofs.RoomMade.{oldest_known}
 use Rattle.jffs_core.proofs.Refusing.{refused_along}
@@ -56,10 +56,10 @@ copying_begins nodes c works = record {
   );
 }
 
-all_at : (P : Node → Type 0) (xs : List Node) (i : ℕ) (d : Node) → i < length xs → AllByRecursion P xs → P (get_or xs i d)
-all_at P [] i d l h = absurd (omega arith)
-all_at P (x ∷ xs) zero d l h = h.0
-all_at P (x ∷ xs) (suc i) d l h = all_at P xs i d (omega arith) h.1
+at_among : (xs : List Node) (i : ℕ) (d : Node) → i < length xs → Among (get_or xs i d) xs
+at_among [] i d below = absurd (omega arith)
+at_among (x ∷ xs) zero d below = inl refl
+at_among (x ∷ xs) (suc i) d below = inr (at_among xs i d (omega arith))
 
 pub among_more : (n : Node) (copies past after : List Node) → after ≡ copies ++ past → Among n past → Among n after
 among_more n copies past after is a = subst (Among n) (sym is) (behind copies)
@@ -81,10 +81,10 @@ module _ (nodes past : List Node) (c : Standing) (known : Knows past c) (oldest 
   its_stand = ap (stands_from c.book.sector_size 0) oldest ∙ oldest_stands (layout_in c.image c.book).sectors known.sound.stands
 
   pub one_known : (i : ℕ) (d : Node) → i < length nodes → Among (get_or nodes i d) past
-  one_known i d l = all_at (λ n. Among n past) nodes i d l all_known
+  one_known i d l = each_among (λ n. Among n past) nodes (get_or nodes i d) all_known (at_among nodes i d l)
 
   pub one_short : (i : ℕ) (d : Node) → i < length nodes → record_len (get_or nodes i d) ≤ c.book.sector_size / 4
-  one_short i d l = all_at (λ n. record_len n ≤ c.book.sector_size / 4) nodes i d l (stands_among c.book.sector_size 0 nodes its_stand)
+  one_short i d l = each_among (λ n. record_len n ≤ c.book.sector_size / 4) nodes (get_or nodes i d) (stands_among c.book.sector_size 0 nodes its_stand) (at_among nodes i d l)
 
   count : (z place : ℕ) (ns : List Node) → stands_from z place ns ≡ true → length ns ≤ z - place
   count z place [] h = omega arith
@@ -97,12 +97,6 @@ module _ (nodes past : List Node) (c : Standing) (known : Knows past c) (oldest 
 
   pub are_few : length nodes ≤ c.book.sector_size
   are_few = let l = count c.book.sector_size 0 nodes its_stand in omega arith
-
-pub all_taken : (xs : List Node) (k : ℕ) → length xs ≤ k → take k xs ≡ xs
-all_taken [] zero l = refl
-all_taken [] (suc k) l = refl
-all_taken (x ∷ xs) zero l = absurd (omega arith)
-all_taken (x ∷ xs) (suc k) l = ap (λ (ys : List Node). x ∷ ys) (all_taken xs k (omega arith))
 
 -- One record more.
 pub copying_goes_on : (nodes past after : List Node) (k copies more : ℕ) (node : Node) (is_copied : Bool) (old middle new : Standing) → k < length nodes → node ≡ get_or nodes k node → HasSizes old.book.sectors old.book.sector_size middle.book
@@ -131,19 +125,10 @@ copying_goes_on nodes past after k copies more node is_copied old middle new bel
     by_cond : (b : Bool) → cond b 1 0 + length after ≡ length after + cond b 1 0
     by_cond b = omega arith
 
-among_all : (xs : List Node) (i : ℕ) (d : Node) → i < length xs → Among (get_or xs i d) xs
-among_all [] i d below = absurd (omega arith)
-among_all (x ∷ xs) zero d below = inl refl
-among_all (x ∷ xs) (suc i) d below = inr (among_all xs i d (omega arith))
-
 -- memory that was refused, or a device that failed, has nothing to do with a copy
-pub no_space_for_copy : (cause : Cause) → (cause ≡ causes.Memory) ⊎ (cause ≡ causes.Device) → cause ≡ causes.NoSpace → ⊥
-no_space_for_copy cause (inl memory) e = let same = sym memory ∙ e in cc
-no_space_for_copy cause (inr device) e = let same = sym device ∙ e in cc
-
-pub not_for_copy : (cause : Cause) (past after : List Node) (c : Standing) → (cause ≡ causes.Memory) ⊎ (cause ≡ causes.Device) → WantsCopy cause past after c
-not_for_copy cause past after c (inl memory) = subst (λ k. WantsCopy k past after c) (sym memory) (record { at_turn = λ e. cc; to_copy = λ e. cc })
-not_for_copy cause past after c (inr device) = subst (λ k. WantsCopy k past after c) (sym device) (record { at_turn = λ e. cc; to_copy = λ e. cc })
+pub not_for_copy : (cause : Cause) → (cause ≡ causes.Memory) ⊎ (cause ≡ causes.Device) → (cause ≡ causes.NoSpace → ⊥) × (cause ≡ causes.VersionsSpent → ⊥)
+not_for_copy _ (inl memory) = ((λ e. let same = sym memory ∙ e in cc), (λ e. let same = sym memory ∙ e in cc))
+not_for_copy _ (inr device) = ((λ e. let same = sym device ∙ e in cc), (λ e. let same = sym device ∙ e in cc))
 
 -- One that had no room at its turn is among those that cleaning would make; and with two sectors erased each has room.
 pub copying_has_room : (nodes past after : List Node) (k copies : ℕ) (node : Node) (cause : Cause) (old middle new : Standing) → Knows past old → nodes ≡ oldest_records (layout_in old.image old.book).sectors
@@ -159,7 +144,7 @@ copying_has_room nodes past after k copies node cause old middle new known oldes
   };
   wants = record {
     at_turn = without;
-    to_copy = λ e. (node, subst (Among node) oldest (subst (λ n. Among n nodes) (sym is) (among_all nodes k node below)), stopped.live);
+    to_copy = λ e. (node, subst (Among node) oldest (subst (λ n. Among n nodes) (sym is) (at_among nodes k node below)), stopped.live);
   };
 }
   where
@@ -179,12 +164,6 @@ copying_has_room nodes past after k copies node cause old middle new known oldes
         both_ways _ (ap (copy_has_room node) (sym h.turn) ∙ stopped.no_room e) one.0)
 
 -- Once all were handled none of them is live.
-each_dead : (ps : List Placed) (past : List Node) (tree : Tree) → tree ≡ tree_of past → versions_fall past ≡ true → AllByRecursion (λ n. Among n past) (map (λ (p : Placed). p.node) ps)
-    → AllByRecursion (λ n. is_live past n.version ≡ false) (map (λ (p : Placed). p.node) ps) → AllByRecursion (λ p. lives_in tree p ≡ false) ps
-each_dead [] past tree is falls among dead = tt
-each_dead (p ∷ ps) past tree is falls among dead =
-    (ap (λ t. lives_in t p) is ∙ lives_as past p falls among.0 ∙ dead.0, each_dead ps past tree is falls among.1 dead.1)
-
 module _ (nodes past after : List Node) (copies : ℕ) (old middle : Standing) (known : Knows past old) (oldest : nodes ≡ oldest_records (layout_in old.image old.book).sectors)
     (several : 2 ≤ length (layout_in old.image old.book).sectors) (h : HasCopied nodes past after copies old middle) where
   stays : (oldest_records (handled_each old.book.sector_size nodes (session past old)).log.sectors ≡ oldest_records (layout_in old.image old.book).sectors) × (2 ≤ length (handled_each old.book.sector_size nodes (session past old)).log.sectors)
@@ -193,18 +172,18 @@ module _ (nodes past after : List Node) (copies : ℕ) (old middle : Standing) (
   pub still_several : 2 ≤ length (layout_in middle.image middle.book).sectors
   still_several = subst (λ (s : Session). 2 ≤ length s.log.sectors) (sym h.turn) stays.1
 
-  still_oldest : map (λ (p : Placed). p.node) (oldest_in middle.image middle.book) ≡ nodes
+  still_oldest : nodes_of (oldest_in middle.image middle.book) ≡ nodes
   still_oldest = oldest_is middle.image middle.book ∙ ap (λ (s : Session). oldest_records s.log.sectors) h.turn ∙ stays.0 ∙ sym oldest
 
   pub now_dead : AllByRecursion (λ p. lives_in middle.tree p ≡ false) (oldest_in middle.image middle.book)
   now_dead =
       let k = h.stands.knows in
       let dead = handled_are_dead copies_take_over old.book.sector_size nodes (session past old) known.sound.history (all_known nodes past old known oldest) in
-      let later : AllByRecursion (λ n. is_live after n.version ≡ false) nodes = subst (λ (s : Session). AllByRecursion (λ n. is_live s.past n.version ≡ false) nodes) (sym h.turn) dead in
+      let later : NoneLive after nodes = subst (λ (s : Session). NoneLive s.past nodes) (sym h.turn) dead in
       let among = oldest_known after (layout_in middle.image middle.book).sectors k.sound.known in
-      each_dead (oldest_in middle.image middle.book) after middle.tree k.tree_is k.history.rules.falls
-      (subst (AllByRecursion (λ n. Among n after)) (sym (oldest_is middle.image middle.book)) among)
-      (subst (AllByRecursion (λ n. is_live after n.version ≡ false)) (sym still_oldest) later)
+      let in_log = subst (AllByRecursion (λ n. Among n after)) (sym (oldest_is middle.image middle.book)) among in
+      subst (λ t. AllByRecursion (λ p. lives_in t p ≡ false) (oldest_in middle.image middle.book)) (sym k.tree_is)
+      ((dead_as after (oldest_in middle.image middle.book) k.history.rules.falls in_log).1 (subst (NoneLive after) (sym still_oldest) later))
 
   pub then_erased : (new : Standing) → HasErased after middle new → HasCleaned past after copies old new
   then_erased new e = record {

@@ -4,16 +4,15 @@ use Rattle.std.specs.List.{AllByRecursion}
 use Rattle.std.proofs.Math.Seq.{take-suc}
 use Rattle.std.proofs.lemmas.Bool.{both_ways}
 use Rattle.jffs_node.specs.declared.node.Node.{Node}
-use Rattle.jffs_tree.specs.Origin.{Tree, is_live}
+use Rattle.jffs_tree.specs.Origin.{Tree}
+use Rattle.jffs_tree.specs.Laws.{NoneLive}
 use Rattle.jffs_tree.specs.declared.wish.Limits.{Limits}
 use Rattle.jffs_log.specs.declared.book.Book.{Book}
-use Rattle.jffs_log.specs.Image.{nodes_of}
 use Rattle.jffs_log.specs.Book.{IsBook, HasSizes, layout_in, lives_in, oldest_in}
 use Rattle.jffs_log.specs.Cleaning.{Layout, without_oldest, oldest_records, erase_oldest}
 use Rattle.jffs_log.specs.RoomLaws.{Among}
 use Rattle.jffs_log.proofs.MountedLog.{each_append}
-use Rattle.jffs_log.proofs.Sectors.{each_among}
-use Rattle.jffs_log.proofs.Histories.{each_dead}
+use Rattle.jffs_log.proofs.Histories.{dead_as}
 use Rattle.jffs_core.specs.Standing.{Standing, SameAnswers}
 use Rattle.jffs_core.specs.Past.{IsPast, Knows}
 use Rattle.jffs_core.specs.Calls.{WorksOn}
@@ -68,20 +67,18 @@ left_after zero log = refl
 left_after (suc k) log = ap without_oldest (left_after k log) ∙ newer_left k log.sectors
 
 -- the records of the oldest sector, of which none is live in the tree
-oldest_dead : (past : List Node) (c : Standing) → Knows past c → AllByRecursion (λ p. lives_in c.tree p ≡ false) (oldest_in c.image c.book) → AllByRecursion (λ n. is_live past n.version ≡ false) (oldest_records (layout_in c.image c.book).sectors)
+oldest_dead : (past : List Node) (c : Standing) → Knows past c → AllByRecursion (λ p. lives_in c.tree p ≡ false) (oldest_in c.image c.book) → NoneLive past (oldest_records (layout_in c.image c.book).sectors)
 oldest_dead past c known dead =
     let ps = oldest_in c.image c.book in
     let is = oldest_is c.image c.book in
     let among = subst (AllByRecursion (λ n. Among n past)) (sym is) (oldest_known past (layout_in c.image c.book).sectors known.sound.known) in
-    subst (AllByRecursion (λ n. is_live past n.version ≡ false)) is
-    (each_dead past ps known.history.rules.falls (λ n a. each_among (λ m. Among m past) (nodes_of ps) n among a) (subst (λ t. AllByRecursion (λ p. lives_in t p ≡ false) ps) known.tree_is dead))
+    subst (NoneLive past) is ((dead_as past ps known.history.rules.falls among).0 (subst (λ t. AllByRecursion (λ p. lives_in t p ≡ false) ps) known.tree_is dead))
 
 -- None of the sectors so far was live, and the oldest that is left isn't.
-dead_so_far : (past : List Node) (k : ℕ) (log : Layout) → k < length log.sectors → AreDead past (take k log.sectors) → AllByRecursion (λ n. is_live past n.version ≡ false) (oldest_records (erased_times k log).sectors) → AreDead past (take (suc k) log.sectors)
+dead_so_far : (past : List Node) (k : ℕ) (log : Layout) → k < length log.sectors → AreDead past (take k log.sectors) → NoneLive past (oldest_records (erased_times k log).sectors) → AreDead past (take (suc k) log.sectors)
 dead_so_far past k log below so_far dead =
-    let P : List Node → Type 0 = λ nodes. AllByRecursion (λ n. is_live past n.version ≡ false) nodes in
     let oldest : oldest_records (erased_times k log).sectors ≡ get_or log.sectors k [] = ap oldest_records (left_after k log ∙ drop-cons log.sectors k [] below) in
-    subst (AreDead past) (sym (take-suc log.sectors k [] below)) (each_append P (take k log.sectors) (get_or log.sectors k [] ∷ []) so_far (subst P oldest dead, tt))
+    subst (AreDead past) (sym (take-suc log.sectors k [] below)) (each_append (NoneLive past) (take k log.sectors) (get_or log.sectors k [] ∷ []) so_far (subst (NoneLive past) oldest dead, tt))
 
 pub erasing_goes_on : (count : ℕ) (old middle new : Standing) → IsErasing count old middle → IsDeadOldest middle → new.failed ≡ false → SameAnswers middle new → HasSizes middle.book.sectors middle.book.sector_size new.book
     → layout_in new.image new.book ≡ erase_oldest (layout_in middle.image middle.book) → ((past : List Node) → Knows past middle → HasErased past middle new) → ErasesAtMost 0 middle new → IsErasing (count + 1) old new
@@ -109,5 +106,5 @@ erasing_goes_on count old middle new h oldest works same sizes log erased one =
           let several = oldest.several in
           let now = oldest_dead past middle (h.done past known).knows oldest.dead in
           subst (λ k. AreDead past (take k log.sectors)) more
-          (dead_so_far past count log (omega arith) (h.dead past known) (subst (λ (l : Layout). AllByRecursion (λ n. is_live past n.version ≡ false) (oldest_records l.sectors)) h.log now));
+          (dead_so_far past count log (omega arith) (h.dead past known) (subst (λ (l : Layout). NoneLive past (oldest_records l.sectors)) h.log now));
     }

@@ -5,6 +5,7 @@ use Rattle.jffs_node.specs.declared.node.Node.{Node}
 use Rattle.jffs_tree.specs.declared.wish.Cause.{Cause}
 use Rattle.jffs_tree.specs.declared.wish.Cause.TheVariants.{VersionsSpent, NoSpace, Failed}
 use Rattle.jffs_tree.specs.Origin.{is_live}
+use Rattle.jffs_tree.specs.Laws.{NoneLive}
 use Rattle.jffs_log.specs.Book.{layout_in, lives_in, oldest_in}
 use Rattle.jffs_log.specs.Cleaning.{Layout, handled, handled_each, copy_has_room, copies_have_room, oldest_records, cleaned, erase_oldest, room_made}
 use Rattle.jffs_log.specs.RoomLaws.{Among}
@@ -121,7 +122,7 @@ pub record IsDeadOldest (c : Standing) : Type 0 where
 
 -- none of the records of these sectors is live
 abbrev pub AreDead : List Node → List (List Node) → Type 0
-AreDead past sectors = AllByRecursion (λ nodes. AllByRecursion (λ n. is_live past n.version ≡ false) nodes) sectors
+AreDead past sectors = AllByRecursion (NoneLive past) sectors
 
 -- So many of the oldest sectors were erased, none of which held a live record; the history is the same, and the oldest sector that is left may not be erased.
 pub record ErasesDead (mounted past : List Node) (count : ℕ) (old new : Standing) : Type 0 where

@@ -22,7 +22,8 @@ use Rattle.jffs_log.specs.declared.book.Book.{Book}
 use Rattle.jffs_log.specs.Book.{IsBook, HasSizes, IsCut, log_in, lives_in}
 use Rattle.jffs_log.proofs.Appended.{kept_readable}
 use Rattle.jffs_log.specs.History.{KeepsRules, IsLawfulHistory, IsHistory, HistoriesAreScanned, AppendsKeepHistory, CutsKeepHistory, ErasingKeepsHistory}
-use Rattle.jffs_log.proofs.MountedLog.{reversed, nodes_mapped, among_left, among_reversed}
+use Rattle.jffs_log.proofs.MountedLog.{reversed, nodes_mapped, among_left, among_reversed, each_append}
+use Rattle.jffs_log.proofs.Sectors.{all_among}
 use Rattle.jffs_log.proofs.Live.{scan_reads}
 use Rattle.jffs_log.proofs.Staying.{all_stay_dead}
 
@@ -51,7 +52,7 @@ rises (n ∷ m ∷ nodes) gone h =
 answered : (rise tree : Bool) (s t : Scanned) → rise ≡ true → tree ≡ true → s ≡ t → ◌≡◌ {A = Result Scanned ScanWhy} (cond (not rise) (Err BadOrder) (cond (not tree) (Err BadTree) (Ok s))) (Ok t)
 answered true true s t h k e = ap (λ (x : Scanned). Ok x) e
 answered true false s t h k e = cc
-answered false tree s t h k e = cc
+answered false _ s t h k e = cc
 
 pub histories_are_scanned : HistoriesAreScanned
 histories_are_scanned count len image past h =
@@ -129,19 +130,18 @@ own (n ∷ past) m h (inr later) =
 pub lives_as : (past : List Node) (p : Placed) → versions_fall past ≡ true → Among p.node past → lives_in (tree_of past) p ≡ is_live past p.node.version
 lives_as past p falls a = live_whole past (tree_of past) p.node.version p.node.inode refl (own past p.node falls a)
 
-pub each_dead : (past : List Node) (erased : List Placed) → versions_fall past ≡ true → ((n : Node) → Among n (nodes_of erased) → Among n past) → AllByRecursion (λ p. lives_in (tree_of past) p ≡ false) erased
-    → AllByRecursion (λ n. is_live past n.version ≡ false) (nodes_of erased)
-each_dead past [] falls among h = tt
-each_dead past (p ∷ erased) falls among h =
-    (sym (lives_as past p falls (among p.node (inl refl))) ∙ h.0, each_dead past erased falls (λ n a. among n (inr a)) h.1)
-
-all_joined : (P : Node → Type 0) (xs ys : List Node) → AllByRecursion P xs → AllByRecursion P ys → AllByRecursion P (xs ++ ys)
-all_joined P [] ys h k = k
-all_joined P (x ∷ xs) ys h k = (h.0, all_joined P xs ys h.1 k)
+-- Records are dead in the tree of a history exactly where they are dead in the history.
+pub dead_as : (past : List Node) (ps : List Placed) → versions_fall past ≡ true → AllByRecursion (λ n. Among n past) (nodes_of ps)
+    → (AllByRecursion (λ p. lives_in (tree_of past) p ≡ false) ps → NoneLive past (nodes_of ps)) × (NoneLive past (nodes_of ps) → AllByRecursion (λ p. lives_in (tree_of past) p ≡ false) ps)
+dead_as past [] falls among = ((λ h. tt), (λ h. tt))
+dead_as past (p ∷ ps) falls among =
+    let one = lives_as past p falls among.0 in
+    let rest = dead_as past ps falls among.1 in
+    ((λ h. (sym one ∙ h.0, rest.0 h.1)), (λ h. (one ∙ h.0, rest.1 h.1)))
 
 pub all_turned : (P : Node → Type 0) (nodes : List Node) → AllByRecursion P nodes → AllByRecursion P (reverse nodes)
 all_turned P [] h = tt
-all_turned P (n ∷ nodes) h = subst (AllByRecursion P) (sym (reversed n nodes)) (all_joined P (reverse nodes) (n ∷ []) (all_turned P nodes h.1) (h.0, tt))
+all_turned P (n ∷ nodes) h = subst (AllByRecursion P) (sym (reversed n nodes)) (each_append P (reverse nodes) (n ∷ []) (all_turned P nodes h.1) (h.0, tt))
 
 pub erasing_keeps_history : ErasingKeepsHistory
 erasing_keeps_history count len old new past erased h readable log dead =
@@ -152,13 +152,14 @@ erasing_keeps_history count len old new past erased h readable log dead =
     λ n a. subst (Among n) (sym h.front) (among_left n (past_of (live_log count len old)) h.gone (among_reversed n (nodes_of (live_log count len old))
     (subst (Among n) (sym (ap nodes_of log ∙ nodes_mapped erased left)) (among_left n (nodes_of erased) (nodes_of left) a)))) in
     let P : Node → Type 0 = λ n. is_live past n.version ≡ false in
+    let known = all_among (λ m. Among m past) (nodes_of erased) among in
     record {
       sizes = h.sizes;
       readable = readable;
       rules = h.rules;
       gone = reverse (nodes_of erased) ++ h.gone;
       front = h.front ∙ ap (λ (xs : List Node). xs ++ h.gone) split_past ∙ append_assoc (past_of left) (reverse (nodes_of erased)) h.gone;
-      dead = all_joined P (reverse (nodes_of erased)) h.gone (all_turned P (nodes_of erased) (each_dead past erased h.rules.falls among dead)) h.dead;
+      dead = each_append P (reverse (nodes_of erased)) h.gone (all_turned P (nodes_of erased) ((dead_as past erased h.rules.falls known).0 dead)) h.dead;
     }
 
 -- The history after an append, by the book.

@@ -1,6 +1,6 @@
 //! Devices that fail.
 
-use crate::tests::session::{Session, holds};
+use crate::tests::session::{SECTOR_SIZE, Session, holds};
 use jffs_flash::{Fail as FuseFail, FuseFlash, Fused, MemoryFlash};
 use jffs_tree::Cause;
 use std::alloc::Global;
@@ -8,7 +8,7 @@ use std::process::Abort;
 use std::test::Fail;
 
 fn fused(alloc: Global, calls: u64, fail: FuseFail) -> Result<Session<FuseFlash>, Fail> {
-    let flash = MemoryFlash::new(alloc, 6, 1024)?;
+    let flash = MemoryFlash::new(alloc, 6, SECTOR_SIZE)?;
     Session::over(alloc, FuseFlash::new(flash, calls, Fused::Writes, fail))
 }
 

@@ -10,7 +10,7 @@ use std::process::Abort;
 use std::test::Fail;
 
 /// The size of each sector, in bytes.
-const SECTOR_SIZE: u32 = 1024;
+pub(super) const SECTOR_SIZE: u32 = 1024;
 
 #[derive(Drop)]
 pub(super) struct Session<F: Flash> {
@@ -20,7 +20,12 @@ pub(super) struct Session<F: Flash> {
 }
 
 impl<F: Flash + Drop> Session<F> {
+    /// Over a device. Where a growth is refused it is mounted again.
     pub(super) fn over(alloc: Global, flash: F) -> Result<Session<F>, Fail> {
+        let flash = match Core::mount(alloc, flash) {
+            Ok(core) => return Ok(Session::of(alloc, core)),
+            Err(fault) => fault.flash,
+        };
         let Ok(core) = Core::mount(alloc, flash) else {
             return Err("it doesn't mount".into());
         };
@@ -101,9 +106,13 @@ impl<F: Flash + Drop> Session<F> {
 }
 
 impl Session<MemoryFlash> {
-    /// Over an erased device.
+    /// Over an erased device. Where a growth is refused it is made again.
     pub(super) fn erased(alloc: Global, sectors: u32) -> Result<Session<MemoryFlash>, Fail> {
-        Session::over(alloc, MemoryFlash::new(alloc, sectors, SECTOR_SIZE)?)
+        let flash = match MemoryFlash::new(alloc, sectors, SECTOR_SIZE) {
+            Ok(flash) => flash,
+            Err(_) => MemoryFlash::new(alloc, sectors, SECTOR_SIZE)?,
+        };
+        Session::over(alloc, flash)
     }
 
     /// Over a device with these bytes.

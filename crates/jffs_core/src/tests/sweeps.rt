@@ -1,7 +1,7 @@
 //! Devices that fail at each call in turn.
 
 use crate::mounted::Core;
-use crate::tests::session::Session;
+use crate::tests::session::{SECTOR_SIZE, Session};
 use jffs_flash::{Fail as FuseFail, Flash, FuseFlash, Fused, MemoryFlash};
 use jffs_log::ScanWhy;
 use std::alloc::Global;
@@ -93,7 +93,7 @@ fn sweep(
 ) -> Result<(), Fail> {
     let sizes = sizes_of(&mut Session::erased(alloc, 6)?, run)?;
     for calls in 0..MOST_CALLS {
-        let fuse = FuseFlash::new(MemoryFlash::new(alloc, 6, 1024)?, calls, fused, fail);
+        let fuse = FuseFlash::new(MemoryFlash::new(alloc, 6, SECTOR_SIZE)?, calls, fused, fail);
         let Some(Blown { answered, left }) = blow(alloc, run, fuse)? else {
             return Ok(());
         };

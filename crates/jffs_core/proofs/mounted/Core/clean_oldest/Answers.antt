@@ -1,14 +1,15 @@
 use Rattle.std.proofs.Common.{◌∙◌, sym, ap}
+use Rattle.std.proofs.lemmas.Result.{IfOk-weaker, IfErr-weaker}
 use Rattle.jffs_core.specs.Standing.{Standing}
-use Rattle.jffs_core.proofs.Called.{ok_map, err_map, did_clean, did_stop}
+use Rattle.jffs_core.proofs.Called.{did_clean, did_stop}
 use Rattle.jffs_core.proofs.mounted.Core.clean_oldest.Goals as goal
 
 pub returns-clause-cleaned : goal.returns-clause-cleaned
 returns-clause-cleaned g c =
     let works = ap (λ (v : Standing). v.failed) (sym c.self.view_is) ∙ c.if-self.false in
-    ok_map c.clean_one.result _ _ (λ done h mounted past s. did_clean mounted past done c.args.self.now c.clean_one.new.self works s (h past (let k = s.stands in k.working works))) c.clean_one.ensures.cleaned
+    IfOk-weaker c.clean_one.result _ _ (λ done h mounted past s. did_clean mounted past done c.args.self.now c.clean_one.new.self works s (h past (let k = s.stands in k.working works))) c.clean_one.ensures.cleaned
 
 pub returns-clause-stopped : goal.returns-clause-stopped
 returns-clause-stopped g c =
     let works = ap (λ (v : Standing). v.failed) (sym c.self.view_is) ∙ c.if-self.false in
-    err_map c.clean_one.result _ _ (λ cause h mounted past s. did_stop mounted past cause c.args.self.now c.clean_one.new.self works s (h past (let k = s.stands in k.working works))) c.clean_one.ensures.stopped
+    IfErr-weaker c.clean_one.result _ _ (λ cause h mounted past s. did_stop mounted past cause c.args.self.now c.clean_one.new.self works s (h past (let k = s.stands in k.working works))) c.clean_one.ensures.stopped

@@ -3,7 +3,7 @@ use Rattle.jffs_log.specs.declared.book.Book.{Book}
 use Rattle.jffs_log.specs.Book.{IsBook, layout_in}
 use Rattle.jffs_core.specs.Standing.{Standing}
 use Rattle.jffs_core.proofs.Sweeping.{held_is}
-use Rattle.jffs_core.proofs.Copying.{not_for_copy, no_space_for_copy}
+use Rattle.jffs_core.proofs.Copying.{not_for_copy}
 use Rattle.jffs_core.proofs.mounted.Core.clean_one.Goals as goal
 
 pub returns-then-held-lt2-clause-cleaned : goal.returns-then-held-lt2-clause-cleaned
@@ -28,15 +28,16 @@ clean_sector-requires-clause-several g c =
 pub returns-in-Err-clause-stopped : goal.returns-in-Err-clause-stopped
 returns-in-Err-clause-stopped g c = λ past known.
     let works = ap (λ (v : Standing). v.failed) c.self.view_is ∙ c.requires.working in
-    let low = counted (g.F.Flash.image c.self.inside.log.flash) c.self.inside.log.book c.held.result (c.self.invariant.book works) c.held.ensures (let test = c.if-held-lt2.false in omega arith) in (
+    let low = counted (g.F.Flash.image c.self.inside.log.flash) c.self.inside.log.book c.held.result (c.self.invariant.book works) c.held.ensures (let test = c.if-held-lt2.false in omega arith) in
+    let other = not_for_copy _ c.in-Err.ensures.causes in (
       past,
       record {
         several = subst (λ (v : Standing). 2 ≤ length (layout_in v.image v.book).sectors) c.self.view_is low;
         stopped = record {
           copies = record { copies = []; true_copies = tt; joined = refl };
           stands = c.in-Err.ensures.refused past known;
-          no_room = λ e. absurd (no_space_for_copy c.in-Err.cause c.in-Err.ensures.causes e);
+          no_room = λ e. absurd (other.0 e);
         };
-        wants = not_for_copy c.in-Err.cause past past c.args.self.now c.in-Err.ensures.causes;
+        wants = record { at_turn = λ e. absurd (other.0 e); to_copy = λ e. absurd (other.1 e) };
       },
     )

@@ -1,4 +1,4 @@
-use Rattle.std.proofs.Common.{◌≡◌, ◌∙◌, ℕ, ◌≤◌, ◌<◌, ◌+◌, ◌/◌, Bool, true, false, cond, List, length, take, get_or, sym, ap, subst, arith}
+use Rattle.std.proofs.Common.{◌≡◌, ◌∙◌, ℕ, ◌≤◌, ◌<◌, ◌+◌, ◌/◌, Bool, true, false, cond, List, length, take, get_or, sym, ap, subst, arith, take_all}
 use Rattle.jffs_node.specs.declared.node.Node.{Node}
 use Rattle.jffs_node.specs.Record.{record_len}
 use Rattle.jffs_log.specs.Book.{layout_in}
@@ -8,7 +8,7 @@ use Rattle.jffs_log.proofs.Appended.{sizes_small}
 use Rattle.jffs_core.specs.Standing.{Standing}
 use Rattle.jffs_core.specs.Past.{Knows}
 use Rattle.jffs_core.specs.Cleaning.{HasCopied}
-use Rattle.jffs_core.proofs.Copying.{copying_begins, copying_goes_on, copying_has_room, among_more, one_known, one_short, are_few, all_taken}
+use Rattle.jffs_core.proofs.Copying.{copying_begins, copying_goes_on, copying_has_room, among_more, one_known, one_short, are_few}
 use Rattle.jffs_core.proofs.mounted.Core.copy_each.Goals as goal
 
 one_most : (b : Bool) (r : ℕ) → r ≡ cond b 1 0 → r ≤ 1
@@ -77,4 +77,4 @@ returns-in-Err-clause-stopped g c = λ past known.
 pub returns-clause-copied : goal.returns-clause-copied
 returns-clause-copied g c = λ past known.
     let d = c.loop-node.invariant.done past known in
-    (d.0, subst (λ (ns : List Node). HasCopied ns past d.0 c.loop-node.copies c.args.self.now c.loop-node.self) (all_taken c.args.nodes.now c.loop-node.node-index c.loop-node-test.false) d.1)
+    (d.0, subst (λ (ns : List Node). HasCopied ns past d.0 c.loop-node.copies c.args.self.now c.loop-node.self) (take_all c.loop-node.node-index c.args.nodes.now c.loop-node-test.false) d.1)

@@ -1,15 +1,16 @@
 use Rattle.std.proofs.Common.{◌∙◌, sym, ap, subst}
+use Rattle.std.proofs.lemmas.Result.{IfOk-weaker}
 use Rattle.jffs_core.specs.Standing.{Standing}
 use Rattle.jffs_core.specs.Past.{Knows}
 use Rattle.jffs_core.proofs.Refusing.{works_past}
 use Rattle.jffs_core.proofs.Trees.{tree_kept}
-use Rattle.jffs_core.proofs.Called.{ok_map, erased_keeps, err_both, device_stop}
+use Rattle.jffs_core.proofs.Called.{erased_keeps, err_both, device_stop}
 use Rattle.jffs_core.proofs.mounted.Core.erase_dead.Goals as goal
 
 pub returns-clause-erased : goal.returns-clause-erased
 returns-clause-erased g c =
     let works = ap (λ (v : Standing). v.failed) (sym c.self.view_is) ∙ c.if-self.false in
-    ok_map c.erase_while_dead.result _ _
+    IfOk-weaker c.erase_while_dead.result _ _
     (λ count h mounted past s.
     let e = h past (let k = s.stands in k.working works) in
     record {

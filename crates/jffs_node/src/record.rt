@@ -19,25 +19,25 @@ pub fn record_len(node: &Node) -> u32
 }
 
 /// Writes the closed record of a node, which fills the slice. To program it with an open gate, change the byte at `GATE_AT`.
-pub fn encode_into(node: &Node, record: &mut [u8])
+pub fn encode_into(node: &Node, out: &mut [u8])
     requires lawful { IsTrue (is_lawful node.now) }
-    requires long { length record.old ≡ length_of node.now }
-    ensures { record.new ≡ spelling node.now }
+    requires long { length out.old ≡ length_of node.now }
+    ensures { out.new ≡ spelling node.now }
 {
-    let at = put_numbers(node, record);
-    let at = put_name(node, record, at);
-    let at = put(record, at, node.bytes.as_slice());
-    let rest = record.len() - at;
-    fill(record, at, rest, ERASED);
+    let at = put_numbers(node, out);
+    let at = put_name(node, out, at);
+    let at = put(out, at, node.bytes.as_slice());
+    let rest = out.len() - at;
+    fill(out, at, rest, ERASED);
 }
 
 /// The numbers of a closed record stand in its first 44 bytes.
-fn put_numbers(node: &Node, record: &mut [u8]) -> usize
+fn put_numbers(node: &Node, out: &mut [u8]) -> usize
     requires lawful { IsTrue (is_lawful node.now) }
-    requires long { 44 ≤ length record.old }
+    requires long { 44 ≤ length out.old }
     ensures at { result ≡ 44 }
-    ensures length { length record.new ≡ length record.old }
-    ensures front { take 44 record.new ≡ header node.now }
+    ensures length { length out.new ≡ length out.old }
+    ensures front { take 44 out.new ≡ header node.now }
 {
     let amount = node.bytes.as_slice().len() as u32;
     let name_len = bytes_of_name(node).len() as u8;
@@ -47,30 +47,30 @@ fn put_numbers(node: &Node, record: &mut [u8]) -> usize
         name_len,
         GATE_CLOSED,
     ];
-    let at = put(record, 0, &MAGIC);
-    let at = put(record, at, &kind);
-    let at = put(record, at, &node.inode.to_be_bytes());
-    let at = put(record, at, &node.parent.to_be_bytes());
-    let at = put(record, at, &node.version.to_be_bytes());
-    let at = put(record, at, &node.offset.to_be_bytes());
-    let at = put(record, at, &amount.to_be_bytes());
-    let at = put(record, at, &node.rsize.to_be_bytes());
-    let at = put(record, at, &node.writer.to_be_bytes());
-    let at = put(record, at, &form_number(node).to_be_bytes());
-    let at = put(record, at, &node.seq.to_be_bytes());
-    put(record, at, &node.size.unwrap_or(0).to_be_bytes())
+    let at = put(out, 0, &MAGIC);
+    let at = put(out, at, &kind);
+    let at = put(out, at, &node.inode.to_be_bytes());
+    let at = put(out, at, &node.parent.to_be_bytes());
+    let at = put(out, at, &node.version.to_be_bytes());
+    let at = put(out, at, &node.offset.to_be_bytes());
+    let at = put(out, at, &amount.to_be_bytes());
+    let at = put(out, at, &node.rsize.to_be_bytes());
+    let at = put(out, at, &node.writer.to_be_bytes());
+    let at = put(out, at, &form_number(node).to_be_bytes());
+    let at = put(out, at, &node.seq.to_be_bytes());
+    put(out, at, &node.size.unwrap_or(0).to_be_bytes())
 }
 
 /// The name, padded with zeros.
-fn put_name(node: &Node, record: &mut [u8], at: usize) -> usize
-    requires { at + 20 ≤ length record.old }
+fn put_name(node: &Node, out: &mut [u8], at: usize) -> usize
+    requires { at + 20 ≤ length out.old }
     ensures at { result ≡ at + 20 }
-    ensures length { length record.new ≡ length record.old }
-    ensures front { take result record.new ≡ take at record.old ++ padded_name (name_bytes node.now) }
+    ensures length { length out.new ≡ length out.old }
+    ensures front { take result out.new ≡ take at out.old ++ padded_name (name_bytes node.now) }
 {
     let name = bytes_of_name(node);
-    let end = put(record, at, name);
-    fill(record, end, NAME_MAX - name.len(), 0)
+    let end = put(out, at, name);
+    fill(out, end, NAME_MAX - name.len(), 0)
 }
 
 /// No bytes, where the node has no name.
@@ -85,26 +85,26 @@ fn bytes_of_name(node: &Node) -> &[u8]
 }
 
 /// Writes bytes at a place, and gives the place after them.
-fn put(record: &mut [u8], at: usize, bytes: &[u8]) -> usize
-    requires { at + length bytes.now ≤ length record.old }
+fn put(out: &mut [u8], at: usize, bytes: &[u8]) -> usize
+    requires { at + length bytes.now ≤ length out.old }
     ensures at { result ≡ at + length bytes.now }
-    ensures length { length record.new ≡ length record.old }
-    ensures front { take result record.new ≡ take at record.old ++ bytes.now }
+    ensures length { length out.new ≡ length out.old }
+    ensures front { take result out.new ≡ take at out.old ++ bytes.now }
 {
     let end = at + bytes.len();
-    record[at..end].copy_from_slice(bytes);
+    out[at..end].copy_from_slice(bytes);
     end
 }
 
 /// Writes one byte so many times at a place, and gives the place after them.
-fn fill(record: &mut [u8], at: usize, count: usize, byte: u8) -> usize
-    requires { at + count ≤ length record.old }
+fn fill(out: &mut [u8], at: usize, count: usize, byte: u8) -> usize
+    requires { at + count ≤ length out.old }
     ensures at { result ≡ at + count }
-    ensures length { length record.new ≡ length record.old }
-    ensures front { take result record.new ≡ take at record.old ++ replicate count byte }
+    ensures length { length out.new ≡ length out.old }
+    ensures front { take result out.new ≡ take at out.old ++ replicate count byte }
 {
     let end = at + count;
-    record[at..end].fill(byte);
+    out[at..end].fill(byte);
     end
 }
 

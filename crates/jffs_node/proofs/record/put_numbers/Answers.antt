@@ -10,7 +10,7 @@ more front before part after field e f g = e ∙ ap (λ (xs : List ℕ). xs ++ p
 pub returns-clause-front : goal.returns-clause-front
 returns-clause-front c =
     let n = c.args.node.now in
-    let e1 : take c.put-at.result c.put-at.new.record ≡ magic = c.put-at.ensures.front in
+    let e1 : take c.put-at.result c.put-at.new.out ≡ magic = c.put-at.ensures.front in
     let e2 = more _ _ _ _ (kind_byte n.kind ∷ flags_byte n ∷ length (name_bytes n) ∷ 0 ∷ []) c.put-at-2.ensures.front e1 (λ i. c.kind_byte.ensures i ∷ c.flags_byte.ensures i ∷ length (c.bytes_of_name.ensures.value i) ∷ 0 ∷ []) in
     let e3 = more _ _ _ _ (to_be_bytes w32 n.inode) c.put-at-3.ensures.front e2 c.to_be_bytes.ensures in
     let e4 = more _ _ _ _ (to_be_bytes w32 n.parent) c.put-at-4.ensures.front e3 c.to_be_bytes-2.ensures in
@@ -23,4 +23,4 @@ returns-clause-front c =
     let e11 = more _ _ _ _ (to_be_bytes w32 n.seq) c.put-at-11.ensures.front e10 c.to_be_bytes-9.ensures in
     let e12 = more _ _ _ _ (to_be_bytes w32 (unwrap_or n.size 0)) c.put.ensures.front e11 (c.to_be_bytes-10.ensures ∙ ap (to_be_bytes w32) c.unwrap_or.ensures) in
     let at : 44 ≡ c.put.result = omega arith in
-    ap (λ k. take k c.put.new.record) at ∙ e12
+    ap (λ k. take k c.put.new.out) at ∙ e12

@@ -1,6 +1,7 @@
 -- Tests that types give.
-use Rattle.std.proofs.Common.{◌≡◌, ℕ, suc, ◌<◌, ◌^◌, Bool, true, false, ◌&&◌, leb, ltb, List, [], ◌∷◌, get_or, arith, ⊎_elim, refl, sym, ◌∙◌}
+use Rattle.std.proofs.Common.{◌≡◌, ℕ, suc, ◌<◌, ◌^◌, Bool, true, ◌&&◌, leb, ltb, List, [], ◌∷◌, get_or, arith, ⊎_elim, refl, sym, ◌∙◌}
 use Rattle.std.specs.List.{list_all}
+use Rattle.std.proofs.Math.Bool.{and-true}
 use Rattle.std.proofs.lemmas.Bool.{and_from, lt-ltb, le-ltb, le-leb, lt-leb, cases_lt}
 
 pub small_bytes : (xs : List ℕ) → ((k : ℕ) → get_or xs k 0 < 256) → list_all (λ b. ltb b 256) xs ≡ true
@@ -15,8 +16,4 @@ same_limit n = ⊎_elim
 
 pub all_but : {a b c d e f g s l : Bool} → a ≡ true → b ≡ true → c ≡ true → d ≡ true → e ≡ true → f ≡ true → g ≡ true → (x : Bool) → s ≡ true → l ≡ true
     → x ≡ (a && b && c && d && e && f && g && x && s && l)
-all_but a b c d e f g x s l = alone x ∙ sym (λ i. a i && b i && c i && d i && e i && f i && g i && x && s i && l i)
-  where
-    alone : (x : Bool) → x ≡ (x && true && true)
-    alone true = refl
-    alone false = refl
+all_but a b c d e f g x s l = sym ((λ i. a i && b i && c i && d i && e i && f i && g i && x && s i && l i) ∙ and-true (x && true) ∙ and-true x)

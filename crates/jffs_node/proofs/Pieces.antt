@@ -1,7 +1,8 @@
 -- The pieces of a text between its slashes, and the answer that they make.
 use Rattle.std.proofs.Common.{◌≡◌, ℕ, zero, suc, ◌+◌, ◌-◌, ◌<◌, ◌≤◌, Bool, true, false, cond, not, ◌&&◌, ◌||◌, eqb, leb, ltb, IsTrue, List, [], ◌∷◌, ◌++◌, length, take, drop, Option, Some, None, Result, Ok, Err, refl, sym, ap, ◌∙◌, ⊎_elim, append_assoc, arith, length-append, length-drop}
 use Rattle.std.specs.List.{AllByRecursion, list_all, slice_split, position, position_or_len, onto_first}
-use Rattle.std.proofs.lemmas.Bool.{cases_Bool, and_from, le-leb, ltb-true, ltb-false}
+use Rattle.std.proofs.lemmas.Bool.{cases_Bool, and_from, le-leb, ltb-true, ltb-false, false_from_ne_true}
+use Rattle.std.proofs.lemmas.Option.{none-some, cond_some}
 use Rattle.std.proofs.lemmas.List.{take_all}
 use Rattle.std.proofs.lemmas.List.Splits.{slice_split_first, slice_split-cons_no}
 use Rattle.jffs_node.specs.declared.path.PathFault.{PathFault}
@@ -11,25 +12,10 @@ use Rattle.jffs_node.specs.Path.{IsPath, name_fault, names_fault, or_else, unles
 
 -- where a slash was looked for
 found_some : (k n e : ℕ) → cond (ltb k n) (Some k) None ≡ Some e → (k < n) × (k ≡ e)
-found_some k n e h = ⊎_elim
-    (λ t. (ltb-true k n t, same k e (sym (ap (λ b. cond b (Some k) None) t) ∙ h)))
-    (λ f. absurd (none_some e (sym (ap (λ b. cond b (Some k) None) f) ∙ h)))
-    (cases_Bool (ltb k n))
-  where
-    same : (a b : ℕ) → ◌≡◌ {A = Option ℕ} (Some a) (Some b) → a ≡ b
-    same a b g = cc
-
-    none_some : (b : ℕ) → ◌≡◌ {A = Option ℕ} None (Some b) → ⊥
-    none_some b g = cc
+found_some k n e h = let parts = cond_some (ltb k n) k e h in (ltb-true k n parts.0, parts.1)
 
 found_none : (k n : ℕ) → ◌≡◌ {A = Option ℕ} (cond (ltb k n) (Some k) None) None → n ≤ k
-found_none k n h = ⊎_elim
-    (λ t. absurd (some_none k (sym (ap (λ b. cond b (Some k) None) t) ∙ h)))
-    (λ f. ltb-false k n f)
-    (cases_Bool (ltb k n))
-  where
-    some_none : (b : ℕ) → ◌≡◌ {A = Option ℕ} (Some b) None → ⊥
-    some_none b g = cc
+found_none k n h = ltb-false k n (false_from_ne_true (ltb k n) (λ t. none-some k (sym h ∙ ap (λ b. cond b (Some k) None) t)))
 
 pub one_piece : (xs : List ℕ) → length xs ≤ position_or_len (λ c. eqb c 47) xs → slice_split (λ c. eqb c 47) xs ≡ xs ∷ []
 one_piece [] h = refl

@@ -4,6 +4,7 @@ use Rattle.std.specs.List.{AllByRecursion}
 use Rattle.jffs_node.specs.declared.read.Why.{Why}
 use Rattle.jffs_node.specs.Reading.{first_broken}
 use Rattle.std.proofs.lemmas.Bool.{cases_Bool, and_parts, leb-true}
+use Rattle.std.proofs.lemmas.Option.{none-some}
 use Rattle.jffs_node.specs.declared.header.Labels.{Labels}
 use Rattle.jffs_node.specs.declared.node.Node.{Node}
 use Rattle.jffs_node.specs.declared.node.Kind.{Kind}
@@ -38,14 +39,8 @@ first_later (rule ∷ front) later h = ap (λ t. cond t (first_broken (front ++ 
 pub broken_after : (front later : List (Bool × Why)) (b : Bool) (w : Why) → AllByRecursion (λ r. r.0 ≡ true) front → b ≡ false → first_broken (front ++ (b, w) ∷ later) ≡ Some w
 broken_after front later b w h e = first_later front ((b, w) ∷ later) h ∙ ap (λ t. cond t (first_broken later) (Some w)) e
 
-some_none : (w : Why) → ◌≡◌ {A = Option Why} None (Some w) → ⊥
-some_none w e = cc
-
-some_same : (v w : Why) → ◌≡◌ {A = Option Why} (Some v) (Some w) → v ≡ w
-some_same v w e = cc
-
 pub broken_front : (front later : List (Bool × Why)) (w : Why) → first_broken front ≡ Some w → first_broken (front ++ later) ≡ Some w
-broken_front [] later w h = absurd (some_none w h)
+broken_front [] later w h = absurd (none-some w h)
 broken_front (rule ∷ front) later w h = ⊎_elim
     (λ t. ap (λ b. cond b (first_broken (front ++ later)) (Some rule.1)) t ∙ broken_front front later w (sym (ap (λ b. cond b (first_broken front) (Some rule.1)) t) ∙ h))
     (λ f. ap (λ b. cond b (first_broken (front ++ later)) (Some rule.1)) f ∙ sym (ap (λ b. cond b (first_broken front) (Some rule.1)) f) ∙ h)

@@ -1,13 +1,13 @@
 -- What is read as a node begins with the record of that node.
 use Rattle.std.proofs.Common.{◌≡◌, ℕ, zero, suc, ◌+◌, ◌-◌, ◌%◌, ◌/◌, ◌^◌, ◌<◌, ◌≤◌, Bool, true, false, cond, not, ◌&&◌, ◌||◌, ltb, leb, eqb, List, [], ◌∷◌, ◌++◌, length, take, drop, get_or, replicate, Option, Some, None, is_some, is_none, unwrap_or, refl, sym, ap, subst, ◌∙◌, w16, w32, arith, ⊎_elim, take-append-drop, take-add, drop-cons}
-use Rattle.std.proofs.Math.Seq.{drop-append_seam}
 use Rattle.std.specs.Option.{option_map_or}
 use Rattle.std.specs.List.{list_all, AllByRecursion}
 use Rattle.std.specs.Int.{to_be_bytes, from_be_bytes}
-use Rattle.std.proofs.lemmas.Bool.{and_parts, and_from, or_right, or_cases, or_parts, eqb-true, ltb-true, leb-true, ltb-false, lt-ltb, ne_eqb, cases_Bool, cases_lt, not-false}
+use Rattle.std.proofs.lemmas.Bool.{and_parts, and_from, or_right, or_cases, or_parts, eqb-true, ltb-true, leb-true, ltb-false, lt-ltb, ne_eqb, cases_Bool, cases_lt, not-false, false≢true}
+use Rattle.std.proofs.lemmas.Option.{none-some}
 use Rattle.std.proofs.lemmas.Nat.{be_bytes_2, be_bytes_4}
 use Rattle.std.proofs.lemmas.Slice.Eq.{bytes_eq-Decides}
-use Rattle.std.proofs.lemmas.List.{length-take, length-drop, get_or-take, get_or-drop, get_or_past}
+use Rattle.std.proofs.lemmas.List.{length-take, length-drop, get_or-take, get_or-drop, get_or_past, drop-take, nil_from_length}
 use Rattle.jffs_node.specs.declared.node.Node.{Node}
 use Rattle.jffs_node.specs.declared.node.Kind.TheVariants.{File, Directory, Unmount}
 use Rattle.jffs_node.specs.declared.read.Why.{Why}
@@ -16,16 +16,14 @@ use Rattle.jffs_node.specs.Name.{is_name, is_name_byte, padded_name}
 use Rattle.jffs_node.specs.Record.{header, spelling, magic, record_len, len_of_data, kind_byte, flags_byte, name_bytes, form_number, dsize, fill_len, is_file, is_unmount, numbers_hold, has_place, is_lawful, BeginsWith}
 use Rattle.jffs_node.specs.Reading.{number_at, byte_at, form_at, name_field, name_at, data_len, data_at, node_at, first_broken, rules, broken_rule, closed_or_bad, is_erased}
 use Rattle.jffs_node.specs.Laws.{FoundAreRecords}
+use Rattle.jffs_node.proofs.Fitting.{small_bytes}
 
 pub all_hold : (rules : List (Bool × Why)) → first_broken rules ≡ None → AllByRecursion (λ r. r.0 ≡ true) rules
 all_hold [] h = tt
 all_hold (rule ∷ rules) h = ⊎_elim
     (λ t. (t, all_hold rules (sym (ap (λ b. cond b (first_broken rules) (Some rule.1)) t) ∙ h)))
-    (λ f. absurd (some_none rule.1 (sym (ap (λ b. cond b (first_broken rules) (Some rule.1)) f) ∙ h)))
+    (λ f. absurd (none-some rule.1 (sym h ∙ ap (λ b. cond b (first_broken rules) (Some rule.1)) f)))
     (cases_Bool rule.0)
-  where
-    some_none : (w : Why) → Some w ≡ None → ⊥
-    some_none w e = cc
 
 kind_byte_is : (b : ℕ) → is_some (cond (eqb b 1) (Some File) (cond (eqb b 2) (Some Directory) (cond (eqb b 3) (Some Unmount) None))) ≡ true
     → kind_byte (unwrap_or (cond (eqb b 1) (Some File) (cond (eqb b 2) (Some Directory) (cond (eqb b 3) (Some Unmount) None))) File) ≡ b
@@ -38,15 +36,12 @@ kind_byte_is b h = ⊎_elim
     (λ three. ap (λ t. kind_byte (unwrap_or (cond t (Some File) (cond (eqb b 2) (Some Directory) (cond (eqb b 3) (Some Unmount) None))) File)) no_one
     ∙ ap (λ t. kind_byte (unwrap_or (cond t (Some Directory) (cond (eqb b 3) (Some Unmount) None)) File)) no_two
     ∙ ap (λ t. kind_byte (unwrap_or (cond t (Some Unmount) None) File)) three ∙ sym (eqb-true b 3 three))
-    (λ no_three. absurd (no_kind (sym (ap (λ t. is_some (cond t (Some File) (cond (eqb b 2) (Some Directory) (cond (eqb b 3) (Some Unmount) None)))) no_one
+    (λ no_three. absurd (false≢true (sym (ap (λ t. is_some (cond t (Some File) (cond (eqb b 2) (Some Directory) (cond (eqb b 3) (Some Unmount) None)))) no_one
     ∙ ap (λ t. is_some (cond t (Some Directory) (cond (eqb b 3) (Some Unmount) None))) no_two
     ∙ ap (λ t. is_some (cond t (Some Unmount) None)) no_three) ∙ h)))
     (cases_Bool (eqb b 3)))
     (cases_Bool (eqb b 2)))
     (cases_Bool (eqb b 1))
-  where
-    no_kind : false ≡ true → ⊥
-    no_kind e = cc
 
 flags_are : (f : ℕ) → f < 3 → cond (eqb (f % 2) 1) 1 0 + cond (eqb (f / 2 % 2) 1) 2 0 ≡ f
 flags_are zero h = refl
@@ -66,10 +61,6 @@ flags_suit (suc (suc (suc f))) u h k = absurd (omega arith)
 -- the bytes of a list, one by one
 small : List ℕ → Type 0
 small xs = (i : ℕ) → get_or xs i 0 < 256
-
-all_small : (xs : List ℕ) → ((i : ℕ) → get_or xs i 0 < 256) → list_all (λ b. ltb b 256) xs ≡ true
-all_small [] h = refl
-all_small (x ∷ xs) h = and_from (ltb x 256) _ (lt-ltb x 256 (h 0)) (all_small xs (λ i. h (suc i)))
 
 small_part : (rest : List ℕ) (at k : ℕ) → ((i : ℕ) → get_or rest i 0 < 256) → (i : ℕ) → get_or (take k (drop at rest)) i 0 < 256
 small_part rest at k h i = ⊎_elim
@@ -105,26 +96,14 @@ only x (y ∷ xs) h =
     let later = only x xs parts.1 in
     λ i. same i ∷ later i
 
-rest_behind : (k : ℕ) (p ys : List ℕ) → length p ≡ k → drop k (p ++ ys) ≡ ys
-rest_behind k p ys h = ap (λ j. drop j (p ++ ys)) (sym h) ∙ drop-append_seam p ys
-
-part_behind : (rest : List ℕ) (at k : ℕ) → at ≤ length rest → drop at (take (at + k) rest) ≡ take k (drop at rest)
-part_behind rest at k l =
-    let t = length-take at rest in
-    ap (λ (xs : List ℕ). drop at xs) (take-add at k rest) ∙ rest_behind at (take at rest) (take k (drop at rest)) (omega arith)
-
 -- Names.
 name_short : (u : Bool) (b : ℕ) (na : List ℕ) → cond u (eqb b 0) (leb b 20 && is_name na) ≡ true → b ≤ 20
 name_short true b na h = let e = eqb-true b 0 h in omega arith
 name_short false b na h = leb-true b 20 (and_parts (leb b 20) (is_name na) h).0
 
-no_bytes : (xs : List ℕ) → length xs ≡ 0 → [] ≡ xs
-no_bytes [] h = refl
-no_bytes (x ∷ xs) h = absurd (omega arith)
-
 name_is : (b : ℕ) (na : List ℕ) → length na ≡ b → unwrap_or (cond (eqb b 0) None (Some na)) [] ≡ na
 name_is b na h = ⊎_elim
-    (λ none. ap (λ t. unwrap_or (cond t None (Some na)) []) none ∙ no_bytes na (h ∙ eqb-true b 0 none))
+    (λ none. ap (λ t. unwrap_or (cond t None (Some na)) []) none ∙ sym (nil_from_length na (h ∙ eqb-true b 0 none)))
     (λ some. ap (λ t. unwrap_or (cond t None (Some na)) []) some)
     (cases_Bool (eqb b 0))
 
@@ -155,12 +134,8 @@ form_suits f k file deleted h = ⊎_elim
 size_number_is : (f k : ℕ) → (eqb f 2 || eqb k 0) ≡ true → unwrap_or (cond (eqb f 2) (Some k) None) 0 ≡ k
 size_number_is f k h = ⊎_elim
     (λ two. ap (λ t. unwrap_or (cond t (Some k) None) 0) two)
-    (λ other. ap (λ t. unwrap_or (cond t (Some k) None) 0) other ∙ sym (eqb-true k 0 (zero_size (eqb f 2) (eqb k 0) other h)))
+    (λ other. ap (λ t. unwrap_or (cond t (Some k) None) 0) other ∙ sym (eqb-true k 0 (sym (ap (λ t. t || eqb k 0) other) ∙ h)))
     (cases_Bool (eqb f 2))
-  where
-    zero_size : (a b : Bool) → a ≡ false → (a || b) ≡ true → b ≡ true
-    zero_size true b e g = cc
-    zero_size false b e g = g
 
 module _ (rest : List ℕ) (record_max : ℕ) (bytes : (i : ℕ) → get_or rest i 0 < 256) (long : 64 ≤ length rest) (gate : byte_at 7 rest ≡ 0) (hold : AllByRecursion (λ r. r.0 ≡ true) (rules record_max rest)) where
   fits : len_of_data (data_len rest) ≤ length rest
@@ -234,7 +209,7 @@ module _ (rest : List ℕ) (record_max : ℕ) (bytes : (i : ℕ) → get_or rest
       let d = dsize_is in
       let f = fits in
       let there : list_all (λ b. eqb b 255) (drop (64 + data_len rest) (take (len_of_data (data_len rest)) rest)) ≡ true = hold.1.1.1.1.1.1.1.0 in
-      let same = part_behind rest (64 + data_len rest) (fill_len (data_len rest)) (omega arith) in
+      let same = drop-take (64 + data_len rest) (fill_len (data_len rest)) rest in
       let here : list_all (λ b. eqb b 255) (take (fill_len (data_len rest)) (drop (64 + data_len rest) rest)) ≡ true = subst (λ (xs : List ℕ). list_all (λ b. eqb b 255) xs ≡ true) same there in
       let l = part_len rest (64 + data_len rest) (fill_len (data_len rest)) (omega arith) in
       ap (λ k. take (fill_len k) (drop (64 + k) rest)) d
@@ -263,7 +238,7 @@ module _ (rest : List ℕ) (record_max : ℕ) (bytes : (i : ℕ) → get_or rest
       let amount = ap (λ k. ltb k (2 ^ 32)) dsize_is ∙ four_fit 24 in
       let size = ap (λ k. ltb k (2 ^ 32)) size_is ∙ four_fit 40 in
       let writer = lt-ltb (number_at w16 32 rest) (2 ^ 16) (two_small (take 2 (drop 32 rest)) (small_part rest 32 2 bytes)) in
-      let every = all_small (data_at rest) (small_part rest 64 (data_len rest) bytes) in
+      let every = small_bytes (data_at rest) (small_part rest 64 (data_len rest) bytes) in
       and_from _ _
       (and_from _ _
       (and_from _ _ (and_from _ _ (and_from _ _ (and_from _ _ (and_from _ _ (and_from _ _ (and_from _ _ (and_from _ _ (and_from _ _ (four_fit 8) (four_fit 12)) (four_fit 16)) (four_fit 20)) (four_fit 28)) writer) (four_fit 36)) amount) size) every)

@@ -1,74 +1,21 @@
 -- What begins with the record of a node is read as that node.
-use Rattle.std.proofs.Common.{◌≡◌, ℕ, zero, suc, ◌+◌, ◌-◌, ◌%◌, ◌/◌, ◌^◌, ◌<◌, ◌≤◌, Bool, true, false, cond, not, ◌&&◌, ◌||◌, ltb, leb, eqb, List, [], ◌∷◌, ◌++◌, length, take, drop, replicate, Option, Some, None, is_some, is_none, unwrap_or, refl, ap, subst, ◌∙◌, w32, arith}
+use Rattle.std.proofs.Common.{◌≡◌, ℕ, zero, suc, ◌+◌, ◌-◌, ◌%◌, ◌/◌, ◌≤◌, Bool, true, false, cond, not, ◌&&◌, ◌||◌, ltb, leb, eqb, List, [], ◌∷◌, ◌++◌, length, take, drop, replicate, Option, Some, None, is_some, is_none, unwrap_or, refl, ap, subst, ◌∙◌, w32, arith}
 use Rattle.std.specs.Option.{option_map_or}
 use Rattle.std.specs.List.{list_all, AllByRecursion}
-use Rattle.std.proofs.lemmas.Bool.{and_parts, and_from, ltb-true, leb-true, le-ltb, le-leb, eq-eqb, ne_eqb}
+use Rattle.std.proofs.lemmas.Bool.{and_parts, and_from, leb-true, le-ltb, le-leb, eq-eqb, ne_eqb}
 use Rattle.jffs_node.specs.declared.node.Node.{Node}
 use Rattle.jffs_node.specs.declared.node.Kind.TheVariants.{File}
 use Rattle.jffs_node.specs.declared.read.Why.{Why}
 use Rattle.jffs_node.specs.declared.read.Read.TheVariants.{Closed, Free, Torn}
-use Rattle.jffs_node.specs.Name.{is_name, is_name_byte}
+use Rattle.jffs_node.specs.Name.{is_name}
 use Rattle.jffs_node.specs.Record.{spelling, record_len, len_of_data, flags_byte, name_bytes, form_number, dsize, fill_len, is_file, is_unmount, suits_kind, fits_fields, numbers_hold, has_place, is_lawful}
 use Rattle.jffs_node.specs.Reading.{number_at, form_at, name_at, data_len, node_at, flags_hold, name_holds, form_holds, spare_holds, size_holds, padding_holds, first_broken, rules, broken_rule, closed_or_bad, is_erased, found}
 use Rattle.jffs_node.specs.Laws.{RecordsAreFound}
+use Rattle.jffs_node.proofs.Names.{long_enough}
+use Rattle.jffs_node.proofs.Lawfulness.{FitsFields, fields_of, SuitsRules, rules_of}
 use Rattle.jffs_node.proofs.Fields.{inode_field, parent_field, version_field, offset_field, data_field, rsize_field, writer_field, form_field, seq_field, size_field, kind_field, name_found, name_end, data_found, padding_found, length-spelling}
 
--- What the rules of a lawful node say, one by one.
-record Lawful (n : Node) : Type 0 where
-  inode : n.inode < 2 ^ 32
-  parent : n.parent < 2 ^ 32
-  version : n.version < 2 ^ 32
-  offset : n.offset < 2 ^ 32
-  rsize : n.rsize < 2 ^ 32
-  writer : n.writer < 2 ^ 16
-  seq : n.seq < 2 ^ 32
-  amount : dsize n < 2 ^ 32
-  size : unwrap_or n.size 0 < 2 ^ 32
-  not_both_flags : not (n.deleted && n.copy) ≡ true
-  unmount_flags : (not (is_unmount n.kind) || (not n.deleted && not n.copy)) ≡ true
-  name : option_map_or (λ name. not (is_unmount n.kind) && is_name name) n.name (is_unmount n.kind) ≡ true
-  form : (is_none n.size || (is_file n.kind && not n.deleted)) ≡ true
-  numbers : numbers_hold n (dsize n) ≡ true
-
-lawful_parts : (n : Node) → is_lawful n ≡ true → Lawful n
-lawful_parts n h =
-    let whole = and_parts (fits_fields n && suits_kind n) (numbers_hold n (dsize n)) h in
-    let two = and_parts (fits_fields n) (suits_kind n) whole.0 in
-    let f7 = and_parts _ (list_all (λ b. ltb b 256) n.bytes) two.0 in
-    let f9 = and_parts _ (ltb (unwrap_or n.size 0) (2 ^ 32)) f7.0 in
-    let f8 = and_parts _ (ltb (dsize n) (2 ^ 32)) f9.0 in
-    let f6 = and_parts _ (ltb n.seq (2 ^ 32)) f8.0 in
-    let f5 = and_parts _ (ltb n.writer (2 ^ 16)) f6.0 in
-    let f4 = and_parts _ (ltb n.rsize (2 ^ 32)) f5.0 in
-    let f3 = and_parts _ (ltb n.offset (2 ^ 32)) f4.0 in
-    let f2 = and_parts _ (ltb n.version (2 ^ 32)) f3.0 in
-    let f1 = and_parts (ltb n.inode (2 ^ 32)) (ltb n.parent (2 ^ 32)) f2.0 in
-    let s3 = and_parts _ (is_none n.size || (is_file n.kind && not n.deleted)) two.1 in
-    let s2 = and_parts _ (option_map_or (λ name. not (is_unmount n.kind) && is_name name) n.name (is_unmount n.kind)) s3.0 in
-    let s1 = and_parts (not (n.deleted && n.copy)) (not (is_unmount n.kind) || (not n.deleted && not n.copy)) s2.0 in
-    record {
-      inode = ltb-true n.inode (2 ^ 32) f1.0;
-      parent = ltb-true n.parent (2 ^ 32) f1.1;
-      version = ltb-true n.version (2 ^ 32) f2.1;
-      offset = ltb-true n.offset (2 ^ 32) f3.1;
-      rsize = ltb-true n.rsize (2 ^ 32) f4.1;
-      writer = ltb-true n.writer (2 ^ 16) f5.1;
-      seq = ltb-true n.seq (2 ^ 32) f6.1;
-      amount = ltb-true (dsize n) (2 ^ 32) f8.1;
-      size = ltb-true (unwrap_or n.size 0) (2 ^ 32) f9.1;
-      not_both_flags = s1.0;
-      unmount_flags = s1.1;
-      name = s2.1;
-      form = s3.1;
-      numbers = whole.1;
-    }
-
 -- Names.
-long_enough : (nb : List ℕ) → is_name nb ≡ true → (1 ≤ length nb) × (length nb ≤ 20)
-long_enough nb h =
-    let parts = and_parts (leb 1 (length nb)) (leb (length nb) 20) (and_parts (leb 1 (length nb) && leb (length nb) 20) (list_all is_name_byte nb) h).0 in
-    (leb-true 1 (length nb) parts.0, leb-true (length nb) 20 parts.1)
-
 short_name : (u : Bool) (o : Option (List ℕ)) → option_map_or (λ name. not u && is_name name) o u ≡ true → length (unwrap_or o []) ≤ 20
 short_name u None h = omega arith
 short_name u (Some nb) h = (long_enough nb (and_parts (not u) (is_name nb) h).1).1
@@ -129,31 +76,37 @@ pub none_broken : (rules : List (Bool × Why)) → AllByRecursion (λ r. r.0 ≡
 none_broken [] h = refl
 none_broken (rule ∷ rules) h = ap (λ t. cond t (first_broken rules) (Some rule.1)) h.0 ∙ none_broken rules h.1
 
-module _ (n : Node) (after : List ℕ) (h : Lawful n) where
+module _ (n : Node) (after : List ℕ) (lawful : is_lawful n ≡ true) where
+  fields : FitsFields n
+  fields = fields_of n lawful
+
+  suits : SuitsRules n
+  suits = rules_of n lawful
+
   short : length (name_bytes n) ≤ 20
-  short = short_name (is_unmount n.kind) n.name h.name
+  short = short_name (is_unmount n.kind) n.name suits.name
 
   node_found : node_at (spelling n ++ after) ≡ n
   node_found i = record {
     kind = unwrap_or (kind_field n after i) File;
     deleted = deleted_given n.deleted n.copy i;
     copy = copy_given n.deleted n.copy i;
-    inode = inode_field n after h.inode i;
-    parent = parent_field n after h.parent i;
-    version = version_field n after h.version i;
-    offset = offset_field n after h.offset i;
-    rsize = rsize_field n after h.rsize i;
-    writer = writer_field n after h.writer i;
-    seq = seq_field n after h.seq i;
+    inode = inode_field n after fields.inode i;
+    parent = parent_field n after fields.parent i;
+    version = version_field n after fields.version i;
+    offset = offset_field n after fields.offset i;
+    rsize = rsize_field n after fields.rsize i;
+    writer = writer_field n after fields.writer i;
+    seq = seq_field n after fields.seq i;
     size = size_found i;
-    name = name_given (is_unmount n.kind) n.name (name_at (spelling n ++ after)) h.name (name_found n after short) i;
-    bytes = data_found n after short h.amount i;
+    name = name_given (is_unmount n.kind) n.name (name_at (spelling n ++ after)) suits.name (name_found n after short) i;
+    bytes = data_found n after short fields.amount i;
   }
     where
       size_found : cond (eqb (form_at (spelling n ++ after)) 2) (Some (number_at w32 40 (spelling n ++ after))) None ≡ n.size
       size_found =
           ap (λ f. cond (eqb f 2) (Some (number_at w32 40 (spelling n ++ after))) None) (form_field n after)
-          ∙ size_given n.size (number_at w32 40 (spelling n ++ after)) (size_field n after h.size)
+          ∙ size_given n.size (number_at w32 40 (spelling n ++ after)) (size_field n after fields.size)
 
   kind_found : (node_at (spelling n ++ after)).kind ≡ n.kind
   kind_found = ap (λ k. unwrap_or k File) (kind_field n after)
@@ -161,34 +114,34 @@ module _ (n : Node) (after : List ℕ) (h : Lawful n) where
   flags_rule : flags_hold (spelling n ++ after) ≡ true
   flags_rule =
       ap (λ k. ltb (flags_byte n) 3 && (not (is_unmount k) || eqb (flags_byte n) 0)) kind_found
-      ∙ flags_pass n.deleted n.copy (is_unmount n.kind) h.not_both_flags h.unmount_flags
+      ∙ flags_pass n.deleted n.copy (is_unmount n.kind) suits.flags suits.unmount
 
   name_rule : name_holds (spelling n ++ after) ≡ true
   name_rule = and_from _ _
       (ap (λ k. cond (is_unmount k) (eqb (length (name_bytes n)) 0) (leb (length (name_bytes n)) 20 && is_name (name_at (spelling n ++ after)))) kind_found
-      ∙ name_passes (is_unmount n.kind) n.name (name_at (spelling n ++ after)) h.name (name_found n after short))
+      ∙ name_passes (is_unmount n.kind) n.name (name_at (spelling n ++ after)) suits.name (name_found n after short))
       (ap (λ (xs : List ℕ). list_all (λ b. eqb b 0) xs) (name_end n after short) ∙ all_same (20 - length (name_bytes n)) 0)
 
   form_rule : form_holds (spelling n ++ after) ≡ true
   form_rule =
       ap (λ f. eqb f 1 || (eqb f 2 && is_file (node_at (spelling n ++ after)).kind && not (node_at (spelling n ++ after)).deleted)) (form_field n after)
       ∙ ap (λ m. eqb (form_number n) 1 || (eqb (form_number n) 2 && is_file m.kind && not m.deleted)) node_found
-      ∙ form_passes_nested n.size (is_file n.kind) n.deleted h.form
+      ∙ form_passes_nested n.size (is_file n.kind) n.deleted suits.form
 
   spare_rule : spare_holds (spelling n ++ after) ≡ true
   spare_rule =
       ap (λ f. eqb f 2 || eqb (number_at w32 40 (spelling n ++ after)) 0) (form_field n after)
-      ∙ spare_passes n.size (number_at w32 40 (spelling n ++ after)) (size_field n after h.size)
+      ∙ spare_passes n.size (number_at w32 40 (spelling n ++ after)) (size_field n after fields.size)
 
   size_rule : (record_max : ℕ) → has_place n.kind (dsize n) record_max (length (spelling n ++ after)) ≡ true → size_holds record_max (spelling n ++ after) ≡ true
   size_rule record_max place = and_from _ _
-      (ap (λ m. numbers_hold m (data_len (spelling n ++ after))) node_found ∙ ap (λ d. numbers_hold n d) (data_field n after h.amount) ∙ h.numbers)
+      (ap (λ m. numbers_hold m (data_len (spelling n ++ after))) node_found ∙ ap (λ d. numbers_hold n d) (data_field n after fields.amount) ∙ (and_parts (fits_fields n && suits_kind n) (numbers_hold n (dsize n)) lawful).1)
       (ap (λ k. has_place k (data_len (spelling n ++ after)) record_max (length (spelling n ++ after))) kind_found
-      ∙ ap (λ d. has_place n.kind d record_max (length (spelling n ++ after))) (data_field n after h.amount) ∙ place)
+      ∙ ap (λ d. has_place n.kind d record_max (length (spelling n ++ after))) (data_field n after fields.amount) ∙ place)
 
   padding_rule : padding_holds (spelling n ++ after) ≡ true
   padding_rule =
-      ap (λ d. list_all (λ b. eqb b 255) (drop (64 + d) (take (len_of_data d) (spelling n ++ after)))) (data_field n after h.amount)
+      ap (λ d. list_all (λ b. eqb b 255) (drop (64 + d) (take (len_of_data d) (spelling n ++ after)))) (data_field n after fields.amount)
       ∙ ap (λ (xs : List ℕ). list_all (λ b. eqb b 255) xs) (padding_found n after short)
       ∙ all_same (fill_len (dsize n)) 255
 
@@ -209,13 +162,13 @@ module _ (n : Node) (after : List ℕ) (h : Lawful n) where
       ap (λ t. cond (t || false) (cond (is_erased (spelling n ++ after)) Free Torn) (closed_or_bad (spelling n ++ after) (broken_rule record_max (spelling n ++ after)))) (long_rest record_max place)
       ∙ ap (λ o. closed_or_bad (spelling n ++ after) o) (no_rule_broken record_max place)
       ∙ ap (λ m. Closed m (len_of_data (data_len (spelling n ++ after)))) node_found
-      ∙ ap (λ d. Closed n (len_of_data d)) (data_field n after h.amount)
+      ∙ ap (λ d. Closed n (len_of_data d)) (data_field n after fields.amount)
 
 pub records_are_found : RecordsAreFound
 records_are_found rest record_max n after h =
     let place = subst (λ (xs : List ℕ). has_place n.kind (dsize n) record_max (length xs) ≡ true) h.spelled h.placed in
-    ap (λ (xs : List ℕ). found record_max xs) h.spelled ∙ found_closed n after (lawful_parts n h.lawful) record_max place
+    ap (λ (xs : List ℕ). found record_max xs) h.spelled ∙ found_closed n after h.lawful record_max place
 
 -- The record of a lawful node is as long as the node says.
 pub length_spelled : (n : Node) → is_lawful n ≡ true → length (spelling n) ≡ record_len n
-length_spelled n lawful = length-spelling n [] (short_name (is_unmount n.kind) n.name (lawful_parts n lawful).name)
+length_spelled n lawful = length-spelling n [] (short_name (is_unmount n.kind) n.name (rules_of n lawful).name)

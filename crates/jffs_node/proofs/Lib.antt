@@ -1,4 +1,5 @@
 pub mod Fields
+pub mod Lawfulness
 pub mod Found
 pub mod Sound
 pub mod Names

@@ -1,5 +1,5 @@
 -- The pieces of a text between its slashes, and the answer that they make.
-use Rattle.std.proofs.Common.{◌≡◌, ℕ, zero, suc, ◌+◌, ◌-◌, ◌<◌, ◌≤◌, Bool, true, false, cond, not, ◌&&◌, ◌||◌, eqb, leb, ltb, IsTrue, List, [], ◌∷◌, ◌++◌, length, take, drop, Option, Some, None, Result, Ok, Err, refl, sym, ap, ◌∙◌, ⊎_elim, append_assoc, arith, length-append, length-drop}
+use Rattle.std.proofs.Common.{◌≡◌, ℕ, zero, suc, ◌+◌, ◌-◌, ◌<◌, ◌≤◌, Bool, true, false, cond, not, ◌&&◌, ◌||◌, eqb, leb, ltb, IsTrue, List, [], ◌∷◌, ◌++◌, length, take, drop, Option, Some, None, Ok, refl, sym, ap, ◌∙◌, ⊎_elim, append_assoc, arith, length-append, length-drop}
 use Rattle.std.specs.List.{AllByRecursion, list_all, slice_split, position, position_or_len, onto_first}
 use Rattle.std.proofs.lemmas.Bool.{cases_Bool, and_from, le-leb, ltb-true, ltb-false, false_from_ne_true}
 use Rattle.std.proofs.lemmas.Option.{none-some, cond_some}
@@ -8,6 +8,7 @@ use Rattle.std.proofs.lemmas.List.Splits.{slice_split_first, slice_split-cons_no
 use Rattle.jffs_node.specs.declared.path.PathFault.{PathFault}
 use Rattle.jffs_node.specs.declared.path.PathFault.TheVariants.{NameEmpty, NameLong, NameByte, Deep}
 use Rattle.jffs_node.specs.Name.{is_name, is_name_byte}
+use Rattle.jffs_node.proofs.Rules.{ok_differs, ok_same}
 use Rattle.jffs_node.specs.Path.{IsPath, name_fault, names_fault, or_else, unless_fault, answer_after, named, unless_bad}
 
 -- where a slash was looked for
@@ -48,15 +49,9 @@ module _ (names : List (List ℕ)) (deep : Bool) (piece : List ℕ) (pieces : Li
       ∙ (λ i. unless_fault (sym (append_assoc names (piece ∷ []) pieces) i) (or_else (names_fault pieces) (cond (deep || ltb 8 (l i)) (Some Deep) None)))
 
 -- What a name that was read says of its bytes.
-name_same : (a b : List ℕ) → ◌≡◌ {A = Result (List ℕ) PathFault} (Ok a) (Ok b) → a ≡ b
-name_same a b e = cc
-
-name_no_fault : (a : List ℕ) (b : PathFault) → ◌≡◌ {A = Result (List ℕ) PathFault} (Ok a) (Err b) → ⊥
-name_no_fault a b e = cc
-
 read_of : (bytes name : List ℕ) (o : Option PathFault) → Ok name ≡ unless_bad bytes o → (o ≡ None) × (name ≡ bytes)
-read_of bytes name None h = (refl, name_same name bytes h)
-read_of bytes name (Some fault) h = absurd (name_no_fault name fault h)
+read_of bytes name None h = (refl, ok_same bytes name h)
+read_of bytes name (Some fault) h = absurd (ok_differs fault name h)
 
 pub named_read : (bytes name : List ℕ) → Ok name ≡ named bytes → (name_fault bytes ≡ None) × (name ≡ bytes)
 named_read bytes name h = read_of bytes name (name_fault bytes) h

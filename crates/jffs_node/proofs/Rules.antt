@@ -12,10 +12,10 @@ use Rattle.jffs_node.specs.declared.node.Kind.TheVariants.{File, Directory, Unmo
 use Rattle.jffs_node.specs.Record.{kind_numbers, has_no_range, size_numbers, numbers_hold, len_of_data}
 use Rattle.jffs_node.specs.Header.{checked, labels_at, labels_or_why}
 
-pub ok_differs : {A : Type 0} (w : Why) (y : A) → ◌≡◌ {A = Result A Why} (Ok y) (Err w) → ⊥
+pub ok_differs : {A E : Type 0} (w : E) (y : A) → ◌≡◌ {A = Result A E} (Ok y) (Err w) → ⊥
 ok_differs w y e = cc
 
-pub ok_same : {A : Type 0} (x y : A) → ◌≡◌ {A = Result A Why} (Ok y) (Ok x) → y ≡ x
+pub ok_same : {A E : Type 0} (x y : A) → ◌≡◌ {A = Result A E} (Ok y) (Ok x) → y ≡ x
 ok_same x y e = cc
 
 pub err_same : {A : Type 0} (w e : Why) → ◌≡◌ {A = Result A Why} (Err e) (Err w) → e ≡ w

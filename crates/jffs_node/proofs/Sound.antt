@@ -12,11 +12,13 @@ use Rattle.jffs_node.specs.declared.node.Node.{Node}
 use Rattle.jffs_node.specs.declared.node.Kind.TheVariants.{File, Directory, Unmount}
 use Rattle.jffs_node.specs.declared.read.Why.{Why}
 use Rattle.jffs_node.specs.declared.read.Read.TheVariants.{Closed, Free, Torn, Bad}
-use Rattle.jffs_node.specs.Name.{is_name, is_name_byte, padded_name}
+use Rattle.jffs_node.specs.Name.{is_name, padded_name}
 use Rattle.jffs_node.specs.Record.{header, spelling, magic, record_len, len_of_data, kind_byte, flags_byte, name_bytes, form_number, dsize, fill_len, is_file, is_unmount, numbers_hold, has_place, is_lawful, BeginsWith}
 use Rattle.jffs_node.specs.Reading.{number_at, byte_at, form_at, name_field, name_at, data_len, data_at, node_at, first_broken, rules, broken_rule, closed_or_bad, is_erased}
 use Rattle.jffs_node.specs.Laws.{FoundAreRecords}
 use Rattle.jffs_node.proofs.Fitting.{small_bytes}
+use Rattle.jffs_node.proofs.Names.{long_enough}
+use Rattle.jffs_node.proofs.Rules.{place_fits}
 
 pub all_hold : (rules : List (Bool × Why)) → first_broken rules ≡ None → AllByRecursion (λ r. r.0 ≡ true) rules
 all_hold [] h = tt
@@ -112,7 +114,7 @@ name_suits : (u : Bool) (b : ℕ) (na : List ℕ) → length na ≡ b → cond u
 name_suits true b na l h = ap (λ t. option_map_or (λ name. not true && is_name name) (cond t None (Some na)) true) h
 name_suits false b na l h =
     let named = (and_parts (leb b 20) (is_name na) h).1 in
-    let long = leb-true 1 (length na) (and_parts (leb 1 (length na)) (leb (length na) 20) (and_parts (leb 1 (length na) && leb (length na) 20) (list_all is_name_byte na) named).0).0 in
+    let long = (long_enough na named).0 in
     ap (λ t. option_map_or (λ name. not false && is_name name) (cond t None (Some na)) false) (ne_eqb b 0 (λ e. omega arith)) ∙ named
 
 -- Forms.
@@ -139,10 +141,7 @@ size_number_is f k h = ⊎_elim
 
 module _ (rest : List ℕ) (record_max : ℕ) (bytes : (i : ℕ) → get_or rest i 0 < 256) (long : 64 ≤ length rest) (gate : byte_at 7 rest ≡ 0) (hold : AllByRecursion (λ r. r.0 ≡ true) (rules record_max rest)) where
   fits : len_of_data (data_len rest) ≤ length rest
-  fits =
-      let place = (and_parts (numbers_hold (node_at rest) (data_len rest)) (has_place (node_at rest).kind (data_len rest) record_max (length rest)) hold.1.1.1.1.1.1.0).1 in
-      let two = and_parts (leb (len_of_data (data_len rest)) record_max && leb (len_of_data (data_len rest)) (length rest)) (is_unmount (node_at rest).kind || leb (len_of_data (data_len rest) + 64) (length rest)) place in
-      leb-true (len_of_data (data_len rest)) (length rest) (and_parts (leb (len_of_data (data_len rest)) record_max) (leb (len_of_data (data_len rest)) (length rest)) two.0).1
+  fits = (place_fits (is_unmount (node_at rest).kind || leb (len_of_data (data_len rest) + 64) (length rest)) (data_len rest) record_max (length rest) (numbers_hold (node_at rest) (data_len rest)) hold.1.1.1.1.1.1.0).1
 
   dsize_is : dsize (node_at rest) ≡ data_len rest
   dsize_is = part_len rest 64 (data_len rest) (let f = fits in omega arith)

@@ -1,34 +1,24 @@
 -- What a call of `apply` leaves is the tree after the node.
-use Rattle.std.proofs.Common.{◌≡◌, ℕ, ◌+◌, ◌≤◌, Bool, true, false, cond, not, ◌&&◌, eqb, leb, List, ◌∷◌, Option, Some, None, refl, sym, ap, ◌∙◌, arith}
+use Rattle.std.proofs.Common.{◌≡◌, ℕ, ◌+◌, ◌≤◌, Bool, true, false, cond, not, ◌&&◌, eqb, leb, List, ◌∷◌, Option, Some, None, sym, ap, ◌∙◌, arith}
 use Rattle.std.specs.Option.{option_map_or, unwrap_or}
-use Rattle.std.proofs.lemmas.Bool.{and_parts, leb-true, eqb-true}
+use Rattle.std.proofs.lemmas.Bool.{and_parts, leb-true, eqb-true, not-true}
 use Rattle.jffs_node.specs.declared.node.Node.{Node}
 use Rattle.jffs_node.specs.declared.node.Kind.TheVariants.{File, Directory, Unmount}
 use Rattle.jffs_node.specs.Name.{is_name}
-use Rattle.jffs_node.specs.Record.{dsize, file_max, is_unmount, is_lawful, fits_fields, suits_kind, numbers_hold, kind_numbers, has_no_range}
+use Rattle.jffs_node.specs.Record.{dsize, file_max, is_unmount, is_lawful, kind_numbers, has_no_range}
 use Rattle.jffs_tree.specs.Origin.{Tree, tree_of}
 use Rattle.jffs_tree.specs.After.{without_inode, put_node, tree_after, IsSmall}
+use Rattle.jffs_node.proofs.Lawfulness.{rules_of, file_numbers}
 use Rattle.jffs_tree.proofs.Grown.{tree_steps}
 
 -- What a lawful node keeps.
-suits : (n : Node) → is_lawful n ≡ true → suits_kind n ≡ true
-suits n h = (and_parts (fits_fields n) (suits_kind n) (and_parts (fits_fields n && suits_kind n) (numbers_hold n (dsize n)) h).0).1
-
-named_well : (n : Node) → is_lawful n ≡ true → option_map_or (λ name. not (is_unmount n.kind) && is_name name) n.name (is_unmount n.kind) ≡ true
-named_well n h =
-    let a = and_parts _ _ (suits n h) in
-    let b = and_parts _ _ a.0 in
-    b.1
-
 pub nameless : (n : Node) → is_lawful n ≡ true → n.name ≡ None → is_unmount n.kind ≡ true
-nameless n h e = sym (ap (λ o. option_map_or (λ name. not (is_unmount n.kind) && is_name name) o (is_unmount n.kind)) e) ∙ named_well n h
-
-not_unmount : (u b : Bool) → (not u && b) ≡ true → u ≡ false
-not_unmount true b h = cc
-not_unmount false b h = refl
+nameless n h e = sym (ap (λ o. option_map_or (λ name. not (is_unmount n.kind) && is_name name) o (is_unmount n.kind)) e) ∙ (rules_of n h).name
 
 pub named : (n : Node) (name : List ℕ) → is_lawful n ≡ true → n.name ≡ Some name → is_unmount n.kind ≡ false
-named n name h e = not_unmount (is_unmount n.kind) (is_name name) (sym (ap (λ o. option_map_or (λ x. not (is_unmount n.kind) && is_name x) o (is_unmount n.kind)) e) ∙ named_well n h)
+named n name h e =
+    let well = sym (ap (λ o. option_map_or (λ x. not (is_unmount n.kind) && is_name x) o (is_unmount n.kind)) e) ∙ (rules_of n h).name in
+    not-true (is_unmount n.kind) (and_parts (not (is_unmount n.kind)) (is_name name) well).0
 
 no_range : (n : Node) → has_no_range n (dsize n) ≡ true → n.offset + dsize n ≤ file_max
 no_range n h =
@@ -40,16 +30,11 @@ no_range n h =
 
 range : (n : Node) → is_lawful n ≡ true → n.offset + dsize n ≤ file_max
 range n h =
-    let a = and_parts (fits_fields n && suits_kind n) (numbers_hold n (dsize n)) h in
-    let b = and_parts _ _ a.1 in
-    let c = and_parts _ _ b.0 in
-    let d = and_parts _ _ c.0 in
-    let e = and_parts _ _ d.0 in
     (elim n.kind as (λ k. kind_numbers k n (dsize n) ≡ true → n.offset + dsize n ≤ file_max) [
       | Unmount ↦ λ x. no_range n (and_parts _ _ x).1
       | Directory ↦ λ x. no_range n (and_parts _ _ x).1
-      | File ↦ λ x. leb-true (n.offset + dsize n) file_max (and_parts _ _ (and_parts _ _ (and_parts _ _ x).0).0).1
-    ]) e.1
+      | File ↦ λ x. (file_numbers n x).range
+    ]) (rules_of n h).kind
 
 no_size : (n : Node) (o : Option ℕ) → option_map_or (λ size. leb size file_max && leb (n.offset + dsize n) size) o true ≡ true → unwrap_or o 0 ≤ file_max
 no_size n None h = omega arith
@@ -58,7 +43,7 @@ no_size n (Some k) h = leb-true k file_max (and_parts _ _ h).0
 pub small : (n : Node) → is_lawful n ≡ true → IsSmall n
 small n h = record {
   range = range n h;
-  size = no_size n n.size (and_parts _ _ (and_parts (fits_fields n && suits_kind n) (numbers_hold n (dsize n)) h).1).1;
+  size = no_size n n.size (rules_of n h).size;
 }
 
 -- By what the node is, the tree after it.

@@ -15,7 +15,7 @@ use Rattle.jffs_tree.specs.Check.{each_fits, is_within, check}
 use Rattle.jffs_tree.specs.Decide.{plain, write_node, truncate_node, copy_node, is_empty, with}
 use Rattle.jffs_tree.specs.Deciding.{IsLawfulPast, AreNumbers, IsNewInode}
 use Rattle.jffs_tree.proofs.Pointwise.{at-state}
-use Rattle.jffs_tree.proofs.Steps.{entry-other}
+use Rattle.jffs_tree.proofs.Steps.{its_inode, entry-other}
 use Rattle.jffs_node.proofs.Fitting.{small_bytes}
 use Rattle.jffs_tree.proofs.States.{none_at}
 use Rattle.jffs_tree.proofs.Kept.{IsOrderly, directory_there, which_directory, one_less}
@@ -28,7 +28,7 @@ use Rattle.jffs_tree.proofs.Putting.{IsFileNode, IsDirectoryNode, put_keeps_past
 below_new : (past : List Node) (k i : ℕ) (e : Entry) → AllByRecursion (λ n. n.inode < k) past → entry past i ≡ Some e → i < k
 below_new [] k i e above is = cc
 below_new (n ∷ past) k i e above is = ⊎_elim
-    (λ c. let same = eqb-true n.inode i (and_parts _ (eqb n.inode i) c).1 in let first = above.0 in omega arith)
+    (λ c. let same = its_inode i n c in let first = above.0 in omega arith)
     (λ c. below_new past k i e above.1 (sym (entry-other i n past c) ∙ is))
     (cases_Bool (concerns i n))
 

@@ -1,13 +1,12 @@
 -- A copy that the decision accepts is true.
-use Rattle.std.proofs.Common.{◌≡◌, ℕ, zero, suc, min, unwrap_or, ◌≤◌, ◌+◌, ◌<◌, Bool, true, false, cond, not, ◌&&◌, leb, ltb, eqb, T, List, [], ◌∷◌, length, map, take, drop, ⊎_elim, Option, Some, None, is_none, Result, Ok, bytes_eq, refl, sym, ap, subst, ◌∙◌, arith}
+use Rattle.std.proofs.Common.{◌≡◌, ℕ, zero, suc, min, unwrap_or, ◌+◌, Bool, true, false, cond, not, ◌&&◌, leb, ltb, eqb, T, List, [], ◌∷◌, length, map, take, drop, ⊎_elim, Option, Some, None, is_none, Ok, bytes_eq, refl, sym, ap, subst, ◌∙◌, arith}
 use Rattle.std.specs.List.{list_any, find}
-use Rattle.std.specs.Ordering.{nat_cmp, eq_by_cmp, is_lt}
-use Rattle.std.proofs.Common.{Less, Equal, Greater}
-use Rattle.std.proofs.lemmas.Bool.{ltb-true, not-false}
-use Rattle.std.specs.Cmp.{unsigned_tied}
+use Rattle.std.specs.Ordering.{nat_cmp}
+use Rattle.std.proofs.lemmas.Bool.{not-false}
 use Rattle.std.specs.FinMap.Entries as entries
-use Rattle.std.proofs.lemmas.Bool.{eqb-true, eq-eqb, ne_eqb, leb-true, le-leb, and_parts, and_from, not_from_false, cases_Bool}
+use Rattle.std.proofs.lemmas.Bool.{leb-true, le-leb, and_parts, and_from, not_from_false, cases_Bool}
 use Rattle.std.proofs.lemmas.List.{length-take, length-drop}
+use Rattle.std.proofs.Math.Nat.{min-le_right}
 use Rattle.std.proofs.lemmas.Slice.Eq.{bytes_eq-Decides}
 use Rattle.jffs_node.specs.declared.node.Node.{Node}
 use Rattle.jffs_node.specs.Record.{dsize, is_unmount}
@@ -20,7 +19,9 @@ use Rattle.jffs_tree.specs.Origin.{Held, concerns, entry, held, tree_of, holder,
 use Rattle.jffs_tree.specs.Decide.{unless, copy_node, is_current, held_entry, held_inode, decide_copy, decide_in, with, entry_of, nobody}
 use Rattle.jffs_tree.specs.Laws.{DecidesByTree, AcceptedCopiesAreTrue, CleaningCopiesAreTrue}
 use Rattle.jffs_tree.proofs.Pointwise.{at-state, sorted-state}
-use Rattle.jffs_tree.proofs.Steps.{entry-other, entry-deleted, entry-written}
+use Rattle.jffs_node.proofs.Rules.{ok_same}
+use Rattle.jffs_tree.proofs.Maps.{tail_sorted, at_first, at_later}
+use Rattle.jffs_tree.proofs.Steps.{not_unmount, entry-other, entry-deleted, entry-written}
 
 -- the tree's state is the state
 pub state_of_tree : (past : List Node) (s : State) → map (λ (h : ℕ × Held). (h.0, h.1.entry)) (map (held past) s) ≡ s
@@ -39,56 +40,25 @@ never_unmount (n ∷ past) i e is = ⊎_elim
     (λ d.
     let some = entry-written i n past c d in
     let same : written n (entry past i) ≡ e = cc in
-    ap (λ x. is_unmount x.kind) (sym same) ∙ unmount_not (is_unmount n.kind) (eqb n.inode i) c)
+    ap (λ x. is_unmount x.kind) (sym same) ∙ not_unmount i n c)
     (cases_Bool n.deleted))
     (λ c. never_unmount past i e (sym (entry-other i n past c) ∙ is))
     (cases_Bool (concerns i n))
-  where
-    unmount_not : (u t : Bool) → (not u && t) ≡ true → u ≡ false
-    unmount_not true t h = cc
-    unmount_not false t h = refl
 
 -- What a search finds in a tree is what the nodes make of an inode.
-pub t_true : (b : Bool) → T b → b ≡ true
-t_true true h = refl
-t_true false h = absurd h
-
-pub is_less : (x y : ℕ) → is_lt (nat_cmp x y) ≡ true → x < y
-is_less x y h = ⊎_elim
-    (λ less. ltb-true x y less)
-    (λ more. absurd (not_less (eqb x y) (sym (ap (λ t. is_lt (cond t Less (cond (eqb x y) Equal Greater))) more) ∙ h)))
-    (cases_Bool (ltb x y))
-  where
-    not_less : (t : Bool) → is_lt (cond t Equal Greater) ≡ true → ⊥
-    not_less true e = cc
-    not_less false e = cc
-
-pub not_tied : (x : ℕ) (s : State) (y : ℕ) (e : Entry) → T (entries.below_all nat_cmp x s) → at s y ≡ Some e → eq_by_cmp nat_cmp y x ≡ false
-not_tied x [] y e h is = cc
-not_tied x (z ∷ s) y e h is =
-    let parts = and_parts (is_lt (nat_cmp x z.0)) (entries.below_all nat_cmp x s) (t_true _ h) in
-    ⊎_elim
-    (λ tied.
-    let same : y ≡ z.0 = eqb-true y z.0 (sym (unsigned_tied y z.0) ∙ tied) in
-    let above = is_less x z.0 parts.0 in
-    unsigned_tied y x ∙ ne_eqb y x (λ e. omega arith))
-    (λ apart. not_tied x s y e (subst T (sym parts.1) tt) (sym (ap (λ t. cond t (Some z.1) (at s y)) apart) ∙ is))
-    (cases_Bool (eq_by_cmp nat_cmp y z.0))
-
 pub found_there : (past : List Node) (p : (ℕ × Held) → Bool) (s : State) (h : ℕ × Held) → T (entries.is_sorted nat_cmp s) → find p (map (held past) s) ≡ Some h
     → (e : Entry) × (h ≡ held past (h.0, e)) × (at s h.0 ≡ Some e)
 found_there past p [] h sorted is = cc
 found_there past p (x ∷ s) h sorted is =
-    let parts = and_parts (entries.below_all nat_cmp x.0 s) (entries.is_sorted nat_cmp s) (t_true _ sorted) in
     ⊎_elim
     (λ passes.
     let found : Some (held past x) ≡ Some h = sym (ap (λ t. cond t (Some (held past x)) (find p (map (held past) s))) passes) ∙ is in
     let same : held past x ≡ h = cc in
     subst (λ (g : ℕ × Held). (e : Entry) × (g ≡ held past (g.0, e)) × (at (x ∷ s) g.0 ≡ Some e)) same
-    (x.1, refl, ap (λ t. cond t (Some x.1) (at s x.0)) (unsigned_tied x.0 x.0 ∙ eq-eqb x.0 x.0 refl)))
+    (x.1, refl, at_first x s))
     (λ fails.
-    let later = found_there past p s h (subst T (sym parts.1) tt) (sym (ap (λ t. cond t (Some (held past x)) (find p (map (held past) s))) fails) ∙ is) in
-    (later.0, later.1, ap (λ t. cond t (Some x.1) (at s h.0)) (not_tied x.0 s h.0 later.0 (subst T (sym parts.0) tt) later.2) ∙ later.2))
+    let later = found_there past p s h (tail_sorted x s sorted) (sym (ap (λ t. cond t (Some (held past x)) (find p (map (held past) s))) fails) ∙ is) in
+    (later.0, later.1, at_later x s h.0 later.0 sorted later.2))
     (cases_Bool (p (held past x)))
 
 -- what holds a version is what the nodes make of its inode
@@ -109,9 +79,6 @@ same_bytes xs ys h = (bytes_eq-Decides xs ys).0 h
 pub the_holder : (o : Option (ℕ × Held)) → is_none o ≡ false → (h : ℕ × Held) × (o ≡ Some h)
 the_holder (Some h) e = (h, refl)
 the_holder None e = cc
-
-ok_same : {n m : NewNode} → ◌≡◌ {A = Result NewNode Cause} (Ok n) (Ok m) → n ≡ m
-ok_same e = cc
 
 module _ (past : List Node) (limits : Limits) (parent : ℕ) (name : List ℕ) (offset : ℕ) (bytes : List ℕ) (version writer seq : ℕ) where
   accepted : (h : ℕ × Held) (n : NewNode) → entry past h.0 ≡ Some h.1.entry → is_current h.1.entry offset bytes ≡ true
@@ -151,7 +118,7 @@ module _ (past : List Node) (limits : Limits) (parent : ℕ) (name : List ℕ) (
       let spent = passed (is_none limits.next_version) VersionsSpent [] copy n stale.1 in
       let h = the_holder o live.0 in
       let current = (and_parts (eqb e.parent parent && bytes_eq e.name name) (is_current e offset bytes) (not-false known stale.0)).1 in
-      let given : copy_node (held_inode o) e offset bytes ≡ n = ok_same spent.1 in (
+      let given : copy_node (held_inode o) e offset bytes ≡ n = ok_same n copy spent.1 in (
         h.0.1.entry,
         accepted h.0 n (there h.0 h.1)
             (ap (λ x. is_current (held_entry x) offset bytes) (sym h.1) ∙ current)
@@ -171,9 +138,6 @@ same_front (suc d) (x ∷ xs) = let later = same_front d xs in λ i. x ∷ later
 no_limits : Limits
 no_limits = record { data_max = 0; next_inode = None; next_version = None }
 
-pub low_min : (a b : ℕ) → min a b ≤ b
-low_min a b = omega arith
-
 pub cleaning_copies_are_true : CleaningCopiesAreTrue
 cleaning_copies_are_true past n e version is =
     let offset = min n.offset (length e.bytes) in
@@ -181,7 +145,7 @@ cleaning_copies_are_true past n e version is =
     let there : entry_of (state_of_past past) n.inode ≡ e = ap (λ o. unwrap_or o nobody) (at-state past n.inode ∙ is) in
     let h : ℕ × Held = (n.inode, record { entry = e; writers = []; newest = None; states_size = false }) in
     let current : is_current e offset bytes ≡ true =
-    and_from (leb offset (length e.bytes)) _ (le-leb offset (length e.bytes) (low_min n.offset (length e.bytes)))
+    and_from (leb offset (length e.bytes)) _ (le-leb offset (length e.bytes) (min-le_right n.offset (length e.bytes)))
     ((bytes_eq-Decides (take (length bytes) (drop offset e.bytes)) bytes).1 (same_front (dsize n) (drop offset e.bytes))) in
     subst (λ x. IsTrueCopy past (with (copy_node n.inode x (min n.offset (length x.bytes)) (take (dsize n) (drop (min n.offset (length x.bytes)) x.bytes))) version 0 0) e) (sym there)
     (accepted past no_limits 0 [] offset bytes version 0 0 h (copy_node n.inode e offset bytes) is current refl)

@@ -1,5 +1,5 @@
 -- A decided node keeps the rules, wish by wish.
-use Rattle.std.proofs.Common.{◌≡◌, ℕ, zero, suc, min, max, ◌+◌, ◌-◌, ◌<◌, ◌≤◌, Bool, true, false, cond, not, ◌&&◌, ◌||◌, eqb, leb, ltb, IsTrue, List, [], ◌∷◌, length, take, drop, get_or, ⊎_elim, Option, Some, None, is_none, is_some, unwrap_or, Result, Ok, Err, bytes_eq, refl, sym, ap, subst, ◌∙◌, arith}
+use Rattle.std.proofs.Common.{◌≡◌, ℕ, zero, suc, min, max, ◌+◌, ◌-◌, ◌<◌, ◌≤◌, Bool, true, false, cond, not, ◌&&◌, ◌||◌, eqb, leb, ltb, IsTrue, List, [], ◌∷◌, length, take, drop, get_or, ⊎_elim, Option, Some, None, is_none, is_some, unwrap_or, Ok, Err, bytes_eq, refl, sym, ap, subst, ◌∙◌, arith}
 use Rattle.std.specs.List.{AllByRecursion}
 use Rattle.std.specs.Option.{option_map_or}
 use Rattle.std.proofs.lemmas.Bool.{leb-true, le-leb, ltb-false, eqb-false, and_parts, or_parts, not-false}
@@ -24,19 +24,18 @@ use Rattle.jffs_tree.specs.Deciding.{IsLawfulPast, AreNumbers, IsNewInode, AreLi
 use Rattle.jffs_tree.proofs.Pointwise.{at-state, sorted-state}
 use Rattle.jffs_node.proofs.Fitting.{small_bytes}
 use Rattle.jffs_tree.proofs.There.{resolved_there}
-use Rattle.jffs_tree.proofs.Copies.{same_bytes, the_holder, holder_is_there, same_front, low_min}
+use Rattle.jffs_tree.proofs.Copies.{same_bytes, the_holder, holder_is_there, same_front}
 use Rattle.jffs_tree.proofs.Resolving.{led_within, led_to_last, the_parent, the_inode, nothing_there}
-use Rattle.jffs_tree.proofs.Lawful.{lawful_from}
+use Rattle.jffs_node.proofs.Lawfulness.{lawful_from}
+use Rattle.jffs_node.proofs.Rules.{ok_same}
+use Rattle.std.proofs.Math.Nat.{min-le_right}
 use Rattle.jffs_tree.proofs.Entries.{lawful_entry}
 use Rattle.jffs_tree.proofs.Ruled.{check_parts, each_fits_from, keeps_past}
 use Rattle.jffs_tree.proofs.Changing.{Keeps, IsHome, its_file, write_keeps, truncate_keeps, copy_keeps, remove_keeps, rename_keeps, create_keeps, make_directory_keeps}
 
 -- a decision that gave a node passed all tests, and gave that node
 pub all_passed : (causes : List (Bool × Cause)) (n m : NewNode) → unless causes n ≡ Ok m → AllByRecursion (λ (c : Bool × Cause). c.0 ≡ false) causes × (n ≡ m)
-all_passed [] n m is = (tt, the_same is)
-  where
-    the_same : {n m : NewNode} → ◌≡◌ {A = Result NewNode Cause} (Ok n) (Ok m) → n ≡ m
-    the_same is = cc
+all_passed [] n m is = (tt, ok_same m n is)
 all_passed (c ∷ causes) n m is = one (λ h. all_passed causes n m h) c.0 refl is
   where
     one : (unless causes n ≡ Ok m → AllByRecursion (λ (x : Bool × Cause). x.0 ≡ false) causes × (n ≡ m)) → (b : Bool) → c.0 ≡ b → cond b (Err c.1) (unless causes n) ≡ Ok m
@@ -272,7 +271,7 @@ cleaning_copies_keep_rules past n e version writer seq before is v =
     let s = state_of_past past in
     let there : entry_of s n.inode ≡ e = ap (λ o. unwrap_or o nobody) (at-state past n.inode ∙ is) in
     let offset = min n.offset (length e.bytes) in
-    let keeps = copy_keeps past before version writer seq v n.inode e (at-state past n.inode ∙ is) offset (take (dsize n) (drop offset e.bytes)) (low_min n.offset (length e.bytes))
+    let keeps = copy_keeps past before version writer seq v n.inode e (at-state past n.inode ∙ is) offset (take (dsize n) (drop offset e.bytes)) (min-le_right n.offset (length e.bytes))
     (sym (same_front (dsize n) (drop offset e.bytes))) in (
       subst (λ x. IsLawfulPast (with (copy_node n.inode x (min n.offset (length x.bytes)) (take (dsize n) (drop (min n.offset (length x.bytes)) x.bytes))) version writer seq ∷ past)) (sym there) keeps,
       no_more (dsize n) (drop (min n.offset (length (entry_of s n.inode).bytes)) (entry_of s n.inode).bytes),

@@ -11,7 +11,7 @@ use Rattle.jffs_tree.specs.State.{Entry, State, is_child}
 use Rattle.jffs_tree.specs.Origin.{Tree, state_in}
 use Rattle.jffs_tree.specs.Check.{names_differ}
 use Rattle.jffs_tree.specs.Look.{stands_first}
-use Rattle.jffs_tree.proofs.Copies.{t_true, is_less}
+use Rattle.jffs_tree.proofs.Maps.{t_true, is_less}
 
 -- one entry stands in the place of another
 abbrev same_name : (ℕ × Entry) → (ℕ × Entry) → Bool

@@ -6,8 +6,9 @@ use Rattle.std.specs.Ordering.{is_eq, is_lt, eq_by_cmp, ordering_reverse}
 use Rattle.std.specs.Option.{option_map_or}
 use Rattle.std.specs.Result.{IfOk}
 use Rattle.std.specs.declared.cmp.Ordering.{Ordering}
-use Rattle.std.specs.declared.cmp.Ordering.TheVariants.{Less, Equal, Greater}
-use Rattle.std.specs.Cmp.{IsTotalOrder, nat_cmp_total, then_total, on_total, tied_itself, unsigned_tied, both_ways}
+use Rattle.std.specs.declared.cmp.Ordering.TheVariants.{Equal, Greater}
+use Rattle.std.proofs.Math.Bool.{or-false}
+use Rattle.std.specs.Cmp.{Equal-is, IsTotalOrder, nat_cmp_total, then_total, on_total, tied_itself, unsigned_tied, both_ways}
 use Rattle.std.specs.Cmp.Lexicographic.{slice_cmp, nat_list_cmp_total, texts_ties}
 use Rattle.std.specs.BTreeMap.{is_at}
 use Rattle.std.specs.FinMap.Entries as entries
@@ -22,7 +23,7 @@ use Rattle.jffs_tree.specs.Index.{Place, place_cmp, has_place, stands_at, name_u
 use Rattle.jffs_tree.specs.Look.{name_cmp, children, names_in}
 use Rattle.jffs_tree.proofs.PlaceOrder.{same_place, own_place, nat_tied, then_tied}
 use Rattle.jffs_tree.proofs.Indexed.{names}
-use Rattle.jffs_tree.proofs.Standing.{behind, rest_sorted}
+use Rattle.jffs_tree.proofs.Maps.{behind, tail_sorted}
 use Rattle.jffs_tree.proofs.Listed.{by_name}
 use Rattle.jffs_tree.proofs.Members.{each_other, same_members}
 
@@ -32,11 +33,6 @@ name_total = then_total (on_total (λ (t : List ℕ × ℕ). t.0) nat_list_cmp_t
 abbrev same_name : (List ℕ × ℕ) → (List ℕ × ℕ) → Bool
 same_name a b = eq_by_cmp name_cmp a b
 
-is_equal : (o : Ordering) → is_eq o ≡ true → o ≡ Equal
-is_equal Less h = cc
-is_equal Equal h = refl
-is_equal Greater h = cc
-
 pub name_tied : (a b : List ℕ × ℕ) → name_cmp a b ≡ Equal → a ≡ b
 name_tied a b h =
     let parts = then_tied (slice_cmp nat_cmp a.0 b.0) (nat_cmp a.1 b.1) h in
@@ -45,7 +41,7 @@ name_tied a b h =
     λ i. (x i, y i)
 
 tells : (a b : List ℕ × ℕ) → same_name a b ≡ true → a ≡ b
-tells a b h = name_tied a b (is_equal (name_cmp a b) h)
+tells a b h = name_tied a b ((Equal-is (name_cmp a b)).0 h)
 
 own : (a : List ℕ × ℕ) → same_name a a ≡ true
 own a = ap is_eq (tied_itself name_total a)
@@ -64,7 +60,7 @@ absent z tree sorted = by_held (held_in tree z.0) refl
   where
     by_held : (o : Option Held) → held_in tree z.0 ≡ o → o ≡ None
     by_held None is = refl
-    by_held (Some h) is = let no = (behind z tree z.0 h sorted is).0 in absurd (omega arith)
+    by_held (Some h) is = let no = behind z tree z.0 h sorted is in absurd (omega arith)
 
 module _ (p : ℕ) (q : List ℕ × ℕ) where
   abbrev place : Place
@@ -75,7 +71,7 @@ module _ (p : ℕ) (q : List ℕ × ℕ) where
   at_place k = both_ways (list_any (same_name q) (name_under p k)) (is_at (place_cmp place) k)
       (by_name p (λ xs. list_any (same_name q) xs ≡ true → is_at (place_cmp place) k ≡ true) k (λ no. cc)
       (λ a at is yes.
-      let e = tells q (a, k.2) (first_of (same_name q (a, k.2)) yes) in
+      let e = tells q (a, k.2) (sym (or-false (same_name q (a, k.2))) ∙ yes) in
       let x = sym (eqb-true k.0 p at) in
       let y = ap (λ (t : List ℕ × ℕ). Some t.0) e ∙ sym is in
       let z = ap (λ (t : List ℕ × ℕ). t.1) e in
@@ -85,10 +81,6 @@ module _ (p : ℕ) (q : List ℕ × ℕ) where
       ap (λ t. list_any (same_name q) (name_under p t)) (sym (same_place place k h))
       ∙ ap (λ b. list_any (same_name q) (cond b ((q.0, q.1) ∷ []) [])) (eq-eqb p p refl)
       ∙ ap (λ b. b || false) (own q))
-    where
-      first_of : (b : Bool) → (b || false) ≡ true → b ≡ true
-      first_of true e = refl
-      first_of false e = cc
 
   in_index : (places : List Place) → list_any (same_name q) (names_under p places) ≡ has_place places place
   in_index [] = refl
@@ -115,7 +107,7 @@ module _ (p : ℕ) (q : List ℕ × ℕ) where
   in_tree [] sorted = refl
   in_tree (z ∷ tree) sorted =
       let h = z.1.entry in
-      let rest = in_tree tree (rest_sorted z tree sorted) in
+      let rest = in_tree tree (tail_sorted z tree sorted) in
       one_child (eqb h.parent p) (z.0, h) (filter (λ e. eqb e.1.parent p) (state_in tree))
       ∙ ⊎_elim
       (λ tied.
@@ -146,10 +138,10 @@ module _ (p : ℕ) where
   unfolding IsDistinct
   children_differ [] sorted = tt
   children_differ (z ∷ tree) sorted =
-      let rest = children_differ tree (rest_sorted z tree sorted) in
+      let rest = children_differ tree (tail_sorted z tree sorted) in
       let name : List ℕ × ℕ = (z.1.entry.name, z.0) in
       let first = each_other same_name name (children p (state_in tree))
-      (in_tree p name tree (rest_sorted z tree sorted)
+      (in_tree p name tree (tail_sorted z tree sorted)
       ∙ ap (λ o. option_map_or (λ x. (eqb x.entry.parent p) && bytes_eq x.entry.name z.1.entry.name) o false) (absent z tree sorted)) in
       elim (eqb z.1.entry.parent p) as (λ b. IsDistinct same_name (map (λ x. (x.1.name, x.0)) (cond b ((z.0, z.1.entry) ∷ filter (λ e. eqb e.1.parent p) (state_in tree)) (filter (λ e. eqb e.1.parent p) (state_in tree))))) [
         | true ↦ IsDistinct-cons same_name name (children p (state_in tree)) first rest

@@ -2,8 +2,9 @@
 use Rattle.std.proofs.Common.{◌≡◌, ℕ, ◌+◌, ◌<◌, ◌≤◌, ◌^◌, Bool, true, false, not, ◌&&◌, ◌||◌, eqb, leb, IsTrue, List, [], ◌∷◌, length, get_or, ◌⊎◌, inl, inr, ⊎_elim, Option, Some, None, is_none, unwrap_or, refl, sym, ap, subst, ◌∙◌, arith}
 use Rattle.std.specs.List.{AllByRecursion}
 use Rattle.std.specs.Option.{option_map_or}
-use Rattle.std.proofs.lemmas.Bool.{eqb-true, leb-true, and_parts, or_cases, cases_Bool, cases_lt, both_ways, not-true}
-use Rattle.std.proofs.lemmas.List.{get_or_past}
+use Rattle.std.proofs.lemmas.Bool.{eqb-true, leb-true, and_parts, or_cases, cases_Bool, cases_lt, both_ways}
+use Rattle.std.proofs.lemmas.Option.{none-some, same_Some}
+use Rattle.std.proofs.lemmas.List.{get_or_past, nil_from_length}
 use Rattle.jffs_node.specs.declared.node.Node.{Node}
 use Rattle.jffs_node.specs.declared.node.Kind.{Kind}
 use Rattle.jffs_node.specs.declared.node.Kind.TheVariants.{File, Directory, Unmount}
@@ -14,8 +15,8 @@ use Rattle.jffs_tree.specs.Origin.{concerns, entry, size_in}
 use Rattle.jffs_tree.specs.Check.{keeps_kind, keeps_places, keeps_form, each_fits}
 use Rattle.jffs_tree.proofs.Applied.{small}
 use Rattle.jffs_tree.proofs.Bytes.{spliced, length-spliced, length-sized}
-use Rattle.jffs_tree.proofs.Steps.{entry-other, entry-deleted, entry-written, rewritten, where_is, byte_inside, byte_outside}
-use Rattle.jffs_tree.proofs.Lawful.{fields_of, rules_of, file_numbers, directory_numbers, which_kind, has_name, each_small}
+use Rattle.jffs_tree.proofs.Steps.{not_unmount, its_inode, entry-other, entry-deleted, entry-written, rewritten, where_is, byte_inside, byte_outside}
+use Rattle.jffs_node.proofs.Lawfulness.{fields_of, rules_of, file_numbers, directory_numbers, which_kind, has_name, each_small}
 
 pub record IsLawfulEntry (i : ℕ) (e : Entry) : Type 0 where
   pub low : 2 ≤ i
@@ -45,15 +46,11 @@ not_longer None c b o r range was places stated = let e = length-spliced c o r b
 not_longer (Some k) c b o r range was places stated = let e = length-sized k (spliced c o r b) in omega arith
 
 -- nothing is put into nothing
-no_bytes : (xs : List ℕ) → length xs ≡ 0 → xs ≡ []
-no_bytes [] h = refl
-no_bytes (x ∷ xs) h = absurd (omega arith)
-
 still_empty : (size : Option ℕ) (c b : List ℕ) (o r : ℕ) → size ≡ None → c ≡ [] → o ≡ 0 → length b ≡ 0 → sized size (spliced c o r b) ≡ []
 still_empty None c b o r none was start nothing =
     let e = length-spliced c o r b in
     let l : length c ≡ 0 = ap (λ (x : List ℕ). length x) was in
-    no_bytes (spliced c o r b) (omega arith)
+    nil_from_length (spliced c o r b) (omega arith)
 still_empty (Some k) c b o r none was start nothing = cc
 
 module _ (n : Node) (past : List Node) (lawful : is_lawful n ≡ true) (stands : is_unmount n.kind ≡ false) (d : n.deleted ≡ false)
@@ -163,21 +160,12 @@ lawful_entry (n ∷ past) i e lawful fits is =
     let parts = fits_parts n past fits in
     ⊎_elim
     (λ c. ⊎_elim
-    (λ d. let none = entry-deleted i n past c d in absurd (none_some (entry (n ∷ past) i) e none is))
+    (λ d. absurd (none-some e (sym (entry-deleted i n past c d) ∙ is)))
     (λ d.
-    let tests = and_parts (not (is_unmount n.kind)) (eqb n.inode i) c in
-    let at_inode : n.inode ≡ i = eqb-true n.inode i tests.1 in
-    let stands = not-true (is_unmount n.kind) tests.0 in
-    let made = subst (λ k. IsLawfulEntry k (written n (entry past k))) at_inode
-    (lawful_written n past lawful.0 stands d parts.1 parts.2 (λ f was. lawful_entry past n.inode f lawful.1 parts.0 was)) in
-    let same = the_same (entry (n ∷ past) i) (written n (entry past i)) e (entry-written i n past c d) is in
+    let made = subst (λ k. IsLawfulEntry k (written n (entry past k))) (its_inode i n c)
+    (lawful_written n past lawful.0 (not_unmount i n c) d parts.1 parts.2 (λ f was. lawful_entry past n.inode f lawful.1 parts.0 was)) in
+    let same = same_Some (written n (entry past i)) e (sym (entry-written i n past c d) ∙ is) in
     subst (λ x. IsLawfulEntry i x) same made)
     (cases_Bool n.deleted))
     (λ c. lawful_entry past i e lawful.1 parts.0 (sym (entry-other i n past c) ∙ is))
     (cases_Bool (concerns i n))
-  where
-    none_some : (o : Option Entry) (e : Entry) → o ≡ None → o ≡ Some e → ⊥
-    none_some o e none some = cc
-
-    the_same : (o : Option Entry) (a b : Entry) → o ≡ Some a → o ≡ Some b → a ≡ b
-    the_same o a b p q = let r : Some a ≡ Some b = sym p ∙ q in cc

@@ -121,11 +121,7 @@ module _ (i : ℕ) (n : Node) (past : List Node) (c : concerns i n ≡ false) wh
   same_writers : writers_of (n ∷ past) i ≡ writers_of past i
   same_writers =
       ap (λ k. map (λ p. version_of (origin (n ∷ past) i p)) (range_with_len 0 k)) (ap (λ o. length (bytes_of o)) (entry-other i n past c))
-      ∙ same_map (λ p. version_of (origin (n ∷ past) i p)) (λ p. version_of (origin past i p)) (range_with_len 0 (size_in past i)) (λ p. ap version_of (origin-other i n past p c))
-    where
-      same_map : {A B : Type 0} (f g : A → B) (xs : List A) → ((x : A) → f x ≡ g x) → map f xs ≡ map g xs
-      same_map f g [] h = refl
-      same_map f g (x ∷ xs) h = let later = same_map f g xs h in let first = h x in λ j. first j ∷ later j
+      ∙ (λ j. map (λ p. version_of (origin-other i n past p c j)) (range_with_len 0 (size_in past i)))
 
   pub held_same : (e : Entry) → held_at (n ∷ past) i e ≡ held_at past i e
   held_same e = let w = same_writers in let m = newest-other i n past c in λ j. record { entry = e; writers = w j; newest = version_of (m j); states_size = has_size (m j) }

@@ -1,16 +1,15 @@
 -- A state that keeps the rules keeps them when one inode is put or goes.
-use Rattle.std.proofs.Common.{◌≡◌, ℕ, zero, suc, true, false, not, ◌||◌, eqb, T, [], ◌∷◌, ◌⊎◌, inl, inr, ⊎_elim, Option, Some, None, refl, sym, ap, subst, ◌∙◌, nat_cmp}
+use Rattle.std.proofs.Common.{◌≡◌, ℕ, zero, suc, true, false, not, ◌||◌, eqb, T, [], ◌∷◌, ◌⊎◌, inl, inr, ⊎_elim, Option, Some, None, refl, sym, ap, subst, ◌∙◌, arith, nat_cmp}
 use Rattle.std.specs.List.{list_any, list_all}
 use Rattle.std.specs.Option.{option_map_or}
-use Rattle.std.specs.Ordering.{eq_by_cmp}
-use Rattle.std.specs.Cmp.{unsigned_tied}
 use Rattle.std.specs.FinMap.Entries as entries
 use Rattle.std.proofs.lemmas.Bool.{eqb-true, eq-eqb, and_parts, and_from, or_left, or_right, or_cases, cases_Bool, cases_eq, not_from_false, both_ways, not-true}
 use Rattle.jffs_node.specs.Record.{is_directory}
 use Rattle.jffs_tree.specs.State.{Entry, State, at, is_child, is_directory_in}
 use Rattle.jffs_tree.specs.Check.{parents_are_there, names_differ, is_within}
-use Rattle.jffs_tree.proofs.States.{all_at, all_from, none_at, none_from, at_cases, at_first, at_later, tail_sorted, tail_behind}
-use Rattle.jffs_tree.proofs.Copies.{same_bytes, not_tied}
+use Rattle.jffs_tree.proofs.States.{all_at, all_from, none_at, none_from, at_cases}
+use Rattle.jffs_tree.proofs.Maps.{tail_sorted, at_first, behind, at_later}
+use Rattle.jffs_tree.proofs.Copies.{same_bytes}
 use Rattle.std.proofs.lemmas.Slice.Eq.{bytes_eq-Decides}
 
 -- The rules of a state, inode by inode, with so many names at most from the root to an inode.
@@ -191,14 +190,11 @@ names_apart_from (x ∷ s) sorted h =
     (λ yes.
     let parts = and_parts (eqb g.parent x.1.parent) _ yes in
     let same = h j x.0 g x.1 (at_later x s j g sorted is) (at_first x s) (eqb-true g.parent x.1.parent parts.0) (same_bytes g.name x.1.name parts.1) in
-    let apart = not_tied x.0 s j g (tail_behind x s sorted) is in
-    absurd (not_itself j x.0 same apart))
+    let apart = behind x s j g sorted is in
+    absurd (omega arith))
     (λ no. no)
     (cases_Bool (is_child x.1.parent x.1.name (j, g))))))
     (names_apart_from s (tail_sorted x s sorted) (λ j k f g is was. h j k f g (at_later x s j f sorted is) (at_later x s k g sorted was)))
-  where
-    not_itself : (j k : ℕ) → j ≡ k → eq_by_cmp nat_cmp j k ≡ false → ⊥
-    not_itself j k same apart = let yes = unsigned_tied j k ∙ eq-eqb j k same in cc
 
 pub orderly : (most : ℕ) (s : State) → parents_are_there s ≡ true → names_differ s ≡ true → list_all (λ (e : ℕ × Entry). is_within most s e.0) s ≡ true → IsOrderly most s
 orderly most s parents names depth = record {

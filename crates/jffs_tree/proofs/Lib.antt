@@ -27,7 +27,6 @@ pub mod Sources
 pub mod States
 pub mod Kept
 pub mod Resolving
-pub mod Lawful
 pub mod Entries
 pub mod Ruled
 pub mod Putting

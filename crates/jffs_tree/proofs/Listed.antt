@@ -2,7 +2,7 @@
 use Rattle.std.proofs.Common.{◌≡◌, ℕ, ◌≢◌, Bool, true, false, cond, ◌&&◌, eqb, List, [], ◌∷◌, ◌++◌, option_map, Option, Some, None, refl, sym, ap, subst, ◌∙◌, ⊎_elim, nat_cmp}
 use Rattle.std.specs.List.{AllByRecursion, filter}
 use Rattle.std.specs.List.Sorted.{IsStrictlySortedBy}
-use Rattle.std.specs.Ordering.{is_eq, is_gt, is_le, ordering_then}
+use Rattle.std.specs.Ordering.{is_gt, is_le, ordering_then}
 use Rattle.std.specs.Option.{option_to_list, option_cmp}
 use Rattle.std.specs.declared.cmp.Ordering.{Ordering}
 use Rattle.std.specs.declared.cmp.Ordering.TheVariants.{Less, Equal, Greater}
@@ -23,11 +23,6 @@ use Rattle.jffs_tree.proofs.Indexed.{low_in_directory}
 pub record IsFrom (p : ℕ) (places : List Place) : Type 0 where
   pub rising : IsStrictlySortedBy place_cmp places
   pub from : AllByRecursion (λ k. is_gt (place_cmp (p, None, 0) k) ≡ false) places
-
-is_equal : (o : Ordering) → is_eq o ≡ true → o ≡ Equal
-is_equal Less h = cc
-is_equal Equal h = refl
-is_equal Greater h = cc
 
 module _ (p : ℕ) where
   other_name : (k : Place) → eqb k.0 p ≡ false → name_under p k ≡ []

@@ -1,5 +1,5 @@
 -- What looks into a tree find.
-use Rattle.std.proofs.Common.{◌≡◌, ℕ, zero, suc, ◌-◌, ◌<◌, ◌≤◌, Bool, true, false, cond, ◌||◌, eqb, flat_map, option_map, List, [], ◌∷◌, get_or, Option, Some, None, refl, sym, ap, ◌∙◌, arith, ⊎_elim, nat_cmp}
+use Rattle.std.proofs.Common.{◌≡◌, ℕ, zero, suc, ◌-◌, ◌<◌, ◌≤◌, Bool, false, cond, ◌||◌, eqb, flat_map, option_map, List, [], ◌∷◌, get_or, Option, Some, None, refl, sym, ap, ◌∙◌, arith, ⊎_elim, nat_cmp}
 use Rattle.std.specs.List.{list_any}
 use Rattle.std.specs.Option.{option_to_list, unwrap_or, option_map_or}
 use Rattle.std.specs.Ordering.{eq_by_cmp}
@@ -12,6 +12,7 @@ use Rattle.jffs_tree.specs.Origin.{Held, Tree, state_in, concerns, tree_of, entr
 use Rattle.jffs_tree.specs.After.{held_in}
 use Rattle.jffs_tree.specs.Check.{is_within}
 use Rattle.jffs_tree.specs.Look.{writers_in, kind_in}
+use Rattle.std.proofs.Math.Bool.{or-false}
 use Rattle.std.proofs.lemmas.Bool.{cases_Bool, ne_eqb}
 use Rattle.jffs_tree.proofs.Steps.{entry-other, entry-written, newest-other, newest-deleted}
 use Rattle.jffs_tree.proofs.Grown.{at-tree, held_at, length-writers, read_writers, writers_held}
@@ -75,11 +76,7 @@ directory_in tree i = ⊎_elim
   where
     by_held : (o : Option Held) → option_map_or is_directory (option_map (λ h. h.entry.kind) o) false ≡ (option_map_or (λ e. is_directory e.kind) (option_map (λ h. h.entry) o) false || false)
     by_held None = refl
-    by_held (Some h) = right_false (is_directory h.entry.kind)
-      where
-        right_false : (b : Bool) → b ≡ (b || false)
-        right_false true = refl
-        right_false false = refl
+    by_held (Some h) = sym (or-false (is_directory h.entry.kind))
 
 -- one step up
 pub within_up : (k : ℕ) (s : State) (i : ℕ) → (k ≡ 0 → ⊥) → (i ≡ 1 → ⊥) → is_within k s i ≡ option_map_or (λ e. is_within (k - 1) s e.parent) (at s i) false

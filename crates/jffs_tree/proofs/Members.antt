@@ -3,7 +3,7 @@ use Rattle.std.proofs.Common.{◌≡◌, Bool, true, false, ◌||◌, List, [], 
 use Rattle.std.specs.List.{AllByRecursion, IsDistinct, list_any}
 use Rattle.std.specs.List.Sorted.{IsPermutation}
 use Rattle.std.specs.Cmp.{both_ways}
-use Rattle.std.proofs.lemmas.Bool.{cases_Bool}
+use Rattle.std.proofs.lemmas.Bool.{cases_Bool, or_parts}
 use Rattle.std.proofs.lemmas.List.Sorted.{IsPermutation-refl, IsPermutation-cons, IsPermutation-trans, IsPermutation-sym, IsPermutation-swap, list_any-IsPermutation}
 use Rattle.std.proofs.lemmas.Map.Keys.{IsDistinct-head, IsDistinct-tail, IsDistinct-IsPermutation}
 
@@ -14,11 +14,7 @@ module _ {X : Type 0} (same : X → X → Bool) where
 
   pub each_other : (x : X) (xs : List X) → list_any (same x) xs ≡ false → AllByRecursion (λ y. same x y ≡ false) xs
   each_other x [] h = tt
-  each_other x (y ∷ ys) h = let parts = neither (same x y) (list_any (same x) ys) h in (parts.0, each_other x ys parts.1)
-    where
-      neither : (a b : Bool) → (a || b) ≡ false → (a ≡ false) × (b ≡ false)
-      neither true b e = cc
-      neither false b e = (refl, e)
+  each_other x (y ∷ ys) h = let parts = or_parts (same x y) (list_any (same x) ys) h in (parts.0, each_other x ys parts.1)
 
   module _ (tells : (x y : X) → same x y ≡ true → x ≡ y) (own : (x : X) → same x x ≡ true) where
     flips : (x y : X) → same x y ≡ same y x

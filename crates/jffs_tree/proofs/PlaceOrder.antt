@@ -4,7 +4,7 @@ use Rattle.std.specs.declared.cmp.Ordering.{Ordering}
 use Rattle.std.specs.declared.cmp.Ordering.TheVariants.{Less, Equal, Greater}
 use Rattle.std.specs.Ordering.{is_gt, is_eq, ordering_then, ordering_reverse}
 use Rattle.std.specs.Option.{option_cmp}
-use Rattle.std.specs.Cmp.{IsTotalOrder, nat_cmp_total, then_total, on_total, tied_itself, unsigned_tied}
+use Rattle.std.specs.Cmp.{Equal-is, IsTotalOrder, nat_cmp_total, then_total, on_total, tied_itself, unsigned_tied}
 use Rattle.std.specs.Cmp.Lexicographic.{slice_cmp, nat_list_cmp_total, options_total, texts_ties}
 use Rattle.std.specs.BTreeMap.{is_at}
 use Rattle.std.proofs.lemmas.Bool.{cases_lt, cases_eq, lt-ltb, le-ltb, eqb-true, ne_eqb}
@@ -88,17 +88,12 @@ first_of_directory p (Some x) j = ap (λ a. is_gt (ordering_then (ordering_then 
 -- Places that the order doesn't tell apart are one.
 pub same_place : (a b : Place) → is_at (place_cmp a) b ≡ true → a ≡ b
 same_place a b h =
-    let last = then_tied (head_cmp a b) (nat_cmp a.2 b.2) (level_is _ h) in
+    let last = then_tied (head_cmp a b) (nat_cmp a.2 b.2) ((Equal-is (place_cmp a b)).0 h) in
     let first = then_tied (nat_cmp a.0 b.0) (option_cmp (slice_cmp nat_cmp) a.1 b.1) last.0 in
     let x = nat_tied a.0 b.0 first.0 in
     let y = name_tied a.1 b.1 first.1 in
     let z = nat_tied a.2 b.2 last.1 in
     λ i. (x i, y i, z i)
-  where
-    level_is : (o : Ordering) → is_eq o ≡ true → o ≡ Equal
-    level_is Less e = cc
-    level_is Equal e = refl
-    level_is Greater e = cc
 
 pub own_place : (a : Place) → is_at (place_cmp a) a ≡ true
 own_place a = ap is_eq (ap (λ o. ordering_then o (nat_cmp a.2 a.2)) (tied_itself head_total a) ∙ tied_itself nat_cmp_total a.2)

@@ -3,6 +3,7 @@ use Rattle.std.proofs.Common.{◌≡◌, ℕ, Bool, true, false, ◌&&◌, IsTru
 use Rattle.std.specs.List.{AllByRecursion, list_all, range_with_len}
 use Rattle.std.specs.Option.{option_map_or}
 use Rattle.std.proofs.lemmas.Bool.{and_parts, and_from, or_left, or_right, cases_Bool}
+use Rattle.std.proofs.lemmas.Option.{none-some, same_Some}
 use Rattle.std.proofs.lemmas.List.Folds.{list_all-map}
 use Rattle.jffs_node.specs.declared.node.Node.{Node}
 use Rattle.jffs_node.specs.declared.node.Kind.TheVariants.{File}
@@ -67,19 +68,13 @@ module _ (n : Node) (past : List Node) (lawful : AllByRecursion (λ m. IsTrue (i
 
   its_file : (i : ℕ) (e : Entry) → concerns i n ≡ true → entry (n ∷ past) i ≡ Some e → e.kind ≡ File → bytes_are_written (held_at (n ∷ past) i e) ≡ true
   its_file i e c is file = ⊎_elim
-      (λ d. absurd (none_some (entry (n ∷ past) i) e (entry-deleted i n past c d) is))
+      (λ d. absurd (none-some e (sym (entry-deleted i n past c d) ∙ is)))
       (λ d.
-      let same = the_same (entry (n ∷ past) i) (written n (entry past i)) e (entry-written i n past c d) is in
+      let same = same_Some (written n (entry past i)) e (sym (entry-written i n past c d) ∙ is) in
       or_left (has_size (newest (n ∷ past) i)) (list_all is_some (writers_of (n ∷ past) i))
       (ap has_size (newest-written i n past c d) ∙ said n.size (sized (ap (λ x. x.kind) same ∙ file) d)))
       (cases_Bool n.deleted)
     where
-      none_some : (o : Option Entry) (e : Entry) → o ≡ None → o ≡ Some e → ⊥
-      none_some o e none some = cc
-
-      the_same : (o : Option Entry) (a b : Entry) → o ≡ Some a → o ≡ Some b → a ≡ b
-      the_same o a b p q = let r : Some a ≡ Some b = sym p ∙ q in cc
-
       said : (o : Option ℕ) → is_some o ≡ true → option_map_or (λ _. true) o false ≡ true
       said None h = cc
       said (Some k) h = refl

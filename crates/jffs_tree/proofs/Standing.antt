@@ -1,39 +1,17 @@
 -- What the index of children says is what a walk over the tree finds.
-use Rattle.std.proofs.Common.{◌≡◌, ℕ, ◌≤◌, ◌<◌, Bool, true, false, cond, ◌&&◌, eqb, T, List, [], ◌∷◌, option_map, IfSome, IfNone, Option, Some, None, refl, sym, ap, subst, ◌∙◌, ⊎_elim, arith, nat_cmp, bytes_eq}
+use Rattle.std.proofs.Common.{◌≡◌, ℕ, ◌≤◌, Bool, true, false, cond, ◌&&◌, eqb, T, List, [], ◌∷◌, option_map, IfSome, IfNone, Option, Some, None, refl, sym, ap, ◌∙◌, ⊎_elim, arith, nat_cmp, bytes_eq}
 use Rattle.std.specs.List as lists
-use Rattle.std.specs.Ordering.{is_lt, eq_by_cmp}
+use Rattle.std.specs.Ordering.{eq_by_cmp}
 use Rattle.std.specs.Option.{option_map_or}
 use Rattle.std.specs.Cmp.{unsigned_tied}
 use Rattle.std.specs.FinMap.Entries as entries
-use Rattle.std.proofs.lemmas.Bool.{cases_Bool, and_parts, and_from, eqb-true, eq-eqb, ne_eqb, or_cases, or_left, or_right}
+use Rattle.std.proofs.lemmas.Bool.{cases_Bool, and_parts, and_from, eqb-true, or_cases, or_left, or_right}
 use Rattle.std.proofs.lemmas.Slice.Eq.{bytes_eq-Decides}
 use Rattle.jffs_tree.specs.State.{child, is_child}
 use Rattle.jffs_tree.specs.Origin.{Held, Tree, state_in}
 use Rattle.jffs_tree.specs.After.{held_in}
 use Rattle.jffs_tree.specs.Index.{Place, has_place, stands_at, is_named, IsIndexOf}
-use Rattle.jffs_tree.proofs.Copies.{t_true, is_less}
-
--- what is held behind a lower bound of a sorted tree is above it
-above : (x : ℕ) (tree : Tree) (j : ℕ) (h : Held) → T (entries.below_all nat_cmp x tree) → held_in tree j ≡ Some h → x < j
-above x [] j h b is = cc
-above x (z ∷ tree) j h b is =
-    let parts = and_parts (is_lt (nat_cmp x z.0)) (entries.below_all nat_cmp x tree) (t_true _ b) in
-    ⊎_elim
-    (λ tied. let same : j ≡ z.0 = eqb-true j z.0 (sym (unsigned_tied j z.0) ∙ tied) in let low = is_less x z.0 parts.0 in omega arith)
-    (λ apart. above x tree j h (subst T (sym parts.1) tt) (sym (ap (λ t. cond t (Some z.1) (held_in tree j)) apart) ∙ is))
-    (cases_Bool (eq_by_cmp nat_cmp j z.0))
-
-pub behind : (z : ℕ × Held) (tree : Tree) (j : ℕ) (h : Held) → T (entries.is_sorted nat_cmp (z ∷ tree)) → held_in tree j ≡ Some h → (z.0 < j) × (held_in (z ∷ tree) j ≡ Some h)
-behind z tree j h sorted is =
-    let parts = and_parts (entries.below_all nat_cmp z.0 tree) (entries.is_sorted nat_cmp tree) (t_true _ sorted) in
-    let low = above z.0 tree j h (subst T (sym parts.0) tt) is in
-    (low, ap (λ t. cond t (Some z.1) (held_in tree j)) (unsigned_tied j z.0 ∙ ne_eqb j z.0 (λ e. omega arith)) ∙ is)
-
-pub rest_sorted : (z : ℕ × Held) (tree : Tree) → T (entries.is_sorted nat_cmp (z ∷ tree)) → T (entries.is_sorted nat_cmp tree)
-rest_sorted z tree sorted = subst T (sym (and_parts (entries.below_all nat_cmp z.0 tree) (entries.is_sorted nat_cmp tree) (t_true _ sorted)).1) tt
-
-first_held : (z : ℕ × Held) (tree : Tree) → held_in (z ∷ tree) z.0 ≡ Some z.1
-first_held z tree = ap (λ t. cond t (Some z.1) (held_in tree z.0)) (unsigned_tied z.0 z.0 ∙ eq-eqb z.0 z.0 refl)
+use Rattle.jffs_tree.proofs.Maps.{tail_sorted, at_first, behind, at_later}
 
 pub some_of : (test : Held → Bool) (o : Option Held) → option_map_or test o false ≡ true → (h : Held) × (o ≡ Some h) × (test h ≡ true)
 some_of test None e = cc
@@ -56,10 +34,10 @@ module _ (p : ℕ) (name : List ℕ) where
       (λ here.
       let first : Some z.0 ≡ Some c = sym (found true z tree here) ∙ is in
       let same : z.0 ≡ c = cc in
-      ap (λ k. stands (z ∷ tree) k) (sym same) ∙ ap (λ o. option_map_or test o false) (first_held z tree) ∙ here)
+      ap (λ k. stands (z ∷ tree) k) (sym same) ∙ ap (λ o. option_map_or test o false) (at_first z tree) ∙ here)
       (λ not_here.
-      let later = some_of test (held_in tree c) (child_stands tree (rest_sorted z tree sorted) c (sym (found false z tree not_here) ∙ is)) in
-      ap (λ o. option_map_or test o false) (behind z tree c later.0 sorted later.1).1 ∙ later.2)
+      let later = some_of test (held_in tree c) (child_stands tree (tail_sorted z tree sorted) c (sym (found false z tree not_here) ∙ is)) in
+      ap (λ o. option_map_or test o false) (at_later z tree c later.0 sorted later.1) ∙ later.2)
       (cases_Bool (test z.1))
 
   child_least : (tree : Tree) → T (entries.is_sorted nat_cmp tree) → (c : ℕ) → child (state_in tree) p name ≡ Some c → (j : ℕ) → stands tree j ≡ true → c ≤ j
@@ -74,10 +52,10 @@ module _ (p : ℕ) (name : List ℕ) where
       (λ apart.
       let there : stands tree j ≡ true = sym (ap (λ t. option_map_or test (cond t (Some z.1) (held_in tree j)) false) apart) ∙ at in
       let h = some_of test (held_in tree j) there in
-      let low = (behind z tree j h.0 sorted h.1).0 in
+      let low = behind z tree j h.0 sorted h.1 in
       ⊎_elim
       (λ here. let first : Some z.0 ≡ Some c = sym (found true z tree here) ∙ is in let same : z.0 ≡ c = cc in omega arith)
-      (λ not_here. child_least tree (rest_sorted z tree sorted) c (sym (found false z tree not_here) ∙ is) j there)
+      (λ not_here. child_least tree (tail_sorted z tree sorted) c (sym (found false z tree not_here) ∙ is) j there)
       (cases_Bool (test z.1)))
       (cases_Bool (eq_by_cmp nat_cmp j z.0))
 
@@ -126,8 +104,8 @@ held_of_any : (p : ℕ) (tree : Tree) → T (entries.is_sorted nat_cmp tree) →
     → (i : ℕ) × (h : Held) × (held_in tree i ≡ Some h) × (eqb h.entry.parent p ≡ true)
 held_of_any p [] sorted any = cc
 held_of_any p (z ∷ tree) sorted any = ⊎_elim
-    (λ here. (z.0, z.1, first_held z tree, here))
-    (λ there. let later = held_of_any p tree (rest_sorted z tree sorted) there in (later.0, later.1, (behind z tree later.0 later.1 sorted later.2).1, later.3))
+    (λ here. (z.0, z.1, at_first z tree, here))
+    (λ there. let later = held_of_any p tree (tail_sorted z tree sorted) there in (later.0, later.1, at_later z tree later.0 later.1 sorted later.2, later.3))
     (or_cases (eqb z.1.entry.parent p) (lists.list_any (λ e. eqb e.1.parent p) (state_in tree)) any)
 
 module _ (p : ℕ) (tree : Tree) (places : List Place) (sorted : T (entries.is_sorted nat_cmp tree)) (index : IsIndexOf tree places) where

@@ -4,22 +4,9 @@ use Rattle.std.specs.List.{list_any, list_all, find}
 use Rattle.std.specs.Ordering.{eq_by_cmp}
 use Rattle.std.specs.Cmp.{unsigned_tied}
 use Rattle.std.specs.FinMap.Entries as entries
-use Rattle.std.proofs.lemmas.Bool.{eqb-true, eq-eqb, and_parts, and_from, or_left, or_right, or_from, cases_Bool}
+use Rattle.std.proofs.lemmas.Bool.{eqb-true, and_parts, and_from, or_left, or_right, or_from, cases_Bool}
 use Rattle.jffs_tree.specs.State.{Entry, State, at}
-use Rattle.jffs_tree.proofs.Copies.{t_true, not_tied}
-
--- The first entry, and those behind it.
-pub tail_sorted : (x : ℕ × Entry) (s : State) → T (entries.is_sorted nat_cmp (x ∷ s)) → T (entries.is_sorted nat_cmp s)
-tail_sorted x s h = subst T (sym (and_parts (entries.below_all nat_cmp x.0 s) (entries.is_sorted nat_cmp s) (t_true _ h)).1) tt
-
-pub tail_behind : (x : ℕ × Entry) (s : State) → T (entries.is_sorted nat_cmp (x ∷ s)) → T (entries.below_all nat_cmp x.0 s)
-tail_behind x s h = subst T (sym (and_parts (entries.below_all nat_cmp x.0 s) (entries.is_sorted nat_cmp s) (t_true _ h)).0) tt
-
-pub at_first : (x : ℕ × Entry) (s : State) → at (x ∷ s) x.0 ≡ Some x.1
-at_first x s = ap (λ t. cond t (Some x.1) (at s x.0)) (unsigned_tied x.0 x.0 ∙ eq-eqb x.0 x.0 refl)
-
-pub at_later : (x : ℕ × Entry) (s : State) (i : ℕ) (e : Entry) → T (entries.is_sorted nat_cmp (x ∷ s)) → at s i ≡ Some e → at (x ∷ s) i ≡ Some e
-at_later x s i e h is = ap (λ t. cond t (Some x.1) (at s i)) (not_tied x.0 s i e (tail_behind x s h) is) ∙ is
+use Rattle.jffs_tree.proofs.Maps.{tail_sorted, at_first, at_later}
 
 pub at_cases : (x : ℕ × Entry) (s : State) (i : ℕ) (e : Entry) → at (x ∷ s) i ≡ Some e → ((i ≡ x.0) × (x.1 ≡ e)) ⊎ (at s i ≡ Some e)
 at_cases x s i e is = ⊎_elim

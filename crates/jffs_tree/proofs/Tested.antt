@@ -4,12 +4,13 @@ use Rattle.std.specs.Option.{option_map_or, unwrap_or}
 use Rattle.std.proofs.lemmas.Bool.{and_parts, eqb-true, eq-eqb}
 use Rattle.jffs_node.specs.declared.node.Node.{Node}
 use Rattle.jffs_node.specs.declared.node.Kind.TheVariants.{File, Directory, Unmount}
-use Rattle.jffs_node.specs.Record.{dsize, is_file, kind_byte, is_lawful, fits_fields, suits_kind, numbers_hold, kind_numbers, has_no_range}
+use Rattle.jffs_node.specs.Record.{dsize, is_file, kind_byte, is_lawful, kind_numbers, has_no_range}
 use Rattle.jffs_tree.specs.State.{Entry, bytes_of}
 use Rattle.jffs_tree.specs.Origin.{entry, size_in, tree_of}
 use Rattle.jffs_tree.specs.Check.{keeps_kind, keeps_places}
 use Rattle.jffs_tree.specs.After.{keeps_kind_in, keeps_places_in}
 use Rattle.jffs_tree.specs.Laws.{TreesTestAsNodes}
+use Rattle.jffs_node.proofs.Lawfulness.{rules_of}
 use Rattle.jffs_tree.proofs.Grown.{at-tree, held_at}
 
 kind_same : (past : List Node) (n : Node) → keeps_kind_in (tree_of past) n ≡ keeps_kind past n
@@ -31,16 +32,11 @@ no_range n h =
 
 file_or_none : (n : Node) → is_lawful n ≡ true → (not (is_file n.kind) || eqb (dsize n) n.rsize) ≡ eqb (dsize n) n.rsize
 file_or_none n h =
-    let a = and_parts (fits_fields n && suits_kind n) (numbers_hold n (dsize n)) h in
-    let b = and_parts _ _ a.1 in
-    let c = and_parts _ _ b.0 in
-    let d = and_parts _ _ c.0 in
-    let e = and_parts _ _ d.0 in
     (elim n.kind as (λ k. kind_numbers k n (dsize n) ≡ true → (not (is_file k) || eqb (dsize n) n.rsize) ≡ eqb (dsize n) n.rsize) [
       | Unmount ↦ λ x. sym (no_range n (and_parts _ _ x).1)
       | Directory ↦ λ x. sym (no_range n (and_parts _ _ x).1)
       | File ↦ λ x. refl
-    ]) e.1
+    ]) (rules_of n h).kind
 
 places_same : (past : List Node) (n : Node) → is_lawful n ≡ true → keeps_places_in (tree_of past) n ≡ keeps_places past n
 places_same past n h =

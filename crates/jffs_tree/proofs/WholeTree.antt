@@ -1,11 +1,12 @@
 -- Where a version is of one inode's nodes alone, it is live in the tree where it is live in that inode.
-use Rattle.std.proofs.Common.{◌≡◌, ℕ, zero, suc, ◌+◌, Bool, true, false, cond, not, ◌||◌, eqb, ltb, List, [], ◌∷◌, map, flat_map, option_map, option_to_list, ⊎_elim, Option, Some, None, refl, sym, ap, subst, ◌∙◌}
+use Rattle.std.proofs.Common.{◌≡◌, ℕ, zero, suc, ◌+◌, ◌<◌, ◌⊎◌, ◌++◌, arith, Bool, true, false, cond, not, eqb, ltb, List, [], ◌∷◌, map, flat_map, option_map, option_to_list, ⊎_elim, Option, Some, None, refl, sym, ap, subst, ◌∙◌}
 use Rattle.std.specs.List.{AllByRecursion, list_any, find, range_with_len}
 use Rattle.std.specs.Option.{option_map_or}
-use Rattle.std.proofs.lemmas.Bool.{eqb-true, cases_Bool, and_parts, or_cases}
+use Rattle.std.specs.Cmp.{both_ways}
+use Rattle.std.proofs.Math.Bool.{or-false}
+use Rattle.std.proofs.lemmas.Bool.{eqb-true, cases_Bool, or_cases}
 use Rattle.std.proofs.lemmas.List.Folds.{list_any-append}
 use Rattle.jffs_node.specs.declared.node.Node.{Node}
-use Rattle.jffs_node.specs.Record.{is_unmount}
 use Rattle.jffs_tree.specs.State.{Entry, state_of_past}
 use Rattle.jffs_tree.specs.Origin.{Held, Tree, concerns, entry, size_in, writes, place_before, origin, newest, held, versions_held, version_of, writers_of, tree_of, is_live}
 use Rattle.jffs_tree.specs.Look.{holds_version, IsVersionOf}
@@ -13,10 +14,7 @@ use Rattle.jffs_tree.proofs.Pointwise.{at-state, sorted-state}
 use Rattle.jffs_tree.proofs.Copies.{found_there}
 use Rattle.jffs_tree.proofs.Grown.{at-tree, held_at}
 use Rattle.jffs_tree.proofs.Live.{live_by}
-use Rattle.jffs_tree.proofs.Steps.{newest-other, newest-deleted, newest-written, origin-other}
-
-its_inode : (i : ℕ) (n : Node) → concerns i n ≡ true → n.inode ≡ i
-its_inode i n c = eqb-true n.inode i (and_parts (not (is_unmount n.kind)) (eqb n.inode i) c).1
+use Rattle.jffs_tree.proofs.Steps.{its_inode, newest-other, newest-deleted, newest-written, origin-other}
 
 -- the newest node and each origin of an inode are nodes of it, in the list
 module _ (Q : Node → Type 0) (i : ℕ) where
@@ -47,24 +45,22 @@ module _ (Q : Node → Type 0) (i : ℕ) where
       by_parts back c false false true is = back is
       by_parts back c false false false is = cc
 
-single : (b : Bool) → (b || false) ≡ true → b ≡ true
-single true h = refl
-single false h = h
-
-the_version : (v : ℕ) (o : Option ℕ) → list_any (λ w. eqb w v) (option_to_list o) ≡ true → o ≡ Some v
+pub the_version : (v : ℕ) (o : Option ℕ) → list_any (λ w. eqb w v) (option_to_list o) ≡ true → o ≡ Some v
 the_version v None h = cc
-the_version v (Some w) h = ap (λ x. Some x) (eqb-true w v (single (eqb w v) h))
+the_version v (Some w) h = ap (λ x. Some x) (eqb-true w v (sym (or-false (eqb w v)) ∙ h))
+
+pub any_of : {A : Type 0} (p : A → Bool) (xs ys : List A) → list_any p (xs ++ ys) ≡ true → (list_any p xs ≡ true) ⊎ (list_any p ys ≡ true)
+any_of p xs ys h = or_cases (list_any p xs) (list_any p ys) (sym (list_any-append p xs ys) ∙ h)
 
 -- a version among those of a range stands at one of its places
-from_range : (f : ℕ → Option ℕ) (v n a : ℕ) → list_any (λ w. eqb w v) (flat_map option_to_list (map f (range_with_len a n))) ≡ true → (p : ℕ) × (f p ≡ Some v)
+pub from_range : (f : ℕ → Option ℕ) (v n a : ℕ) → list_any (λ w. eqb w v) (flat_map option_to_list (map f (range_with_len a n))) ≡ true → (p : ℕ) × (p < a + n) × (f p ≡ Some v)
 from_range f v zero a h = cc
 from_range f v (suc n) a h = ⊎_elim
-    (λ here. (a, the_version v (f a) here))
-    (λ later. from_range f v n (a + 1) later)
-    (or_cases (list_any (λ w. eqb w v) (option_to_list (f a))) (list_any (λ w. eqb w v) (flat_map option_to_list (map f (range_with_len (a + 1) n))))
-    (sym (list_any-append (λ w. eqb w v) (option_to_list (f a)) (flat_map option_to_list (map f (range_with_len (a + 1) n)))) ∙ h))
+    (λ here. (a, omega arith, the_version v (f a) here))
+    (λ there. let later = from_range f v n (a + 1) there in (later.0, (let l = later.1 in omega arith), later.2))
+    (any_of (λ w. eqb w v) (option_to_list (f a)) (flat_map option_to_list (map f (range_with_len (a + 1) n))) h)
 
-named : (o : Option Node) (v : ℕ) → version_of o ≡ Some v → (m : Node) × (o ≡ Some m) × (m.version ≡ v)
+pub named : (o : Option Node) (v : ℕ) → version_of o ≡ Some v → (m : Node) × (o ≡ Some m) × (m.version ≡ v)
 named None v h = cc
 named (Some m) v h = let same : m.version ≡ v = cc in (m, refl, same)
 
@@ -77,11 +73,10 @@ held_of_inode past v i j e own h = ⊎_elim
     sym of.0 ∙ of.1 m.2)
     (λ place.
     let p = from_range (λ q. version_of (origin past j q)) v (size_in past j) 0 place in
-    let m = named (origin past j p.0) v p.1 in
+    let m = named (origin past j p.0) v p.2 in
     let of = of_origin (λ n. n.version ≡ v → n.inode ≡ i) j past p.0 m.0 own m.1 in
     sym of.0 ∙ of.1 m.2)
-    (or_cases (list_any (λ w. eqb w v) (option_to_list (version_of (newest past j)))) (list_any (λ w. eqb w v) (flat_map option_to_list (writers_of past j)))
-    (sym (list_any-append (λ w. eqb w v) (option_to_list (version_of (newest past j))) (flat_map option_to_list (writers_of past j))) ∙ h))
+    (any_of (λ w. eqb w v) (option_to_list (version_of (newest past j))) (flat_map option_to_list (writers_of past j)) h)
 
 -- the first element whose list has it
 has_it : {X : Type 0} (test : ℕ → Bool) (f : X → List ℕ) (xs : List X) → list_any test (flat_map f xs) ≡ true
@@ -90,7 +85,7 @@ has_it test f [] h = cc
 has_it test f (x ∷ xs) h = ⊎_elim
     (λ here. (x, ap (λ b. cond b (Some x) (find (λ y. list_any test (f y)) xs)) here, here))
     (λ not_here.
-    let rest = ⊎_elim (λ a. let never : ⊥ = cc in absurd never) (λ b. b) (or_cases (list_any test (f x)) (list_any test (flat_map f xs)) (sym (list_any-append test (f x) (flat_map f xs)) ∙ h)) in
+    let rest = ⊎_elim (λ a. let never : ⊥ = cc in absurd never) (λ b. b) (any_of test (f x) (flat_map f xs) h) in
     let later = has_it test f xs rest in
     (later.0, ap (λ b. cond b (Some x) (find (λ y. list_any test (f y)) xs)) not_here ∙ later.1, later.2))
     (cases_Bool (list_any test (f x)))
@@ -118,11 +113,6 @@ module _ (past : List Node) (v i : ℕ) (own : IsVersionOf past v i) where
       let same : found.0.0 ≡ i = held_of_inode past v i found.0.0 there.0 own holds in
       ap here (ap (λ k. entry past k) (sym same) ∙ sym (at-state past found.0.0) ∙ there.2)
       ∙ ap (λ k. list_any (λ w. eqb w v) (versions_held (held past (k, there.0)))) (sym same) ∙ holds
-
-both_ways : (a b : Bool) → (a ≡ true → b ≡ true) → (b ≡ true → a ≡ true) → a ≡ b
-both_ways true b f g = sym (f refl)
-both_ways false true f g = g refl
-both_ways false false f g = refl
 
 pub live_whole : (past : List Node) (tree : Tree) (v i : ℕ) → tree ≡ tree_of past → IsVersionOf past v i → holds_version tree i v ≡ is_live past v
 live_whole past tree v i is own =

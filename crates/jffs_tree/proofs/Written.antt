@@ -1,5 +1,5 @@
 -- One node more, in a tree that is a map of inodes.
-use Rattle.std.proofs.Common.{◌≡◌, ℕ, ◌+◌, ◌≤◌, ◌≢◌, Bool, true, false, cond, not, ◌||◌, eqb, T, IsTrue, map, option_map, [], length, ⊎_elim, Option, Some, None, Result, Ok, Err, refl, sym, ap, subst, ◌∙◌, nat_cmp}
+use Rattle.std.proofs.Common.{◌≡◌, ℕ, ◌+◌, ◌≤◌, ◌≢◌, true, cond, not, eqb, T, IsTrue, map, option_map, [], length, ⊎_elim, Option, Some, None, Result, Ok, Err, sym, ap, subst, ◌∙◌, nat_cmp}
 use Rattle.std.specs.Cmp.{nat_cmp_total, unsigned_tied}
 use Rattle.std.specs.FinMap.{nat_cmp-IsAntisymmetric}
 use Rattle.std.specs.FinMap.Entries as entries
@@ -11,14 +11,11 @@ use Rattle.std.specs.BTreeMap.{is_at}
 use Rattle.std.proofs.lemmas.Bool.{cases_Bool, eqb-true, leb-true}
 use Rattle.jffs_node.specs.declared.node.Node.{Node}
 use Rattle.jffs_node.specs.Record.{dsize}
+use Rattle.jffs_node.proofs.Fitting.{or_second}
 use Rattle.jffs_tree.specs.Origin.{Held, Tree}
 use Rattle.jffs_tree.specs.After.{held_in, held_after, keeps_places_in, without_inode, put_node, IsWritten}
-use Rattle.jffs_tree.proofs.Maps.{found_get, sorted_map}
+use Rattle.jffs_tree.proofs.Maps.{t_true, found_get, sorted_map}
 use Rattle.jffs_tree.proofs.Pointwise.{find_without, find_rewritten}
-
-pub t_true : (b : Bool) → T b → b ≡ true
-t_true true h = refl
-t_true false h = absurd h
 
 module _ (old new : Tree) (n : Node) where
   pub is_written : IsStrictlySortedBy nat_cmp (map (λ e. e.0) new)
@@ -47,12 +44,8 @@ places_there tree n h there keeps differ =
     (λ apart.
     let found : held_in tree n.inode ≡ Some h = sym (found_get n.inode tree) ∙ there in
     subst (λ (o : Option Held). length (unwrap_or (option_map (λ (x : Held). x.entry.bytes) o) []) ≤ n.offset + n.rsize) found
-    (leb-true (length (unwrap_or (option_map (λ (x : Held). x.entry.bytes) (held_in tree n.inode)) [])) (n.offset + n.rsize) (second (eqb (dsize n) n.rsize) _ apart keeps)))
+    (leb-true (length (unwrap_or (option_map (λ (x : Held). x.entry.bytes) (held_in tree n.inode)) [])) (n.offset + n.rsize) (or_second (eqb (dsize n) n.rsize) _ keeps apart)))
     (cases_Bool (eqb (dsize n) n.rsize))
-  where
-    second : (a b : Bool) → a ≡ false → (a || b) ≡ true → b ≡ true
-    second true b e h = cc
-    second false b e h = h
 
 -- the map of inodes with one value new
 pub map_written : (old new : Tree) (n : Node) (o : Option Held) (w : Held) → lookup (is_at (nat_cmp n.inode)) old ≡ o → w ≡ held_after n o → IsStrictlySortedBy nat_cmp (map (λ e. e.0) new)

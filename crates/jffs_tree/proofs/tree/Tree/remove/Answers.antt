@@ -2,8 +2,8 @@ use Rattle.std.proofs.Common.{◌≡◌, ℕ, List, Option, Some, option_map, ap
 use Rattle.jffs_tree.specs.Origin.{Held}
 use Rattle.jffs_tree.specs.After.{without_inode}
 use Rattle.jffs_tree.specs.Look.{parent_name_in}
-use Rattle.jffs_tree.proofs.Maps.{found_get, sorted_map}
-use Rattle.jffs_tree.proofs.Written.{t_true, map_removed}
+use Rattle.jffs_tree.proofs.Maps.{t_true, found_get, sorted_map}
+use Rattle.jffs_tree.proofs.Written.{map_removed}
 use Rattle.jffs_tree.proofs.Reindexed.{removed_index}
 use Rattle.jffs_tree.proofs.tree.Tree.remove.Goals as goal
 

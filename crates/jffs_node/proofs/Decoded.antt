@@ -1,27 +1,29 @@
 -- What is found at a place, by its parts.
-use Rattle.std.proofs.Common.{◌≡◌, ℕ, ◌+◌, ◌≤◌, ◌<◌, Bool, true, false, cond, not, ◌||◌, leb, ltb, eqb, List, length, drop, get_or, Option, Some, None, Ok, Err, refl, sym, ap, subst, ◌∙◌}
+use Rattle.std.proofs.Common.{◌≡◌, ℕ, ◌≤◌, ◌<◌, Bool, true, false, cond, not, ◌||◌, ltb, eqb, List, length, drop, get_or, Option, Some, None, Ok, Err, refl, sym, ap, subst, ◌∙◌}
 use Rattle.jffs_node.specs.declared.read.Why.{Why}
 use Rattle.jffs_node.specs.declared.read.Read.{Read}
 use Rattle.jffs_node.specs.declared.read.Read.TheVariants.{Closed, Free, Torn}
 use Rattle.jffs_node.specs.declared.header.Head.{Head}
 use Rattle.jffs_node.specs.Laws.{IsClosedExactly}
 use Rattle.jffs_node.specs.Reading.{rules, broken_rule, byte_at, data_len, node_at, is_erased, closed_or_bad, found}
-use Rattle.std.proofs.lemmas.Bool.{or_parts, ltb-false, not-true, not-false}
-use Rattle.jffs_node.specs.Record.{numbers_hold, is_unmount, len_of_data, record_len, BeginsWith}
+use Rattle.std.proofs.lemmas.Bool.{and_parts, or_parts, ltb-false, not-true, not-false}
+use Rattle.jffs_node.specs.Record.{numbers_hold, has_place, len_of_data, record_len, BeginsWith}
 use Rattle.jffs_node.specs.Header.{head_at, head_or_why}
 use Rattle.jffs_node.proofs.Found.{records_are_found}
 use Rattle.jffs_node.proofs.Sound.{all_hold, found_are_records}
-use Rattle.jffs_node.proofs.Rules.{place_fits, ok_differs, ok_same, err_same}
+use Rattle.jffs_node.proofs.Rules.{place_parts, ok_differs, ok_same, err_same}
 
 -- so is one that breaks no rule
 pub record_fits : (rest : List ℕ) (record_max : ℕ) → broken_rule record_max rest ≡ None → (len_of_data (data_len rest) ≤ record_max) × (len_of_data (data_len rest) ≤ length rest)
 record_fits rest record_max h =
     let hold = all_hold (rules record_max rest) h in
-    place_fits (is_unmount (node_at rest).kind || leb (len_of_data (data_len rest) + 64) (length rest)) (data_len rest) record_max (length rest) (numbers_hold (node_at rest) (data_len rest)) hold.1.1.1.1.1.1.0
+    let size = and_parts (numbers_hold (node_at rest) (data_len rest)) (has_place (node_at rest).kind (data_len rest) record_max (length rest)) hold.1.1.1.1.1.1.0 in
+    let parts = place_parts (node_at rest).kind (data_len rest) record_max (length rest) size.1 in
+    (parts.0, parts.1)
 
 -- What a head that was read says of the record.
 pub head_read : (rest : List ℕ) (o : Option Why) (head : Head) → Ok head ≡ head_or_why rest o → (o ≡ None) × (head ≡ head_at rest)
-head_read rest None head h = (refl, ok_same (head_at rest) head h)
+head_read rest None head h = (refl, ok_same head (head_at rest) h)
 head_read rest (Some w) head h = absurd (ok_differs w head h)
 
 pub head_refused : (rest : List ℕ) (o : Option Why) (w : Why) → Err w ≡ head_or_why rest o → o ≡ Some w

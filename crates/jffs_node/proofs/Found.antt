@@ -2,7 +2,7 @@
 use Rattle.std.proofs.Common.{◌≡◌, ℕ, zero, suc, ◌+◌, ◌-◌, ◌%◌, ◌/◌, ◌≤◌, Bool, true, false, cond, not, ◌&&◌, ◌||◌, ltb, leb, eqb, List, [], ◌∷◌, ◌++◌, length, take, drop, replicate, Option, Some, None, is_some, is_none, unwrap_or, refl, ap, subst, ◌∙◌, w32, arith}
 use Rattle.std.specs.Option.{option_map_or}
 use Rattle.std.specs.List.{list_all, AllByRecursion}
-use Rattle.std.proofs.lemmas.Bool.{and_parts, and_from, leb-true, le-ltb, le-leb, eq-eqb, ne_eqb}
+use Rattle.std.proofs.lemmas.Bool.{and_parts, and_from, le-ltb, le-leb, eq-eqb, ne_eqb}
 use Rattle.jffs_node.specs.declared.node.Node.{Node}
 use Rattle.jffs_node.specs.declared.node.Kind.TheVariants.{File}
 use Rattle.jffs_node.specs.declared.read.Why.{Why}
@@ -12,6 +12,7 @@ use Rattle.jffs_node.specs.Record.{spelling, record_len, len_of_data, flags_byte
 use Rattle.jffs_node.specs.Reading.{number_at, form_at, name_at, data_len, node_at, flags_hold, name_holds, form_holds, spare_holds, size_holds, padding_holds, first_broken, rules, broken_rule, closed_or_bad, is_erased, found}
 use Rattle.jffs_node.specs.Laws.{RecordsAreFound}
 use Rattle.jffs_node.proofs.Names.{long_enough}
+use Rattle.jffs_node.proofs.Rules.{place_parts}
 use Rattle.jffs_node.proofs.Lawfulness.{FitsFields, fields_of, SuitsRules, rules_of}
 use Rattle.jffs_node.proofs.Fields.{inode_field, parent_field, version_field, offset_field, data_field, rsize_field, writer_field, form_field, seq_field, size_field, kind_field, name_found, name_end, data_found, padding_found, length-spelling}
 
@@ -34,7 +35,7 @@ name_passes true (Some name) nb h is = cc
 name_passes false (Some name) nb h is =
     let long = long_enough name h in and_from _ _ (le-leb (length name) 20 long.1) (ap is_name is ∙ h)
 
-all_same : (k x : ℕ) → list_all (λ b. eqb b x) (replicate k x) ≡ true
+pub all_same : (k x : ℕ) → list_all (λ b. eqb b x) (replicate k x) ≡ true
 all_same zero x = refl
 all_same (suc k) x = and_from (eqb x x) _ (eq-eqb x x refl) (all_same k x)
 
@@ -153,8 +154,7 @@ module _ (n : Node) (after : List ℕ) (lawful : is_lawful n ≡ true) where
   long_rest : (record_max : ℕ) → has_place n.kind (dsize n) record_max (length (spelling n ++ after)) ≡ true → ltb (length (spelling n ++ after)) 64 ≡ false
   long_rest record_max place =
       let rest = length (spelling n ++ after) in
-      let two = and_parts (leb (record_len n) record_max && leb (record_len n) rest) (is_unmount n.kind || leb (record_len n + 64) rest) place in
-      let fits = leb-true (record_len n) rest (and_parts (leb (record_len n) record_max) (leb (record_len n) rest) two.0).1 in
+      let fits = (place_parts n.kind (dsize n) record_max rest place).1 in
       le-ltb rest 64 (omega arith)
 
   found_closed : (record_max : ℕ) → has_place n.kind (dsize n) record_max (length (spelling n ++ after)) ≡ true → found record_max (spelling n ++ after) ≡ Closed n (record_len n)

@@ -1,5 +1,5 @@
 -- The parts of a node's lawfulness.
-use Rattle.std.proofs.Common.{◌≡◌, ℕ, zero, suc, ◌+◌, ◌<◌, ◌≤◌, ◌^◌, true, false, not, ◌&&◌, ◌||◌, eqb, leb, ltb, is_none, List, [], ◌∷◌, get_or, ◌⊎◌, inl, inr, ⊎_elim, Option, Some, None, unwrap_or, refl, arith}
+use Rattle.std.proofs.Common.{◌≡◌, ℕ, zero, suc, ◌+◌, ◌<◌, ◌≤◌, ◌^◌, true, false, not, ◌&&◌, ◌||◌, eqb, leb, ltb, is_none, List, [], ◌∷◌, get_or, ◌⊎◌, inl, inr, ⊎_elim, Option, Some, None, unwrap_or, refl, sym, ◌∙◌, arith}
 use Rattle.std.specs.List.{list_all}
 use Rattle.std.specs.Option.{option_map_or}
 use Rattle.std.proofs.lemmas.Bool.{eqb-true, eq-eqb, ltb-true, lt-ltb, leb-true, le-leb, and_parts, and_from, or_left, or_right, or_cases}
@@ -102,6 +102,12 @@ pub record HasNoRange (n : Node) : Type 0 where
 pub no_range_from : (n : Node) → n.offset ≡ 0 → dsize n ≡ 0 → n.rsize ≡ 0 → has_no_range n (dsize n) ≡ true
 no_range_from n o a r = and_from _ _ (and_from _ _ (eq-eqb n.offset 0 o) (eq-eqb (dsize n) 0 a)) (eq-eqb n.rsize 0 r)
 
+pub no_range : (n : Node) → has_no_range n (dsize n) ≡ true → (n.offset ≡ 0) × (dsize n ≡ 0) × (n.rsize ≡ 0)
+no_range n h =
+    let a = and_parts (eqb n.offset 0 && eqb (dsize n) 0) (eqb n.rsize 0) h in
+    let b = and_parts (eqb n.offset 0) (eqb (dsize n) 0) a.0 in
+    (eqb-true n.offset 0 b.0, eqb-true (dsize n) 0 b.1, eqb-true n.rsize 0 a.1)
+
 pub file_numbers : (n : Node) → kind_numbers File n (dsize n) ≡ true → HasRange n
 file_numbers n h =
     let a = and_parts _ _ h in
@@ -126,20 +132,32 @@ directory_numbers n h =
     let a = and_parts _ (has_no_range n (dsize n)) h in
     let b = and_parts _ _ a.0 in
     let c = and_parts _ _ b.0 in
-    let p = and_parts (eqb n.offset 0 && eqb (dsize n) 0) (eqb n.rsize 0) a.1 in
-    let q = and_parts (eqb n.offset 0) (eqb (dsize n) 0) p.0 in
+    let p = no_range n a.1 in
     record {
       low = leb-true 2 n.inode c.0;
       parent = leb-true 1 n.parent c.1;
       below = ltb-true n.parent n.inode b.1;
-      offset = eqb-true n.offset 0 q.0;
-      amount = eqb-true (dsize n) 0 q.1;
-      rsize = eqb-true n.rsize 0 p.1;
+      offset = p.0;
+      amount = p.1;
+      rsize = p.2;
     }
 
 pub directory_numbers_from : (n : Node) → HasNoRange n → kind_numbers Directory n (dsize n) ≡ true
 directory_numbers_from n h =
     and_from _ _ (and_from _ _ (and_from _ _ (le-leb 2 n.inode h.low) (le-leb 1 n.parent h.parent)) (lt-ltb n.parent n.inode h.below)) (no_range_from n h.offset h.amount h.rsize)
+
+-- an unmount node has no range
+pub unmount_range : (n : Node) → kind_numbers Unmount n (dsize n) ≡ true → has_no_range n (dsize n) ≡ true
+unmount_range n h = (and_parts (eqb n.inode 0 && eqb n.parent 0) (has_no_range n (dsize n)) h).1
+
+-- a node writes as many bytes as it replaces, unless it is a file's
+pub as_long : (n : Node) → is_lawful n ≡ true → (is_file n.kind || eqb (dsize n) n.rsize) ≡ true
+as_long n h =
+    (elim n.kind as (λ k. kind_numbers k n (dsize n) ≡ true → (is_file k || eqb (dsize n) n.rsize) ≡ true) [
+      | File ↦ λ x. refl
+      | Directory ↦ λ x. let d = directory_numbers n x in eq-eqb (dsize n) n.rsize (d.amount ∙ sym d.rsize)
+      | Unmount ↦ λ x. let none = no_range n (unmount_range n x) in eq-eqb (dsize n) n.rsize (none.1 ∙ sym none.2)
+    ]) (rules_of n h).kind
 
 -- what is no unmount node is a file's or a directory's
 pub which_kind : (k : Kind) → is_unmount k ≡ false → (k ≡ File) ⊎ (k ≡ Directory)

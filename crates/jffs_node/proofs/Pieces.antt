@@ -50,7 +50,7 @@ module _ (names : List (List ℕ)) (deep : Bool) (piece : List ℕ) (pieces : Li
 
 -- What a name that was read says of its bytes.
 read_of : (bytes name : List ℕ) (o : Option PathFault) → Ok name ≡ unless_bad bytes o → (o ≡ None) × (name ≡ bytes)
-read_of bytes name None h = (refl, ok_same bytes name h)
+read_of bytes name None h = (refl, ok_same name bytes h)
 read_of bytes name (Some fault) h = absurd (ok_differs fault name h)
 
 pub named_read : (bytes name : List ℕ) → Ok name ≡ named bytes → (name_fault bytes ≡ None) × (name ≡ bytes)

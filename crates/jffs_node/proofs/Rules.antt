@@ -1,5 +1,5 @@
 -- The first broken rule of a list.
-use Rattle.std.proofs.Common.{◌≡◌, ℕ, ◌≤◌, Bool, true, false, cond, not, ◌&&◌, ◌||◌, leb, eqb, List, [], ◌∷◌, ◌++◌, Option, Some, None, Result, Ok, Err, refl, sym, ap, ◌∙◌, ⊎_elim}
+use Rattle.std.proofs.Common.{◌≡◌, ℕ, ◌+◌, ◌≤◌, Bool, true, false, cond, not, ◌&&◌, ◌||◌, leb, eqb, List, [], ◌∷◌, ◌++◌, Option, Some, None, Result, Ok, Err, refl, sym, ap, ◌∙◌, ⊎_elim}
 use Rattle.std.specs.List.{AllByRecursion}
 use Rattle.jffs_node.specs.declared.read.Why.{Why}
 use Rattle.jffs_node.specs.Reading.{first_broken}
@@ -9,13 +9,13 @@ use Rattle.jffs_node.specs.declared.header.Labels.{Labels}
 use Rattle.jffs_node.specs.declared.node.Node.{Node}
 use Rattle.jffs_node.specs.declared.node.Kind.{Kind}
 use Rattle.jffs_node.specs.declared.node.Kind.TheVariants.{File, Directory, Unmount}
-use Rattle.jffs_node.specs.Record.{kind_numbers, has_no_range, size_numbers, numbers_hold, len_of_data}
+use Rattle.jffs_node.specs.Record.{kind_numbers, has_no_range, size_numbers, numbers_hold, len_of_data, is_unmount, has_place}
 use Rattle.jffs_node.specs.Header.{checked, labels_at, labels_or_why}
 
 pub ok_differs : {A E : Type 0} (w : E) (y : A) → ◌≡◌ {A = Result A E} (Ok y) (Err w) → ⊥
 ok_differs w y e = cc
 
-pub ok_same : {A E : Type 0} (x y : A) → ◌≡◌ {A = Result A E} (Ok y) (Ok x) → y ≡ x
+pub ok_same : {A E : Type 0} (x y : A) → ◌≡◌ {A = Result A E} (Ok x) (Ok y) → x ≡ y
 ok_same x y e = cc
 
 pub err_same : {A : Type 0} (w e : Why) → ◌≡◌ {A = Result A Why} (Err e) (Err w) → e ≡ w
@@ -23,7 +23,7 @@ err_same {A} w e h = cc
 
 -- what was read, where the rule holds
 pub rule_holds : {A : Type 0} (b : Bool) (w : Why) (x y : A) → Ok y ≡ checked b w x → (b ≡ true) × (y ≡ x)
-rule_holds true w x y h = (refl, ok_same x y h)
+rule_holds true w x y h = (refl, ok_same y x h)
 rule_holds false w x y h = absurd (ok_differs w y h)
 
 -- the rule that doesn't hold
@@ -48,7 +48,7 @@ broken_front (rule ∷ front) later w h = ⊎_elim
 
 -- What labels that were read say of their rules.
 pub labels_read : (rest : List ℕ) (o : Option Why) (l : Labels) → Ok l ≡ labels_or_why rest o → (o ≡ None) × (l ≡ labels_at rest)
-labels_read rest None l h = (refl, ok_same (labels_at rest) l h)
+labels_read rest None l h = (refl, ok_same l (labels_at rest) h)
 labels_read rest (Some w) l h = absurd (ok_differs w l h)
 
 pub labels_refused : (rest : List ℕ) (o : Option Why) (w : Why) → Err w ≡ labels_or_why rest o → o ≡ Some w
@@ -65,10 +65,10 @@ pub numbers_without_data : (n : Node) (amount : ℕ) → numbers_hold (record n 
 numbers_without_data n amount =
     ap (λ b. leb 1 n.version && b && (not n.deleted || has_no_range n amount) && (not n.copy || eqb n.rsize amount) && size_numbers n amount) (kinds_without_data n.kind n amount)
 
--- a record that has its place is no longer than allowed, and fits
-pub place_fits : (k : Bool) (amount record_max rest : ℕ) (numbers : Bool)
-    → (numbers && (leb (len_of_data amount) record_max && leb (len_of_data amount) rest && k)) ≡ true → (len_of_data amount ≤ record_max) × (len_of_data amount ≤ rest)
-place_fits k amount record_max rest numbers h =
-    let place = (and_parts numbers (leb (len_of_data amount) record_max && leb (len_of_data amount) rest && k) h).1 in
-    let two = and_parts (leb (len_of_data amount) record_max) (leb (len_of_data amount) rest) (and_parts (leb (len_of_data amount) record_max && leb (len_of_data amount) rest) k place).0 in
-    (leb-true (len_of_data amount) record_max two.0, leb-true (len_of_data amount) rest two.1)
+-- a record that has its place is no longer than allowed, fits, and leaves room for an unmount node
+pub place_parts : (kind : Kind) (amount record_max rest : ℕ) → has_place kind amount record_max rest ≡ true
+    → (len_of_data amount ≤ record_max) × (len_of_data amount ≤ rest) × ((is_unmount kind || leb (len_of_data amount + 64) rest) ≡ true)
+place_parts kind amount record_max rest h =
+    let a = and_parts (leb (len_of_data amount) record_max && leb (len_of_data amount) rest) (is_unmount kind || leb (len_of_data amount + 64) rest) h in
+    let b = and_parts (leb (len_of_data amount) record_max) (leb (len_of_data amount) rest) a.0 in
+    (leb-true (len_of_data amount) record_max b.0, leb-true (len_of_data amount) rest b.1, a.1)

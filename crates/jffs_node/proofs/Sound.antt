@@ -18,7 +18,7 @@ use Rattle.jffs_node.specs.Reading.{number_at, byte_at, form_at, name_field, nam
 use Rattle.jffs_node.specs.Laws.{FoundAreRecords}
 use Rattle.jffs_node.proofs.Fitting.{small_bytes}
 use Rattle.jffs_node.proofs.Names.{long_enough}
-use Rattle.jffs_node.proofs.Rules.{place_fits}
+use Rattle.jffs_node.proofs.Rules.{place_parts}
 
 pub all_hold : (rules : List (Bool × Why)) → first_broken rules ≡ None → AllByRecursion (λ r. r.0 ≡ true) rules
 all_hold [] h = tt
@@ -90,7 +90,7 @@ longer_front : (rest front piece : List ℕ) (at k : ℕ) → take at rest ≡ f
 longer_front rest front piece at k f p = take-add at k rest ∙ (λ i. f i ++ p i)
 
 -- what is all x is copies of x
-only : (x : ℕ) (xs : List ℕ) → list_all (λ b. eqb b x) xs ≡ true → xs ≡ replicate (length xs) x
+pub only : (x : ℕ) (xs : List ℕ) → list_all (λ b. eqb b x) xs ≡ true → xs ≡ replicate (length xs) x
 only x [] h = refl
 only x (y ∷ xs) h =
     let parts = and_parts (eqb y x) (list_all (λ b. eqb b x) xs) h in
@@ -140,8 +140,11 @@ size_number_is f k h = ⊎_elim
     (cases_Bool (eqb f 2))
 
 module _ (rest : List ℕ) (record_max : ℕ) (bytes : (i : ℕ) → get_or rest i 0 < 256) (long : 64 ≤ length rest) (gate : byte_at 7 rest ≡ 0) (hold : AllByRecursion (λ r. r.0 ≡ true) (rules record_max rest)) where
+  size_part : (numbers_hold (node_at rest) (data_len rest) ≡ true) × (has_place (node_at rest).kind (data_len rest) record_max (length rest) ≡ true)
+  size_part = and_parts _ _ hold.1.1.1.1.1.1.0
+
   fits : len_of_data (data_len rest) ≤ length rest
-  fits = (place_fits (is_unmount (node_at rest).kind || leb (len_of_data (data_len rest) + 64) (length rest)) (data_len rest) record_max (length rest) (numbers_hold (node_at rest) (data_len rest)) hold.1.1.1.1.1.1.0).1
+  fits = (place_parts (node_at rest).kind (data_len rest) record_max (length rest) size_part.1).1
 
   dsize_is : dsize (node_at rest) ≡ data_len rest
   dsize_is = part_len rest 64 (data_len rest) (let f = fits in omega arith)
@@ -225,9 +228,6 @@ module _ (rest : List ℕ) (record_max : ℕ) (bytes : (i : ℕ) → get_or rest
 
   four_fit : (at : ℕ) → ltb (number_at w32 at rest) (2 ^ 32) ≡ true
   four_fit at = lt-ltb (number_at w32 at rest) (2 ^ 32) (four_small (take 4 (drop at rest)) (small_part rest at 4 bytes))
-
-  size_part : (numbers_hold (node_at rest) (data_len rest) ≡ true) × (has_place (node_at rest).kind (data_len rest) record_max (length rest) ≡ true)
-  size_part = and_parts _ _ hold.1.1.1.1.1.1.0
 
   lawful_here : is_lawful (node_at rest) ≡ true
   lawful_here =

@@ -1,4 +1,5 @@
 use Rattle.std.proofs.Common.{◌≡◌, ℕ, true, false, cond, ◌&&◌, List, [], ◌∷◌, length, drop, Result, Ok, Err, Some, None, refl, sym, ap, ◌∙◌, arith}
+use Rattle.std.proofs.lemmas.Bool.{and_parts}
 use Rattle.std.proofs.lemmas.Result.{err_from_is_err_and}
 use Rattle.jffs_node.specs.declared.node.Node.{Node}
 use Rattle.jffs_node.specs.declared.header.Head.{Head}
@@ -8,7 +9,7 @@ use Rattle.jffs_node.specs.Record.{numbers_hold, has_place}
 use Rattle.jffs_node.specs.Reading.{node_at, data_len, size_holds, padding_holds, first_broken, rules, broken_rule}
 use Rattle.jffs_node.specs.Header.{label_rules, head_at, head_or_why}
 use Rattle.jffs_node.proofs.Sound.{all_hold}
-use Rattle.jffs_node.proofs.Rules.{rule_holds, rule_broken, labels_read, labels_refused, broken_front, first_later, numbers_without_data, place_fits}
+use Rattle.jffs_node.proofs.Rules.{rule_holds, rule_broken, labels_read, labels_refused, broken_front, first_later, numbers_without_data, place_parts}
 use Rattle.jffs_node.proofs.decoding.head_of.Goals as goal
 
 refused : (rest : List ℕ) (record_max : ℕ) (r : Result Head Why) (e w : Why) → (x : Why) × (r ≡ Err x) × (x ≡ e) → e ≡ w → broken_rule record_max rest ≡ Some w
@@ -54,7 +55,7 @@ pub check_padding-requires-clause-amount : goal.check_padding-requires-clause-am
 check_padding-requires-clause-amount c = c.word_at-amount.ensures
 
 pub check_padding-requires-clause-fits : goal.check_padding-requires-clause-fits
-check_padding-requires-clause-fits c = (place_fits _ _ _ _ _ (rule_holds _ _ _ _ c.in_ok-check_numbers.ensures).0).1
+check_padding-requires-clause-fits c = (place_parts _ _ _ _ (and_parts _ _ (rule_holds _ _ _ _ c.in_ok-check_numbers.ensures).0).1).1
 
 pub returns-in_err-labels : goal.returns-in_err-labels
 returns-in_err-labels c =

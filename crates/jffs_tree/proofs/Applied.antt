@@ -1,14 +1,14 @@
 -- What a call of `apply` leaves is the tree after the node.
-use Rattle.std.proofs.Common.{◌≡◌, ℕ, ◌+◌, ◌≤◌, Bool, true, false, cond, not, ◌&&◌, eqb, leb, List, ◌∷◌, Option, Some, None, sym, ap, ◌∙◌, arith}
+use Rattle.std.proofs.Common.{◌≡◌, ℕ, ◌+◌, ◌≤◌, Bool, true, false, cond, not, ◌&&◌, leb, List, ◌∷◌, Option, Some, None, sym, ap, ◌∙◌, arith}
 use Rattle.std.specs.Option.{option_map_or, unwrap_or}
-use Rattle.std.proofs.lemmas.Bool.{and_parts, leb-true, eqb-true, not-true}
+use Rattle.std.proofs.lemmas.Bool.{and_parts, leb-true, not-true}
 use Rattle.jffs_node.specs.declared.node.Node.{Node}
 use Rattle.jffs_node.specs.declared.node.Kind.TheVariants.{File, Directory, Unmount}
 use Rattle.jffs_node.specs.Name.{is_name}
-use Rattle.jffs_node.specs.Record.{dsize, file_max, is_unmount, is_lawful, kind_numbers, has_no_range}
+use Rattle.jffs_node.specs.Record.{dsize, file_max, is_unmount, is_lawful, kind_numbers}
 use Rattle.jffs_tree.specs.Origin.{Tree, tree_of}
 use Rattle.jffs_tree.specs.After.{without_inode, put_node, tree_after, IsSmall}
-use Rattle.jffs_node.proofs.Lawfulness.{rules_of, file_numbers}
+use Rattle.jffs_node.proofs.Lawfulness.{rules_of, no_range, unmount_range, file_numbers, directory_numbers}
 use Rattle.jffs_tree.proofs.Grown.{tree_steps}
 
 -- What a lawful node keeps.
@@ -20,19 +20,11 @@ named n name h e =
     let well = sym (ap (λ o. option_map_or (λ x. not (is_unmount n.kind) && is_name x) o (is_unmount n.kind)) e) ∙ (rules_of n h).name in
     not-true (is_unmount n.kind) (and_parts (not (is_unmount n.kind)) (is_name name) well).0
 
-no_range : (n : Node) → has_no_range n (dsize n) ≡ true → n.offset + dsize n ≤ file_max
-no_range n h =
-    let a = and_parts (eqb n.offset 0 && eqb (dsize n) 0) (eqb n.rsize 0) h in
-    let b = and_parts (eqb n.offset 0) (eqb (dsize n) 0) a.0 in
-    let c = eqb-true n.offset 0 b.0 in
-    let d = eqb-true (dsize n) 0 b.1 in
-    omega arith
-
 range : (n : Node) → is_lawful n ≡ true → n.offset + dsize n ≤ file_max
 range n h =
     (elim n.kind as (λ k. kind_numbers k n (dsize n) ≡ true → n.offset + dsize n ≤ file_max) [
-      | Unmount ↦ λ x. no_range n (and_parts _ _ x).1
-      | Directory ↦ λ x. no_range n (and_parts _ _ x).1
+      | Unmount ↦ λ x. let none = no_range n (unmount_range n x) in omega (arith, none.0, none.1)
+      | Directory ↦ λ x. let none = directory_numbers n x in omega (arith, none.offset, none.amount)
       | File ↦ λ x. (file_numbers n x).range
     ]) (rules_of n h).kind
 

@@ -118,7 +118,7 @@ module _ (past : List Node) (limits : Limits) (parent : ℕ) (name : List ℕ) (
       let spent = passed (is_none limits.next_version) VersionsSpent [] copy n stale.1 in
       let h = the_holder o live.0 in
       let current = (and_parts (eqb e.parent parent && bytes_eq e.name name) (is_current e offset bytes) (not-false known stale.0)).1 in
-      let given : copy_node (held_inode o) e offset bytes ≡ n = ok_same n copy spent.1 in (
+      let given : copy_node (held_inode o) e offset bytes ≡ n = ok_same copy n spent.1 in (
         h.0.1.entry,
         accepted h.0 n (there h.0 h.1)
             (ap (λ x. is_current (held_entry x) offset bytes) (sym h.1) ∙ current)

@@ -35,7 +35,7 @@ use Rattle.jffs_tree.proofs.Changing.{Keeps, IsHome, its_file, write_keeps, trun
 
 -- a decision that gave a node passed all tests, and gave that node
 pub all_passed : (causes : List (Bool × Cause)) (n m : NewNode) → unless causes n ≡ Ok m → AllByRecursion (λ (c : Bool × Cause). c.0 ≡ false) causes × (n ≡ m)
-all_passed [] n m is = (tt, ok_same m n is)
+all_passed [] n m is = (tt, ok_same n m is)
 all_passed (c ∷ causes) n m is = one (λ h. all_passed causes n m h) c.0 refl is
   where
     one : (unless causes n ≡ Ok m → AllByRecursion (λ (x : Bool × Cause). x.0 ≡ false) causes × (n ≡ m)) → (b : Bool) → c.0 ≡ b → cond b (Err c.1) (unless causes n) ≡ Ok m

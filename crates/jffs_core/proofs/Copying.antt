@@ -1,6 +1,7 @@
 -- The oldest sector, record by record.
 use Rattle.std.proofs.Common.{◌≡◌, ◌⊎◌, inl, inr, ℕ, zero, suc, ◌+◌, ◌-◌, ◌/◌, ◌≤◌, ◌<◌, Bool, true, false, cond, List, [], ◌∷◌, ◌++◌, length, take, drop, get_or, refl, sym, ap, subst, ◌∙◌, arith, drop-cons}
 use Rattle.std.specs.List.{AllByRecursion}
+use Rattle.std.specs.Int.{from_bool}
 use Rattle.std.proofs.Math.Seq.{take-suc}
 use Rattle.std.proofs.lemmas.List.{take-append-drop}
 use Rattle.std.proofs.lemmas.Bool.{and_parts, both_ways, false_from_ne_true}
@@ -100,7 +101,7 @@ module _ (nodes past : List Node) (c : Standing) (known : Knows past c) (oldest 
 
 -- One record more.
 pub copying_goes_on : (nodes past after : List Node) (k copies more : ℕ) (node : Node) (is_copied : Bool) (old middle new : Standing) → k < length nodes → node ≡ get_or nodes k node → HasSizes old.book.sectors old.book.sector_size middle.book
-    → HasCopied (take k nodes) past after copies old middle → HasHandled after node is_copied middle new → more ≡ copies + (cond is_copied 1 0) → (later : List Node) × HasCopied (take (k + 1) nodes) past later more old new
+    → HasCopied (take k nodes) past after copies old middle → HasHandled after node is_copied middle new → more ≡ copies + from_bool is_copied → (later : List Node) × HasCopied (take (k + 1) nodes) past later more old new
 copying_goes_on nodes past after k copies more node is_copied old middle new below is sizes h one sum =
     let z = old.book.sector_size in
     let s = session past old in
@@ -115,15 +116,16 @@ copying_goes_on nodes past after k copies more node is_copied old middle new bel
             ∙ ap (handled z node) h.turn
             ∙ sym (handled_in_parts z (take k nodes) (node ∷ []) s).0
             ∙ ap (λ ns. handled_each z ns s) (sym taken);
-        counted = let a = one.counted in let b = h.counted in let e = by_cond is_copied in omega arith;
+        counted = let a = one.counted in let b = h.counted in let e = one_if is_copied in omega arith;
       },
     )
   where
     add-one_at : k + 1 ≡ suc k
     add-one_at = omega arith
 
-    by_cond : (b : Bool) → cond b 1 0 + length after ≡ length after + cond b 1 0
-    by_cond b = omega arith
+    one_if : (b : Bool) → cond b 1 0 ≡ from_bool b
+    one_if true = refl
+    one_if false = refl
 
 -- memory that was refused, or a device that failed, has nothing to do with a copy
 pub not_for_copy : (cause : Cause) → (cause ≡ causes.Memory) ⊎ (cause ≡ causes.Device) → (cause ≡ causes.NoSpace → ⊥) × (cause ≡ causes.VersionsSpent → ⊥)

@@ -1,6 +1,6 @@
 //! Cleaning: what lives in the oldest sector is copied to the tail, and the sector is erased.
 
-ghost use Rattle.std.specs.Prelude.{◌≡◌, ◌≤◌, ◌<◌, ◌+◌, ◌/◌, ◌^◌, List, true, false, map, length, if◌then◌else◌, ◌↔◌, ◌⊎◌, IsTrue, OnOk, IfOk, IfErr, Err};
+ghost use Rattle.std.specs.Prelude.{◌≡◌, ◌≤◌, ◌<◌, ◌+◌, ◌/◌, ◌^◌, List, true, false, map, length, ◌↔◌, ◌⊎◌, IsTrue, OnOk, IfOk, IfErr, Err};
 ghost use Rattle.std.specs.List.{AllByRecursion};
 ghost use Rattle.jffs_node.specs.Record.{record_len as length_of};
 ghost use Rattle.jffs_tree.specs.Look.{holds_version};
@@ -8,7 +8,7 @@ ghost use Rattle.jffs_tree.specs.Look.{holds_version};
 use crate::mounted::Core;
 use jffs_flash::Flash;
 use jffs_log::Room;
-use jffs_node::{NoMemory, Node};
+use jffs_node::Node;
 use jffs_tree::Cause;
 
 /// What a cleaning did.
@@ -85,10 +85,8 @@ impl<F: Flash> Core<F> {
     {
         let mut erased = 0u32;
         while self.is_dead_oldest() {
-            match self.erase_oldest() {
-                Ok(()) => erased += 1,
-                Err(cause) => return Err(cause),
-            }
+            self.erase_oldest()?;
+            erased += 1;
         }
         Ok(erased)
     }
@@ -116,10 +114,9 @@ impl<F: Flash> Core<F> {
             if self.has_room(Room::Fresh, len) {
                 return Ok(());
             }
-            match self.clean_one() {
-                Ok(Cleaned::Erased { .. }) => {}
-                Ok(Cleaned::OneSector) => return Ok(()),
-                Err(cause) => return Err(cause),
+            match self.clean_one()? {
+                Cleaned::Erased { .. } => {}
+                Cleaned::OneSector => return Ok(()),
             }
         }
         Ok(())
@@ -138,10 +135,8 @@ impl<F: Flash> Core<F> {
         if self.log.held() < 2 {
             return Ok(Cleaned::OneSector);
         }
-        match self.oldest_nodes() {
-            Ok(nodes) => self.clean_sector(&nodes),
-            Err(cause) => Err(cause),
-        }
+        let nodes = self.oldest_nodes()?;
+        self.clean_sector(&nodes)
     }
 
     /// Copies what lives of these nodes, which are those of the oldest sector, and erases it.
@@ -158,13 +153,9 @@ impl<F: Flash> Core<F> {
         ensures erases { self.new.book.erases ≤ self.old.book.erases + 1 }
     {
         let sector = self.log.oldest();
-        match self.copy_each(nodes) {
-            Ok(copies) => match self.erase_oldest() {
-                Ok(()) => Ok(Cleaned::Erased { sector, copies }),
-                Err(cause) => Err(cause),
-            },
-            Err(cause) => Err(cause),
-        }
+        let copies = self.copy_each(nodes)?;
+        self.erase_oldest()?;
+        Ok(Cleaned::Erased { sector, copies })
     }
 
     /// Handles each of these nodes, which are those of the oldest sector; answers how many were
@@ -183,10 +174,7 @@ impl<F: Flash> Core<F> {
     {
         let mut copies = 0u32;
         for node in nodes {
-            match self.handle(node) {
-                Ok(copied) => copies += one_if(copied),
-                Err(cause) => return Err(cause),
-            }
+            copies += u32::from(self.handle(node)?);
         }
         Ok(copies)
     }
@@ -206,10 +194,8 @@ impl<F: Flash> Core<F> {
         if !self.tree.live(source.inode, source.version) {
             return Ok(false);
         }
-        match self.copy(source) {
-            Ok(()) => Ok(true),
-            Err(cause) => Err(cause),
-        }
+        self.copy(source)?;
+        Ok(true)
     }
 
     /// Appends the copy of a live record.
@@ -228,10 +214,8 @@ impl<F: Flash> Core<F> {
         let Some(version) = self.limits.next_version else {
             return Err(Cause::VersionsSpent);
         };
-        match self.tree.cleaning_copy(source) {
-            Ok(copied) => self.append(Room::Copy, &copied.with(version, 0, 0)),
-            Err(NoMemory) => Err(Cause::Memory),
-        }
+        let copied = self.tree.cleaning_copy(source)?;
+        self.append(Room::Copy, &copied.with(version, 0, 0))
     }
 
     /// The nodes of the oldest sector, read from the device. Memory: nothing is changed.
@@ -279,11 +263,4 @@ impl<F: Flash> Core<F> {
             }
         }
     }
-}
-
-/// One where it is so.
-fn one_if(so: bool) -> u32
-    ensures { result ≡ (if so then 1 else 0) }
-{
-    if so { 1 } else { 0 }
 }

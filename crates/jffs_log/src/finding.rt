@@ -12,8 +12,8 @@ ghost use Rattle.jffs_log.specs.ScanRead.{oldest_sector, AreRead, IsSpelled, IsR
 use crate::book::Kept;
 use crate::scanning::ScanWhy;
 use crate::sector::{SectorRead, read_sector};
-use jffs_flash::{Flash, FlashFault};
-use jffs_node::{NoMemory, Node, Read};
+use jffs_flash::Flash;
+use jffs_node::{Node, Read};
 use std::alloc::{AllocError, Global};
 use std::collections::VecDeque;
 
@@ -66,15 +66,11 @@ fn read_one<F: Flash>(
     ensures length { length buffer.new ≡ length buffer.old }
 {
     let len = buffer.len() as u32;
-    match flash.read(sector * len, buffer) {
-        Err(FlashFault) => Err(ScanWhy::Device),
-        Ok(()) => match read_sector(alloc, sector, buffer) {
-            Err(NoMemory) => Err(ScanWhy::Memory),
-            Ok(read) => match bad_record(&read) {
-                Some(why) => Err(why),
-                None => Ok(read),
-            },
-        },
+    flash.read(sector * len, buffer)?;
+    let read = read_sector(alloc, sector, buffer)?;
+    match bad_record(&read) {
+        Some(why) => Err(why),
+        None => Ok(read),
     }
 }
 

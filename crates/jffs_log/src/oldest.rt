@@ -6,7 +6,7 @@ ghost use Rattle.std.specs.List.{AllByRecursion};
 use crate::log::Log;
 use crate::sector::read_sector;
 use jffs_flash::Flash;
-use jffs_node::{NoMemory, Node};
+use jffs_node::Node;
 use jffs_tree::{Cause, Tree};
 use std::alloc::Global;
 
@@ -60,9 +60,7 @@ impl<F: Flash> Log<F> {
         ensures device { IfErr result (λ cause. cause ≡ Cause.Device → F.fault_count self.old.flash < F.fault_count self.new.flash) }
     {
         let bytes = self.oldest_image(alloc)?;
-        match read_sector(alloc, self.book.first, &bytes) {
-            Ok(read) => Ok(read.into_nodes()),
-            Err(NoMemory) => Err(Cause::Memory),
-        }
+        let read = read_sector(alloc, self.book.first, &bytes)?;
+        Ok(read.into_nodes())
     }
 }

@@ -41,8 +41,7 @@ impl Session {
     fn decide(&self, wish: &Wish) -> Result<Node, Cause> {
         let decided = match self.tree.decide(self.limits(), wish) {
             Err(Cause::Memory) => self.tree.decide(self.limits(), wish)?,
-            Err(cause) => return Err(cause),
-            Ok(decided) => decided,
+            decided => decided?,
         };
         let version = self.next_version.unwrap_or(0);
         Ok(decided.with(version, 1, version))

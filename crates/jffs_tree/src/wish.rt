@@ -4,7 +4,7 @@ ghost use Rattle.std.specs.Prelude.{◌≡◌};
 ghost use Rattle.jffs_tree.specs.declared.wish.Cause.TheVariants.{Memory};
 ghost use Rattle.jffs_tree.specs.Decide.{with, is_copy_wish, is_unmount_wish};
 
-use jffs_node::{Bytes, Kind, Name, Node, Path};
+use jffs_node::{Bytes, Kind, Name, NoMemory, Node, Path};
 use std::alloc::AllocError;
 use thiserror::Error;
 
@@ -67,6 +67,14 @@ impl From<AllocError> for Cause {
     ghost from_gives = { λ _ e. e ≡ Memory };
 
     fn from(_: AllocError) -> Cause {
+        Cause::Memory
+    }
+}
+
+impl From<NoMemory> for Cause {
+    ghost from_gives = { λ _ e. e ≡ Memory };
+
+    fn from(_: NoMemory) -> Cause {
         Cause::Memory
     }
 }

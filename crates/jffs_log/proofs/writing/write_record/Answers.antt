@@ -11,7 +11,7 @@ returns-in_err-program_erased-clause-written g c =
     let n = c.args.node.now in
     let old = g.F.Flash.image c.args.flash.now in
     let new = g.F.Flash.image c.program_erased.new.flash in
-    let open_gate : set c.encode_into.new.record 7 255 ≡ opened n = ap (λ (xs : List ℕ). set xs 7 255) c.encode_into.ensures in
+    let open_gate : set c.encode_into.new.out 7 255 ≡ opened n = ap (λ (xs : List ℕ). set xs 7 255) c.encode_into.ensures in
     if_err c.from_residual.result (IsWritten c.args.at n old new)
     (first_half c.args.at n old new c.requires.lawful c.requires.erased (subst (λ (xs : List ℕ). IsHalfProgrammed c.args.at xs old new) open_gate c.in_err-program_erased.ensures.half))
 
@@ -21,7 +21,7 @@ returns-clause-done g c =
     let old = g.F.Flash.image c.args.flash.now in
     let mid = g.F.Flash.image c.program_erased.new.flash in
     let new = g.F.Flash.image c.program.new.self in
-    let open_gate : set c.encode_into.new.record 7 255 ≡ opened n = ap (λ (xs : List ℕ). set xs 7 255) c.encode_into.ensures in
+    let open_gate : set c.encode_into.new.out 7 255 ≡ opened n = ap (λ (xs : List ℕ). set xs 7 255) c.encode_into.ensures in
     let first : mid ≡ replaced c.args.at (opened n) old = c.in_ok-program_erased.ensures.done ∙ ap (λ (xs : List ℕ). replaced c.args.at xs old) open_gate in
     on_ok c.program.result (new ≡ programmed (c.args.at + 7) (0 ∷ []) mid) (new ≡ replaced c.args.at (spelling n) old)
     (λ e. e ∙ ap (programmed (c.args.at + 7) (0 ∷ [])) first ∙ second_whole c.args.at n old c.requires.lawful c.requires.inside)
@@ -33,7 +33,7 @@ returns-clause-written g c =
     let old = g.F.Flash.image c.args.flash.now in
     let mid = g.F.Flash.image c.program_erased.new.flash in
     let new = g.F.Flash.image c.program.new.self in
-    let open_gate : set c.encode_into.new.record 7 255 ≡ opened n = ap (λ (xs : List ℕ). set xs 7 255) c.encode_into.ensures in
+    let open_gate : set c.encode_into.new.out 7 255 ≡ opened n = ap (λ (xs : List ℕ). set xs 7 255) c.encode_into.ensures in
     let first : mid ≡ replaced c.args.at (opened n) old = c.in_ok-program_erased.ensures.done ∙ ap (λ (xs : List ℕ). replaced c.args.at xs old) open_gate in
     on_err c.program.result (IsHalfProgrammed (c.args.at + 7) (0 ∷ []) mid new) (IsWritten c.args.at n old new)
     (λ h. second_half c.args.at n old new c.requires.lawful c.requires.inside (subst (λ (xs : List ℕ). IsHalfProgrammed (c.args.at + 7) (0 ∷ []) xs new) first h))

@@ -1,4 +1,5 @@
 use Rattle.std.proofs.Common.{◌≡◌, ◌∙◌, ℕ, ◌≤◌, ◌<◌, List, [], length, refl, sym, ap, subst, arith}
+use Rattle.std.proofs.lemmas.Result.{err_from_is_err_and}
 use Rattle.jffs_log.specs.declared.book.Book.{Book}
 use Rattle.jffs_log.specs.Book.{IsBook, layout_in}
 use Rattle.jffs_core.specs.Standing.{Standing}
@@ -23,19 +24,19 @@ pub clean_sector-requires-clause-several : goal.clean_sector-requires-clause-sev
 clean_sector-requires-clause-several g c =
     let works = ap (λ (v : Standing). v.failed) c.self.view_is ∙ c.requires.working in
     let low = counted (g.F.Flash.image c.self.inside.log.flash) c.self.inside.log.book c.held.result (c.self.invariant.book works) c.held.ensures (let test = c.if-held-lt2.false in omega arith) in
-    subst (λ (v : Standing). 2 ≤ length (layout_in v.image v.book).sectors) (c.self.view_is ∙ sym c.in-Ok.ensures.kept) low
+    subst (λ (v : Standing). 2 ≤ length (layout_in v.image v.book).sectors) (c.self.view_is ∙ sym c.in_ok-nodes.ensures.kept) low
 
-pub returns-in-Err-clause-stopped : goal.returns-in-Err-clause-stopped
-returns-in-Err-clause-stopped g c = λ past known.
+pub returns-in_err-nodes-clause-stopped : goal.returns-in_err-nodes-clause-stopped
+returns-in_err-nodes-clause-stopped g c = let p = err_from_is_err_and c.from_residual.result c.from_residual.ensures.1 in rw (p.1, p.2) λ past known.
     let works = ap (λ (v : Standing). v.failed) c.self.view_is ∙ c.requires.working in
     let low = counted (g.F.Flash.image c.self.inside.log.flash) c.self.inside.log.book c.held.result (c.self.invariant.book works) c.held.ensures (let test = c.if-held-lt2.false in omega arith) in
-    let other = not_for_copy _ c.in-Err.ensures.causes in (
+    let other = not_for_copy _ c.in_err-nodes.ensures.causes in (
       past,
       record {
         several = subst (λ (v : Standing). 2 ≤ length (layout_in v.image v.book).sectors) c.self.view_is low;
         stopped = record {
           copies = record { copies = []; true_copies = tt; joined = refl };
-          stands = c.in-Err.ensures.refused past known;
+          stands = c.in_err-nodes.ensures.refused past known;
           no_room = λ e. absurd (other.0 e);
         };
         wants = record { at_turn = λ e. absurd (other.0 e); to_copy = λ e. absurd (other.1 e) };

@@ -1,21 +1,14 @@
-use Rattle.std.proofs.Common.{◌∙◌, refl, sym, ap, subst, OnOk, IfErr, Result, Ok, Err, None}
+use Rattle.std.proofs.Common.{◌∙◌, refl, sym, ap, subst, None}
+use Rattle.std.proofs.lemmas.Result.{on_ok_weaker, IfErr-weaker, err_from_is_err_and}
 use Rattle.jffs_log.specs.declared.room.Room.TheVariants as rooms
 use Rattle.jffs_tree.specs.Origin.{state_in}
 use Rattle.jffs_tree.specs.Decide.{cleaning_copy}
 use Rattle.jffs_core.specs.Standing.{Standing}
-use Rattle.jffs_core.specs.Appending.{MayPut, HasPut, PutRefused}
+use Rattle.jffs_core.specs.Appending.{MayPut, PutRefused}
 use Rattle.jffs_core.proofs.Sweeping.{lives_by_tree, copy_is, copy_may, copy_put, copy_refused}
 use Rattle.jffs_core.proofs.Asked.{known_version}
 use Rattle.jffs_core.proofs.Stepping.{none_left}
 use Rattle.jffs_core.proofs.mounted.Core.copy.Goals as goal
-
-ok_then : {A E : Type 0} (r : Result A E) (P Q : Type 0) → (P → Q) → OnOk r P → OnOk r Q
-ok_then (Ok x) P Q f h = f h
-ok_then (Err e) P Q f h = tt
-
-err_then : {A E : Type 0} (r : Result A E) (P Q : E → Type 0) → ((e : E) → P e → Q e) → IfErr r P → IfErr r Q
-err_then (Ok x) P Q f h = tt
-err_then (Err e) P Q f h = f e h
 
 pub append-requires-clause-follows : goal.append-requires-clause-follows
 append-requires-clause-follows g c =
@@ -24,30 +17,30 @@ append-requires-clause-follows g c =
     let old : Standing = c.args.self.now in
     let live = lives_by_tree k.0 old source k.1 k.2 c.requires.live in
     let next = ap (λ (v : Standing). v.limits.next_version) (sym c.self.view_is) ∙ c.in-Some.is in
-    let is = copy_is k.0 old source c.with.result c.in-Ok.copied c.in-Some.version k.1 c.with.ensures (c.in-Ok.ensures ∙ ap (λ (v : Standing). cleaning_copy (state_in v.tree) source) c.self.view_is) next in
+    let is = copy_is k.0 old source c.with.result c.in_ok-copied.copied c.in-Some.version k.1 c.with.ensures (c.in_ok-copied.ensures ∙ ap (λ (v : Standing). cleaning_copy (state_in v.tree) source) c.self.view_is) next in
     (k.0, k.1, subst (MayPut k.0 old.book.sector_size rooms.Copy) (sym is) (copy_may k.0 old source c.in-Some.version k.1 k.2 live next c.requires.short))
 
-pub returns-in-Ok-clause-copied : goal.returns-in-Ok-clause-copied
-returns-in-Ok-clause-copied g c =
+pub returns-clause-copied : goal.returns-clause-copied
+returns-clause-copied g c =
     let source = c.args.source.now in
     let old : Standing = c.args.self.now in
     let next = ap (λ (v : Standing). v.limits.next_version) (sym c.self.view_is) ∙ c.in-Some.is in
-    ok_then c.append.result (HasPut rooms.Copy c.with.result old c.append.new.self) _
+    on_ok_weaker c.append.result
     (λ h past known among.
     let live = lives_by_tree past old source known among c.requires.live in
-    let is = copy_is past old source c.with.result c.in-Ok.copied c.in-Some.version known c.with.ensures (c.in-Ok.ensures ∙ ap (λ (v : Standing). cleaning_copy (state_in v.tree) source) c.self.view_is) next in
+    let is = copy_is past old source c.with.result c.in_ok-copied.copied c.in-Some.version known c.with.ensures (c.in_ok-copied.ensures ∙ ap (λ (v : Standing). cleaning_copy (state_in v.tree) source) c.self.view_is) next in
     copy_put past old source c.in-Some.version known among live next c.append.new.self c.with.result is c.requires.short h)
     c.append.ensures.done
 
-pub returns-in-Ok-clause-stopped : goal.returns-in-Ok-clause-stopped
-returns-in-Ok-clause-stopped g c =
+pub returns-clause-stopped : goal.returns-clause-stopped
+returns-clause-stopped g c =
     let source = c.args.source.now in
     let old : Standing = c.args.self.now in
     let next = ap (λ (v : Standing). v.limits.next_version) (sym c.self.view_is) ∙ c.in-Some.is in
-    err_then c.append.result (λ cause. PutRefused rooms.Copy c.with.result cause old c.append.new.self) _
+    IfErr-weaker c.append.result (λ cause. PutRefused rooms.Copy c.with.result cause old c.append.new.self) _
     (λ cause h past known among.
     let live = lives_by_tree past old source known among c.requires.live in
-    let is = copy_is past old source c.with.result c.in-Ok.copied c.in-Some.version known c.with.ensures (c.in-Ok.ensures ∙ ap (λ (v : Standing). cleaning_copy (state_in v.tree) source) c.self.view_is) next in
+    let is = copy_is past old source c.with.result c.in_ok-copied.copied c.in-Some.version known c.with.ensures (c.in_ok-copied.ensures ∙ ap (λ (v : Standing). cleaning_copy (state_in v.tree) source) c.self.view_is) next in
     copy_refused past old source c.in-Some.version known among live next c.append.new.self c.with.result cause is c.requires.short h)
     c.append.ensures.refused
 
@@ -61,8 +54,8 @@ returns-in_default-clause-stopped g c = λ past known among.
       no_room = λ e. cc;
     }
 
-pub returns-in-Err-clause-stopped : goal.returns-in-Err-clause-stopped
-returns-in-Err-clause-stopped g c = λ past known among. record {
+pub returns-in_err-copied-clause-stopped : goal.returns-in_err-copied-clause-stopped
+returns-in_err-copied-clause-stopped g c = let p = err_from_is_err_and c.from_residual.result c.from_residual.ensures.1 in rw (p.1, p.2) λ past known among. record {
   live = lives_by_tree past c.args.self.now c.args.source.now known among c.requires.live;
   stands = record { works = c.requires.working; faults = refl; knows = known };
   no_room = λ e. cc;

@@ -1,4 +1,6 @@
-use Rattle.std.proofs.Common.{◌≡◌, ◌∙◌, ℕ, ◌≤◌, ◌<◌, ◌+◌, ◌/◌, Bool, true, false, cond, List, length, take, get_or, sym, ap, subst, arith, take_all}
+use Rattle.std.proofs.Common.{◌≡◌, ◌∙◌, ℕ, ◌≤◌, ◌<◌, ◌+◌, ◌/◌, Bool, true, false, List, length, take, get_or, sym, ap, subst, arith, take_all}
+use Rattle.std.specs.Int.{from_bool}
+use Rattle.std.proofs.lemmas.Result.{err_from_is_err_and}
 use Rattle.jffs_node.specs.declared.node.Node.{Node}
 use Rattle.jffs_node.specs.Record.{record_len}
 use Rattle.jffs_log.specs.Book.{layout_in}
@@ -11,7 +13,7 @@ use Rattle.jffs_core.specs.Cleaning.{HasCopied}
 use Rattle.jffs_core.proofs.Copying.{copying_begins, copying_goes_on, copying_has_room, among_more, one_known, one_short, are_few}
 use Rattle.jffs_core.proofs.mounted.Core.copy_each.Goals as goal
 
-one_most : (b : Bool) (r : ℕ) → r ≡ cond b 1 0 → r ≤ 1
+one_most : (b : Bool) (r : ℕ) → r ≡ from_bool b → r ≤ 1
 one_most true r e = omega arith
 one_most false r e = omega arith
 
@@ -42,14 +44,14 @@ overflow_add-copies g c =
     let few = are_few c.args.nodes.now k.0 c.args.self.now k.1 c.requires.oldest in
     let small = sizes_small c.args.self.now.book.sectors c.args.self.now.book.sector_size (let h = k.1 in h.history.sizes) in
     let so_far = c.loop-node.invariant.few in
-    let one = one_most c.in-Ok.copied c.one_if-copies.result c.one_if-copies.ensures in
+    let one = one_most c.in_ok-handle.field-0 c.from.result c.from.ensures in
     omega arith
 
 pub loop-node-preserved : goal.loop-node-preserved
 loop-node-preserved g c =
     let v = c.loop-node.invariant in
-    let e = c.in-Ok.ensures in
-    let one = one_most c.in-Ok.copied c.one_if-copies.result c.one_if-copies.ensures in
+    let e = c.in_ok-handle.ensures in
+    let one = one_most c.in_ok-handle.field-0 c.from.result c.from.ensures in
     record {
       works = e.works;
       same = record { answers = e.same.answers ∙ v.same.answers; places = e.same.places ∙ v.same.places; closed = e.same.closed ∙ v.same.closed };
@@ -60,18 +62,18 @@ loop-node-preserved g c =
           let d = v.done past known in
           let h = d.1 in
           let among = its_known c.args.nodes.now past d.0 c.loop-node.node-index c.loop-node.copies c.node-item.result c.args.self.now c.loop-node.self known c.requires.oldest c.loop-node-test.true c.node-item.is h in
-          copying_goes_on c.args.nodes.now past d.0 c.loop-node.node-index c.loop-node.copies _ c.node-item.result c.in-Ok.copied c.args.self.now c.loop-node.self c.handle.new.self c.loop-node-test.true c.node-item.is v.sizes h
-          (e.handled d.0 h.stands.knows among) (ap (λ k. c.loop-node.copies + k) c.one_if-copies.ensures);
+          copying_goes_on c.args.nodes.now past d.0 c.loop-node.node-index c.loop-node.copies _ c.node-item.result c.in_ok-handle.field-0 c.args.self.now c.loop-node.self c.handle.new.self c.loop-node-test.true c.node-item.is v.sizes h
+          (e.handled d.0 h.stands.knows among) (ap (λ k. c.loop-node.copies + k) c.from.ensures);
     }
 
-pub returns-in-Err-clause-stopped : goal.returns-in-Err-clause-stopped
-returns-in-Err-clause-stopped g c = λ past known.
+pub returns-in_err-handle-clause-stopped : goal.returns-in_err-handle-clause-stopped
+returns-in_err-handle-clause-stopped g c = let p = err_from_is_err_and c.from_residual.result c.from_residual.ensures.1 in rw (p.1, p.2) λ past known.
     let d = c.loop-node.invariant.done past known in
     let h = d.1 in
     let among = its_known c.args.nodes.now past d.0 c.loop-node.node-index c.loop-node.copies c.node-item.result c.args.self.now c.loop-node.self known c.requires.oldest c.loop-node-test.true c.node-item.is h in (
       d.0,
-      copying_has_room c.args.nodes.now past d.0 c.loop-node.node-index c.loop-node.copies c.node-item.result c.in-Err.cause c.args.self.now c.loop-node.self c.handle.new.self known c.requires.oldest c.requires.several c.loop-node-test.true c.node-item.is h
-          (c.in-Err.ensures.stopped d.0 h.stands.knows among),
+      copying_has_room c.args.nodes.now past d.0 c.loop-node.node-index c.loop-node.copies c.node-item.result _ c.args.self.now c.loop-node.self c.handle.new.self known c.requires.oldest c.requires.several c.loop-node-test.true c.node-item.is h
+          (c.in_err-handle.ensures.stopped d.0 h.stands.knows among),
     )
 
 pub returns-clause-copied : goal.returns-clause-copied

@@ -1,4 +1,5 @@
 use Rattle.std.proofs.Common.{◌≡◌, ◌∙◌, true, false, length, sym, ap, arith}
+use Rattle.std.proofs.lemmas.Result.{err_from_is_err_and}
 use Rattle.jffs_log.specs.Book.{layout_in}
 use Rattle.jffs_log.specs.Cleaning.{Layout}
 use Rattle.jffs_core.specs.History.{IsOwnCopy}
@@ -17,9 +18,9 @@ overflow_add-erased g c =
 
 pub loop-self-preserved : goal.loop-self-preserved
 loop-self-preserved g c =
-    let e = c.in-Ok.ensures in
+    let e = c.in_ok-erase_oldest.ensures in
     let dead : IsDeadOldest c.loop-self.self = c.is_dead_oldest.ensures.0 c.loop-self-test.true in
-    erasing_goes_on c.loop-self.erased c.args.self.now c.loop-self.self c.erase_oldest.new.self c.loop-self.invariant dead e.works e.same e.sizes e.log e.erased c.in-Ok.ensures.erases
+    erasing_goes_on c.loop-self.erased c.args.self.now c.loop-self.self c.erase_oldest.new.self c.loop-self.invariant dead e.works e.same e.sizes e.log e.erased c.in_ok-erase_oldest.ensures.erases
 
 pub returns-clause-erased : goal.returns-clause-erased
 returns-clause-erased g c = λ past known.
@@ -29,20 +30,20 @@ returns-clause-erased g c = λ past known.
     true_false : true ≡ false → ⊥
     true_false e = cc
 
-pub returns-in-Err-clause-stopped : goal.returns-in-Err-clause-stopped
-returns-in-Err-clause-stopped g c = λ past known.
+pub returns-in_err-erase_oldest-clause-stopped : goal.returns-in_err-erase_oldest-clause-stopped
+returns-in_err-erase_oldest-clause-stopped g c = let p = err_from_is_err_and c.from_residual.result c.from_residual.ensures.1 in rw (p.1, p.2) λ past known.
     let d = c.loop-self.invariant.done past known in
-    refused_along (IsOwnCopy past) c.in-Err.cause past c.args.self.now c.loop-self.self c.erase_oldest.new.self d.faults (c.in-Err.ensures.refused past d.knows)
+    refused_along (IsOwnCopy past) _ past c.args.self.now c.loop-self.self c.erase_oldest.new.self d.faults (c.in_err-erase_oldest.ensures.refused past d.knows)
 
 pub returns-clause-erases : goal.returns-clause-erases
 returns-clause-erases g c = let v = c.loop-self.invariant in erased_along c.args.self.now c.loop-self.self c.loop-self.self v.erases (erased_none c.loop-self.self)
 
-pub returns-in-Err-clause-erases : goal.returns-in-Err-clause-erases
-returns-in-Err-clause-erases g c = let v = c.loop-self.invariant in erased_along c.args.self.now c.loop-self.self c.erase_oldest.new.self v.erases c.in-Err.ensures.erases
+pub returns-in_err-erase_oldest-clause-erases : goal.returns-in_err-erase_oldest-clause-erases
+returns-in_err-erase_oldest-clause-erases g c = let v = c.loop-self.invariant in erased_along c.args.self.now c.loop-self.self c.erase_oldest.new.self v.erases c.in_err-erase_oldest.ensures.erases
 
 pub loop-self-smaller : goal.loop-self-smaller
 loop-self-smaller g c =
-    let e = ap (λ (l : Layout). length l.sectors) c.in-Ok.ensures.log in
+    let e = ap (λ (l : Layout). length l.sectors) c.in_ok-erase_oldest.ensures.log in
     let dead : IsDeadOldest c.loop-self.self = c.is_dead_oldest.ensures.0 c.loop-self-test.true in
     let f = one_fewer (layout_in c.loop-self.self.image c.loop-self.self.book).sectors dead.several in
     omega arith

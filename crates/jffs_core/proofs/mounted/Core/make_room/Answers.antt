@@ -1,4 +1,5 @@
 use Rattle.std.proofs.Common.{◌≡◌, ◌∙◌, ◌-◌, ◌+◌, ◌≤◌, suc, length, inl, inr, sym, ap, subst, arith}
+use Rattle.std.proofs.lemmas.Result.{err_from_is_err_and}
 use Rattle.jffs_log.specs.Book.{layout_in}
 use Rattle.jffs_core.specs.declared.cleaning.Cleaned.{Cleaned}
 use Rattle.jffs_core.specs.Standing.{Standing}
@@ -21,26 +22,26 @@ returns-then-has_room-clause-made g c = λ past known.
     let d = c.loop-turn.invariant.done past known in
     (d.0, turning_ends c.args.len _ past d.0 c.args.self.now c.loop-turn.self d.1 (inr (sym c.has_room.ensures ∙ c.if-has_room.true)))
 
-pub returns-in-Ok-OneSector-clause-made : goal.returns-in-Ok-OneSector-clause-made
-returns-in-Ok-OneSector-clause-made g c = λ past known.
+pub returns-in-OneSector-clause-made : goal.returns-in-OneSector-clause-made
+returns-in-OneSector-clause-made g c = λ past known.
     let d = c.loop-turn.invariant.done past known in
     let h = d.1 in
-    let one = subst (λ (done : Cleaned). DidClean done d.0 c.loop-turn.self c.clean_one.new.self) c.in-Ok-OneSector.field-0-is (c.in-Ok-OneSector.ensures.cleaned d.0 h.stands.knows) in
+    let one = subst (λ (done : Cleaned). DidClean done d.0 c.loop-turn.self c.clean_one.new.self) c.in-OneSector.is (c.in_ok-clean_one.ensures.cleaned d.0 h.stands.knows) in
     let few = one.1 in
     let several = full_has_several c.args.len d.0 c.loop-turn.self h.stands.knows (sym c.has_room.ensures ∙ c.if-has_room.false) in
     absurd (omega arith)
 
-pub returns-in-Err-clause-refused : goal.returns-in-Err-clause-refused
-returns-in-Err-clause-refused g c = λ past known.
+pub returns-in_err-clean_one-clause-refused : goal.returns-in_err-clean_one-clause-refused
+returns-in_err-clean_one-clause-refused g c = let p = err_from_is_err_and c.from_residual.result c.from_residual.ensures.1 in rw (p.1, p.2) λ past known.
     let d = c.loop-turn.invariant.done past known in
     let h = d.1 in
-    let s = c.in-Err.ensures.stopped d.0 h.stands.knows in
-    (s.0, turning_stopped c.args.len _ past d.0 s.0 c.in-Err.cause c.args.self.now c.loop-turn.self c.clean_one.new.self h (let one = s.1 in one.stopped))
+    let s = c.in_err-clean_one.ensures.stopped d.0 h.stands.knows in
+    (s.0, turning_stopped c.args.len _ past d.0 s.0 _ c.args.self.now c.loop-turn.self c.clean_one.new.self h (let one = s.1 in one.stopped))
 
 pub loop-turn-preserved : goal.loop-turn-preserved
 loop-turn-preserved g c =
     let v = c.loop-turn.invariant in
-    let e = c.in-Ok-Erased.ensures in
+    let e = c.in_ok-clean_one.ensures in
     let left : c.held-turn-end.result - c.loop-turn.turn ≡ suc (c.held-turn-end.result - (c.loop-turn.turn + 1)) = omega arith in
     record {
       works = e.works;
@@ -50,10 +51,10 @@ loop-turn-preserved g c =
       done = λ past known.
           let d = v.done past known in
           let h : HasTurned c.args.len (c.held-turn-end.result - c.loop-turn.turn) past d.0 c.args.self.now c.loop-turn.self = d.1 in
-          let k = subst (λ (done : Cleaned). DidClean done d.0 c.loop-turn.self c.clean_one.new.self) c.in-Ok-Erased.field-0-is (e.cleaned d.0 h.stands.knows) in
+          let k = subst (λ (done : Cleaned). DidClean done d.0 c.loop-turn.self c.clean_one.new.self) c.in-Erased.is (e.cleaned d.0 h.stands.knows) in
           let later = k.2 in (
             later.0,
-            turning_goes_on c.args.len _ c.in-Ok-Erased.field-0-1 past d.0 later.0 c.args.self.now c.loop-turn.self c.clean_one.new.self v.sizes (subst (λ j. HasTurned c.args.len j past d.0 c.args.self.now c.loop-turn.self) left h)
+            turning_goes_on c.args.len _ c.in-Erased.copies past d.0 later.0 c.args.self.now c.loop-turn.self c.clean_one.new.self v.sizes (subst (λ j. HasTurned c.args.len j past d.0 c.args.self.now c.loop-turn.self) left h)
                 (sym c.has_room.ensures ∙ c.if-has_room.false) k.1 later.1,
           );
     }

@@ -3,9 +3,9 @@ use Rattle.jffs_log.specs.Image.{Sector, sector_of}
 use Rattle.jffs_log.proofs.OldestNodes.{oldest_read}
 use Rattle.jffs_log.proofs.log.Log.oldest_nodes.Goals as goal
 
-pub returns-in-Ok-clause-nodes : goal.returns-in-Ok-clause-nodes
-returns-in-Ok-clause-nodes g c =
+pub returns-clause-nodes : goal.returns-clause-nodes
+returns-clause-nodes g c =
     c.into_nodes.ensures.value
-    ∙ ap (λ (s : ℕ × Sector). s.1.reading.nodes) c.in-Ok.ensures.read
+    ∙ ap (λ (s : ℕ × Sector). s.1.reading.nodes) c.in_ok-read.ensures.read
     ∙ ap (λ (bytes : List ℕ). (sector_of bytes).reading.nodes) (c.deref.ensures.value ∙ c.in_ok-bytes.ensures.bytes)
     ∙ oldest_read _ _ _ _ _ _ _ _ _ c.requires.book c.requires.some

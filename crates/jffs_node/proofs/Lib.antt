@@ -2,6 +2,7 @@ pub mod Fields
 pub mod Lawfulness
 pub mod Found
 pub mod Sound
+pub mod Each
 pub mod Names
 pub mod Rules
 pub mod Decoded

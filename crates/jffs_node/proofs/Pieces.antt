@@ -1,6 +1,6 @@
 -- The pieces of a text between its slashes, and the answer that they make.
 use Rattle.std.proofs.Common.{◌≡◌, ℕ, zero, suc, ◌+◌, ◌-◌, ◌<◌, ◌≤◌, Bool, true, false, cond, not, ◌&&◌, ◌||◌, eqb, leb, ltb, IsTrue, List, [], ◌∷◌, ◌++◌, length, take, drop, Option, Some, None, Ok, refl, sym, ap, ◌∙◌, ⊎_elim, append_assoc, arith, length-append, length-drop}
-use Rattle.std.specs.List.{AllByRecursion, list_all, slice_split, position, position_or_len, onto_first}
+use Rattle.std.specs.List.{list_all, slice_split, position, position_or_len, onto_first}
 use Rattle.std.proofs.lemmas.Bool.{cases_Bool, and_from, le-leb, ltb-true, ltb-false, false_from_ne_true}
 use Rattle.std.proofs.lemmas.Option.{none-some, cond_some}
 use Rattle.std.proofs.lemmas.List.{take_all}
@@ -8,6 +8,7 @@ use Rattle.std.proofs.lemmas.List.Splits.{slice_split_first, slice_split-cons_no
 use Rattle.jffs_node.specs.declared.path.PathFault.{PathFault}
 use Rattle.jffs_node.specs.declared.path.PathFault.TheVariants.{NameEmpty, NameLong, NameByte, Deep}
 use Rattle.jffs_node.specs.Name.{is_name, is_name_byte}
+use Rattle.jffs_node.proofs.Each.{each_append}
 use Rattle.jffs_node.proofs.Rules.{ok_differs, ok_same}
 use Rattle.jffs_node.specs.Path.{IsPath, name_fault, names_fault, or_else, unless_fault, answer_after, named, unless_bad}
 
@@ -78,8 +79,4 @@ named_well name h =
 pub path_more : (names : List (List ℕ)) (name : List ℕ) → IsPath names → length names < 8 → name_fault name ≡ None → IsPath (names ++ name ∷ [])
 path_more names name is few h =
     let l = length-append names (name ∷ []) in
-    record { short = omega arith; each = each_more names is.each }
-  where
-    each_more : (xs : List (List ℕ)) → AllByRecursion (λ n. IsTrue (is_name n)) xs → AllByRecursion (λ n. IsTrue (is_name n)) (xs ++ name ∷ [])
-    each_more [] a = (named_well name h, tt)
-    each_more (x ∷ xs) a = (a.0, each_more xs a.1)
+    record { short = omega arith; each = each_append (λ n. IsTrue (is_name n)) names (name ∷ []) is.each (named_well name h, tt) }

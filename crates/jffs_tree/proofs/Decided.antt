@@ -1,5 +1,5 @@
 -- A decided node keeps the rules, wish by wish.
-use Rattle.std.proofs.Common.{◌≡◌, ℕ, zero, suc, min, max, ◌+◌, ◌-◌, ◌<◌, ◌≤◌, Bool, true, false, cond, not, ◌&&◌, ◌||◌, eqb, leb, ltb, IsTrue, List, [], ◌∷◌, length, take, drop, get_or, ⊎_elim, Option, Some, None, is_none, is_some, unwrap_or, Ok, Err, bytes_eq, refl, sym, ap, subst, ◌∙◌, arith}
+use Rattle.std.proofs.Common.{◌≡◌, ℕ, min, max, ◌+◌, ◌-◌, ◌<◌, ◌≤◌, Bool, true, false, cond, not, ◌&&◌, ◌||◌, eqb, leb, ltb, IsTrue, List, [], ◌∷◌, length, take, drop, get_or, ⊎_elim, Option, Some, None, is_none, is_some, unwrap_or, Ok, Err, bytes_eq, refl, sym, ap, subst, ◌∙◌, arith}
 use Rattle.std.specs.List.{AllByRecursion}
 use Rattle.std.specs.Option.{option_map_or}
 use Rattle.std.proofs.lemmas.Bool.{leb-true, le-leb, ltb-false, eqb-false, and_parts, or_parts, not-false}
@@ -27,10 +27,11 @@ use Rattle.jffs_tree.proofs.There.{resolved_there}
 use Rattle.jffs_tree.proofs.Copies.{same_bytes, the_holder, holder_is_there, same_front}
 use Rattle.jffs_tree.proofs.Resolving.{led_within, led_to_last, the_parent, the_inode, nothing_there}
 use Rattle.jffs_node.proofs.Lawfulness.{lawful_from}
+use Rattle.jffs_node.proofs.Each.{each_at}
 use Rattle.jffs_node.proofs.Rules.{ok_same}
 use Rattle.std.proofs.Math.Nat.{min-le_right}
-use Rattle.jffs_tree.proofs.Entries.{lawful_entry}
-use Rattle.jffs_tree.proofs.Ruled.{check_parts, each_fits_from, keeps_past}
+use Rattle.jffs_tree.proofs.Entries.{each_fits_from, lawful_entry}
+use Rattle.jffs_tree.proofs.Ruled.{check_parts, keeps_past}
 use Rattle.jffs_tree.proofs.Changing.{Keeps, IsHome, its_file, write_keeps, truncate_keeps, copy_keeps, remove_keeps, rename_keeps, create_keeps, make_directory_keeps}
 
 -- a decision that gave a node passed all tests, and gave that node
@@ -46,11 +47,6 @@ all_passed (c ∷ causes) n m is = one (λ h. all_passed causes n m h) c.0 refl 
 given : (o : Option ℕ) → is_none o ≡ false → o ≡ Some (unwrap_or o 0)
 given None h = cc
 given (Some k) h = refl
-
-last_of : (path : List (List ℕ)) (k : ℕ) → k < length path → AllByRecursion (λ name. IsTrue (is_name name)) path → is_name (get_or path k []) ≡ true
-last_of [] k l h = absurd (omega arith)
-last_of (name ∷ path) zero l h = h.0
-last_of (name ∷ path) (suc k) l h = last_of path k (omega arith) h.1
 
 -- a write's node has at most the write's data
 written_data : {most : ℕ} (i : ℕ) (e : Entry) (offset : ℕ) (bytes : List ℕ) → length bytes ≤ most → length (write_node i e offset bytes).bytes ≤ most
@@ -126,7 +122,7 @@ module _ (past : List Node) (limits : Limits) (version writer seq : ℕ) (before
       record {
         directory = p.1;
         within = led_within (state_of_past past) (sorted-state past) (take (length path - 1) path) 0 7 1 (unwrap_or (parent_in (state_of_past past) path) 0) (omega arith) refl p.0;
-        lawful = last_of path (length path - 1) (omega arith) names.each;
+        lawful = each_at (λ name. IsTrue (is_name name)) path (length path - 1) [] (omega arith) names.each;
         free = sym (led_to_last (state_of_past past) path (unwrap_or (parent_in (state_of_past past) path) 0) root p.0) ∙ nothing_there (state_of_past past) path free;
       }
 

@@ -2,7 +2,7 @@
 use Rattle.std.proofs.Common.{◌≡◌, ℕ, ◌+◌, ◌<◌, ◌≤◌, ◌^◌, Bool, true, false, not, ◌&&◌, ◌||◌, eqb, leb, IsTrue, List, [], ◌∷◌, length, get_or, ◌⊎◌, inl, inr, ⊎_elim, Option, Some, None, is_none, unwrap_or, refl, sym, ap, subst, ◌∙◌, arith}
 use Rattle.std.specs.List.{AllByRecursion}
 use Rattle.std.specs.Option.{option_map_or}
-use Rattle.std.proofs.lemmas.Bool.{eqb-true, leb-true, and_parts, or_cases, cases_Bool, cases_lt, both_ways}
+use Rattle.std.proofs.lemmas.Bool.{eqb-true, leb-true, and_parts, and_from, or_cases, cases_Bool, cases_lt, both_ways}
 use Rattle.std.proofs.lemmas.Option.{none-some, same_Some}
 use Rattle.std.proofs.lemmas.List.{get_or_past, nil_from_length}
 use Rattle.jffs_node.specs.declared.node.Node.{Node}
@@ -147,12 +147,17 @@ module _ (n : Node) (past : List Node) (lawful : is_lawful n ≡ true) (stands :
   lawful_written = ⊎_elim (λ file. file_written file) (λ directory. directory_written directory) (which_kind n.kind stands)
 
 -- A node of a list that fits fits at its turn.
-fits_parts : (n : Node) (past : List Node) → each_fits (n ∷ past) ≡ true → (each_fits past ≡ true) × (keeps_kind past n ≡ true) × (keeps_places past n ≡ true)
+pub fits_parts : (n : Node) (past : List Node) → each_fits (n ∷ past) ≡ true → (each_fits past ≡ true) × (keeps_kind past n ≡ true) × (keeps_places past n ≡ true) × (keeps_form past n ≡ true)
 fits_parts n past h =
     let a = and_parts (each_fits past && keeps_kind past n && keeps_places past n) (keeps_form past n) h in
     let b = and_parts (each_fits past && keeps_kind past n) (keeps_places past n) a.0 in
     let c = and_parts (each_fits past) (keeps_kind past n) b.0 in
-    (c.0, c.1, b.1)
+    (c.0, c.1, b.1, a.1)
+
+pub each_fits_from : (n : Node) (past : List Node) → each_fits past ≡ true → keeps_kind past n ≡ true → keeps_places past n ≡ true → keeps_form past n ≡ true → each_fits (n ∷ past) ≡ true
+each_fits_from n past a k p f =
+    and_from ((each_fits past && keeps_kind past n) && keeps_places past n) (keeps_form past n)
+    (and_from (each_fits past && keeps_kind past n) (keeps_places past n) (and_from (each_fits past) (keeps_kind past n) a k) p) f
 
 pub lawful_entry : (past : List Node) (i : ℕ) (e : Entry) → AllByRecursion (λ n. IsTrue (is_lawful n)) past → each_fits past ≡ true → entry past i ≡ Some e → IsLawfulEntry i e
 lawful_entry [] i e lawful fits is = cc

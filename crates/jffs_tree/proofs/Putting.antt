@@ -16,7 +16,8 @@ use Rattle.jffs_tree.proofs.Pointwise.{at-state}
 use Rattle.jffs_tree.proofs.Steps.{entry-other, entry-deleted, entry-written}
 use Rattle.jffs_tree.proofs.Kept.{IsPutIn, IsGoneIn, put_keeps, gone_keeps}
 use Rattle.jffs_node.proofs.Lawfulness.{HasRange, HasNoRange, lawful_from, no_range_from, file_numbers_from, directory_numbers_from}
-use Rattle.jffs_tree.proofs.Ruled.{check_parts, each_fits_from, keeps_past}
+use Rattle.jffs_tree.proofs.Entries.{each_fits_from}
+use Rattle.jffs_tree.proofs.Ruled.{check_parts, keeps_past}
 
 -- a file's node, with the size that it states
 pub record IsFileNode (past : List Node) (n : Node) : Type 0 where

@@ -10,7 +10,7 @@ use Rattle.jffs_node.specs.declared.node.Kind.TheVariants.{File}
 use Rattle.jffs_node.specs.Record.{is_lawful}
 use Rattle.jffs_tree.specs.State.{Entry, State, bytes_of, written, state_of_past}
 use Rattle.jffs_tree.specs.Origin.{Held, concerns, entry, size_in, origin, newest, held, tree_of, version_of, writers_of, has_size}
-use Rattle.jffs_tree.specs.Check.{keeps_kind, keeps_places, keeps_form, each_fits, parents_are_there, names_differ, is_within, bytes_are_written, check}
+use Rattle.jffs_tree.specs.Check.{each_fits, parents_are_there, names_differ, is_within, bytes_are_written, check}
 use Rattle.jffs_tree.specs.Deciding.{IsLawfulPast}
 use Rattle.jffs_tree.proofs.Pointwise.{at-state, sorted-state}
 use Rattle.jffs_tree.proofs.Steps.{entry-other, entry-deleted, entry-written, newest-written}
@@ -51,11 +51,6 @@ check_from past o w =
     same_check past
     ∙ and_from ((parents_are_there s && names_differ s) && list_all (λ (h : ℕ × Held). bytes_are_written h.1) (tree_of past)) (list_all (λ (e : ℕ × Entry). is_within 8 s e.0) s)
     (and_from (parents_are_there s && names_differ s) (list_all (λ (h : ℕ × Held). bytes_are_written h.1) (tree_of past)) (and_from (parents_are_there s) (names_differ s) rules.0 rules.1) written_all) rules.2
-
-pub each_fits_from : (n : Node) (past : List Node) → each_fits past ≡ true → keeps_kind past n ≡ true → keeps_places past n ≡ true → keeps_form past n ≡ true → each_fits (n ∷ past) ≡ true
-each_fits_from n past a k p f =
-    and_from ((each_fits past && keeps_kind past n) && keeps_places past n) (keeps_form past n)
-    (and_from (each_fits past && keeps_kind past n) (keeps_places past n) (and_from (each_fits past) (keeps_kind past n) a k) p) f
 
 -- A file's node states the size, and a directory has no bytes.
 module _ (n : Node) (past : List Node) (lawful : AllByRecursion (λ m. IsTrue (is_lawful m)) (n ∷ past)) (fits : each_fits (n ∷ past) ≡ true)

@@ -1,9 +1,10 @@
 -- Rings are emptied from the last one on.
-use Rattle.std.proofs.Common.{◌≡◌, ◌≢◌, ℕ, suc, Bool, true, false, cond, eqb, List, [], ◌∷◌, ◌++◌, map, get_or, sym, refl, ap, ap₂, ◌∙◌, subst, append_assoc, append-nil, arith}
+use Rattle.std.proofs.Common.{◌≡◌, ◌≢◌, ℕ, suc, Bool, cond, eqb, List, [], ◌∷◌, ◌++◌, map, get_or, sym, refl, ap, ap₂, ◌∙◌, subst, append_assoc, append-nil, arith}
 use Rattle.std.specs.List.{All, Contains}
-use Rattle.std.proofs.lemmas.Bool.{eq-eqb, ne_eqb}
+use Rattle.std.proofs.lemmas.Bool.{eq-eqb, ne_eqb, cond-true, cond-false, cond_both}
 use Rattle.std.proofs.lemmas.List.{map-append}
-use Rattle.std.proofs.lemmas.List.Elements.{All-nil, All-cons, All-head, All-tail, filter-append}
+use Rattle.std.proofs.lemmas.List.Elements.{All-nil, All-cons, All-head, All-tail, All-map, filter-append}
+use mathlib.Core.List.{map-map}
 use Rattle.jffs_line.specs.declared.request.Request.{Request}
 use Rattle.jffs_line.specs.declared.rings.Note.{Note}
 use Rattle.jffs_line.specs.declared.rings.Ring.{Ring}
@@ -12,8 +13,8 @@ use Rattle.rtrb.specs.Ring.{sent}
 use Rattle.jffs_line.specs.Line.{End}
 use Rattle.jffs_line.specs.Requests.{of}
 use Rattle.jffs_line.specs.Rings.{as_request, ring_end, ring_hand_end, ring_taken, ring_accepted, taken_in, Apart}
-use Rattle.jffs_line.proofs.Ringing.{All-mapped, numbers}
-use Rattle.jffs_line.proofs.Settling.{All-right}
+use Rattle.jffs_line.proofs.Lists.{All-right, All-mapped}
+use Rattle.jffs_line.proofs.Ringing.{numbers}
 
 abbrev pub hand_numbers : List RingHand → List ℕ
 hand_numbers hs = map (λ (h : RingHand). h.number) hs
@@ -25,8 +26,7 @@ abbrev pub IsNot : ℕ → RingHand → Type 0
 IsNot w h = h.number ≢ w
 
 all_by : (w : ℕ) (notes : List Note) → All (IsBy w) (map (as_request w) notes)
-all_by w [] = All-nil (IsBy w)
-all_by w (n ∷ ns) = All-cons (IsBy w) (as_request w n) (map (as_request w) ns) refl (all_by w ns)
+all_by w notes = All-map (IsBy w) (as_request w) notes (λ k d h. refl)
 
 of_own : (w : ℕ) (rs : List Request) → All (IsBy w) rs → of w rs ≡ rs
 of_own w [] h = refl
@@ -69,15 +69,14 @@ last_ends (q ∷ rs) r (g ∷ hs) h e =
 
 taken_there : (rs : List Ring) (r : Ring) (gone : List Ring) (hs : List RingHand) → map ring_end rs ≡ map ring_hand_end hs → All (λ (h : RingHand). h.number ≢ r.number) hs
     → taken_in r.number (rs ++ r ∷ gone) ≡ ring_taken r
-taken_there [] r gone hs e apart = ap (λ (b : Bool). cond b (ring_taken r) (taken_in r.number gone)) (eq-eqb r.number r.number refl)
+taken_there [] r gone hs e apart = cond-true _ _ _ (eq-eqb r.number r.number refl)
 taken_there (q ∷ rs) r gone [] e apart = cc
 taken_there (q ∷ rs) r gone (g ∷ hs) e apart =
     let first : ring_end q ≡ ring_hand_end g = cc in
     let rest : map ring_end rs ≡ map ring_hand_end hs = cc in
     let P : RingHand → Type 0 = λ h. h.number ≢ r.number in
     let other : q.number ≢ r.number = λ same. All-head P g hs apart (sym (ap (λ (x : End). x.0) first) ∙ same) in
-    ap (λ (b : Bool). cond b (ring_taken q) (taken_in r.number (rs ++ r ∷ gone))) (ne_eqb q.number r.number other)
-    ∙ taken_there rs r gone hs rest (All-tail P g hs apart)
+    cond-false _ _ _ (ne_eqb q.number r.number other) ∙ taken_there rs r gone hs rest (All-tail P g hs apart)
 
 -- some rings are empty, those of the last hands, and what waited there is all of what waited of these senders
 pub record AreEmptied (all_rings : List Ring) (all_hands : List RingHand) (rings : List Ring) (hands : List RingHand) (waiting : List Request) : Type 0 where
@@ -152,22 +151,13 @@ none_taken (r ∷ rs) (h ∷ hs) w e none =
     let first : ring_end r ≡ ring_hand_end h = cc in
     let rest : map ring_end rs ≡ map ring_hand_end hs = cc in
     let other : r.number ≢ w = λ same. All-head (IsNot w) h hs none (sym (ap (λ (x : End). x.0) first) ∙ same) in
-    ap (λ (b : Bool). cond b (ring_taken r) (taken_in w rs)) (ne_eqb r.number w other) ∙ none_taken rs hs w rest (All-tail (IsNot w) h hs none)
+    cond-false _ _ _ (ne_eqb r.number w other) ∙ none_taken rs hs w rest (All-tail (IsNot w) h hs none)
 
 pub numbers_are : (rs : List Ring) (hs : List RingHand) → map ring_end rs ≡ map ring_hand_end hs → numbers rs ≡ hand_numbers hs
-numbers_are [] [] e = refl
-numbers_are [] (h ∷ hs) e = cc
-numbers_are (r ∷ rs) [] e = cc
-numbers_are (r ∷ rs) (h ∷ hs) e =
-    let first : ring_end r ≡ ring_hand_end h = cc in
-    let rest : map ring_end rs ≡ map ring_hand_end hs = cc in
-    ap₂ (λ (n : ℕ) (l : List ℕ). n ∷ l) (ap (λ (x : End). x.0) first) (numbers_are rs hs rest)
-
-same_either : (b : Bool) → cond {A = List Request} b [] [] ≡ []
-same_either true = refl
-same_either false = refl
+numbers_are rs hs e = sym (map-map (λ (x : End). x.0) ring_end rs) ∙ ap (map (λ (x : End). x.0)) e ∙ map-map (λ (x : End). x.0) ring_hand_end hs
 
 pub taken_of_fresh : (rs : List Ring) (w : ℕ) → All (λ (r : Ring). ring_taken r ≡ []) rs → taken_in w rs ≡ []
 taken_of_fresh [] w h = refl
 taken_of_fresh (r ∷ rs) w h =
-    ap₂ (cond (eqb r.number w)) (All-head (λ (r : Ring). ring_taken r ≡ []) r rs h) (taken_of_fresh rs w (All-tail (λ (r : Ring). ring_taken r ≡ []) r rs h)) ∙ same_either (eqb r.number w)
+    let P : Ring → Type 0 = λ q. ring_taken q ≡ [] in
+    cond_both (eqb r.number w) (ring_taken r) (taken_in w rs) (λ (l : List Request). l ≡ []) (λ _. All-head P r rs h) (λ _. taken_of_fresh rs w (All-tail P r rs h))

@@ -1,4 +1,5 @@
 pub mod Emptying
+pub mod Lists
 pub mod Making
 pub mod RingMaking
 pub mod Ringing

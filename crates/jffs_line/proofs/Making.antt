@@ -1,9 +1,10 @@
 -- The making of a shared line.
-use Rattle.std.proofs.Common.{◌≡◌, ◌≢◌, ℕ, zero, suc, ◌+◌, ◌-◌, ◌<◌, ◌≤◌, true, List, [], ◌∷◌, ◌++◌, map, drop, sym, refl, ap, ap₂, ◌∙◌, subst, arith}
+use Rattle.std.proofs.Common.{◌≡◌, ◌≢◌, ℕ, zero, suc, ◌+◌, ◌-◌, ◌<◌, ◌≤◌, true, List, [], ◌∷◌, ◌++◌, map, drop, sym, ap, ap₂, ◌∙◌, subst, map-id, arith}
 use Rattle.std.specs.List.{All, range_with_len}
 use Rattle.std.proofs.lemmas.List.{map-append}
 use Rattle.std.proofs.lemmas.List.Elements.{All-nil, All-cons, All-weaker}
 use Rattle.std.proofs.lemmas.List.FromFn.{map-range_with_len_more}
+use mathlib.Core.List.{map-map}
 use Rattle.jffs_line.specs.declared.knows.Sent.{Sent}
 use Rattle.jffs_line.specs.declared.knows.Knows.{Knows}
 use Rattle.jffs_line.specs.declared.shared.SharedHand.{SharedHand}
@@ -46,13 +47,7 @@ module _ (line : Line) where
       map-append shared_end hs (cleaner ∷ control ∷ []) ∙ ap (λ (l : List End). l ++ shared_end cleaner ∷ shared_end control ∷ []) es
       ∙ ap₂ (λ (a b : End). map named (range_with_len 1 n) ++ a ∷ b ∷ []) e f ∙ sym (map-append named (range_with_len 1 n) (9 ∷ 10 ∷ []))
 
-  numbers_named : (ws : List ℕ) → map (λ (e : End). e.0) (map named ws) ≡ ws
-  numbers_named [] = refl
-  numbers_named (w ∷ ws) = ap (λ (l : List ℕ). w ∷ l) (numbers_named ws)
-
-numbers_of : (hs : List SharedHand) → map (λ (e : End). e.0) (map shared_end hs) ≡ map (λ (h : SharedHand). h.number) hs
-numbers_of [] = refl
-numbers_of (h ∷ hs) = ap (λ (l : List ℕ). h.number ∷ l) (numbers_of hs)
-
 pub numbers_all : (line : Line) (hs : List SharedHand) (n : ℕ) → map shared_end hs ≡ map (named line) (senders n) → map (λ (h : SharedHand). h.number) hs ≡ senders n
-numbers_all line hs n e = sym (numbers_of hs) ∙ ap (map (λ (e : End). e.0)) e ∙ numbers_named line (senders n)
+numbers_all line hs n e =
+    sym (map-map (λ (x : End). x.0) shared_end hs) ∙ ap (map (λ (x : End). x.0)) e
+    ∙ map-map (λ (x : End). x.0) (named line) (senders n) ∙ map-id (senders n)

@@ -1,27 +1,18 @@
 -- One more accepted request has the next number.
-use Rattle.std.proofs.Common.{◌≡◌, ℕ, zero, suc, ◌+◌, List, [], ◌∷◌, ◌++◌, map, sym, ap, ap₂, ◌∙◌, arith}
+use Rattle.std.proofs.Common.{◌≡◌, ℕ, ◌+◌, List, [], ◌∷◌, ◌++◌, map, sym, ap, ap₂, ◌∙◌}
 use Rattle.std.specs.List.{range_with_len}
 use Rattle.std.proofs.lemmas.List.{map-append}
 use Rattle.jffs_line.specs.declared.request.Request.{Request}
 use Rattle.jffs_line.specs.declared.rings.Note.{Note}
 use Rattle.jffs_line.specs.declared.knows.Knows.{Knows}
 use Rattle.jffs_line.specs.InOrder.{hand_knows, accepted_of, first_accepted, sent_by, HandsIn}
+use Rattle.jffs_line.proofs.Lists.{range_more}
 
 abbrev seqs : List Request → List ℕ
 seqs rs = map (λ (r : Request). r.seq) rs
 
--- one number more at the end
-range-more : (a n : ℕ) → range_with_len a (suc n) ≡ range_with_len a n ++ (a + n) ∷ []
-range-more a zero = ap (λ (m : ℕ). m ∷ []) (omega arith)
-range-more a (suc n) =
-    let e : a + 1 + n ≡ a + suc n = omega arith in
-    ap (λ (ms : List ℕ). a ∷ ms) (range-more (a + 1) n ∙ ap (λ (m : ℕ). range_with_len (a + 1) n ++ m ∷ []) e)
-
 more : (ns : List ℕ) (k n : ℕ) → ns ≡ range_with_len 1 n → k ≡ n + 1 → ns ++ k ∷ [] ≡ range_with_len 1 (n + 1)
-more ns k n e f =
-    let one : n + 1 ≡ suc n = omega arith in
-    let last : k ≡ 1 + n = omega arith in
-    ap₂ (λ (ms : List ℕ) (m : ℕ). ms ++ m ∷ []) e last ∙ sym (range-more 1 n) ∙ ap (λ (m : ℕ). range_with_len 1 m) (sym one)
+more ns k n e f = ap₂ (λ (ms : List ℕ) (m : ℕ). ms ++ m ∷ []) e f ∙ sym (range_more n)
 
 -- what a hand's pass knows after a request was handed in
 pub accepted-handed_in : (v u : Knows) (x : Request) (w : ℕ) → v ≡ hand_knows w (accepted_of v) → HandsIn v x u → accepted_of u ≡ accepted_of v ++ x ∷ []

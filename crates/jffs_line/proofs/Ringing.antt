@@ -1,15 +1,17 @@
 -- A step on one ring of several.
-use Rattle.std.proofs.Common.{◌≡◌, ◌≢◌, ℕ, zero, suc, ◌+◌, ◌-◌, ◌<◌, ◌≤◌, Bool, true, false, cond, eqb, List, [], ◌∷◌, ◌++◌, map, length, get_or, set, sym, refl, ap, ap₂, ◌∙◌, subst, ⊎_elim, append-nil, arith, Option, Some, None, IfSome, IfNone, vec_len}
+use Rattle.std.proofs.Common.{◌≡◌, ◌≢◌, ℕ, zero, suc, ◌+◌, ◌-◌, ◌<◌, ◌≤◌, Bool, true, false, cond, eqb, List, [], ◌∷◌, ◌++◌, map, length, get_or, set, sym, refl, ap, ap₂, ◌∙◌, subst, ⊎_elim, append-nil, arith, Option, Some, None, IfNone, vec_len}
 use Rattle.std.specs.List.{All, range_with_len}
-use Rattle.std.proofs.lemmas.Bool.{ne_eqb}
+use Rattle.std.proofs.lemmas.Bool.{ne_eqb, cond-true, cond-false}
 use Rattle.std.proofs.lemmas.Bool.Decides.{eqb_tells}
-use Rattle.std.proofs.lemmas.List.Elements.{All-nil, All-cons, All-head, All-tail, All-weaker, All-append, All-get_or}
+use Rattle.std.proofs.lemmas.List.Elements.{All-nil, All-cons, All-weaker, All-append, All-get_or}
+use mathlib.Core.List.{map-map}
 use Rattle.jffs_line.specs.declared.request.Request.{Request}
 use Rattle.jffs_line.specs.declared.rings.Ring.{Ring}
 use Rattle.jffs_line.specs.declared.rings.RingTaker.{RingTaker}
 use Rattle.jffs_line.specs.Line.{End, senders}
 use Rattle.jffs_line.specs.Requests.{of}
 use Rattle.jffs_line.specs.Rings.{ring_end, ring_taken, taken_in, Apart}
+use Rattle.jffs_line.proofs.Lists.{All-mapped}
 
 later : (k n : ℕ) → All (λ (m : ℕ). k < m) (range_with_len (k + 1) n)
 later k zero = All-nil (λ (m : ℕ). k < m)
@@ -28,16 +30,8 @@ apart_from k (suc n) h =
 pub apart_senders : (n : ℕ) → n ≤ 8 → Apart (senders n)
 apart_senders n h = apart_from 1 n (omega arith)
 
-pub All-mapped : {X Y : Type 0} (P : Y → Type 0) (f : X → Y) (xs : List X) → All P (map f xs) → All (λ x. P (f x)) xs
-All-mapped P f [] h = All-nil (λ x. P (f x))
-All-mapped P f (x ∷ xs) h = All-cons (λ x. P (f x)) x xs (All-head P (f x) (map f xs) h) (All-mapped P f xs (All-tail P (f x) (map f xs) h))
-
 abbrev pub numbers : List Ring → List ℕ
 numbers rs = map (λ (r : Ring). r.number) rs
-
-numbers_by_ends : (rs : List Ring) → map (λ (e : End). e.0) (map ring_end rs) ≡ numbers rs
-numbers_by_ends [] = refl
-numbers_by_ends (r ∷ rs) = ap (λ (l : List ℕ). r.number ∷ l) (numbers_by_ends rs)
 
 pub ends_kept : (rs : List Ring) (i : ℕ) (r new : Ring) → i < length rs → r ≡ get_or rs i r → ring_end new ≡ ring_end r → map ring_end (set rs i new) ≡ map ring_end rs
 ends_kept [] i r new h is e = refl
@@ -45,7 +39,8 @@ ends_kept (x ∷ rs) zero r new h is e = ap (λ (y : End). y ∷ map ring_end rs
 ends_kept (x ∷ rs) (suc i) r new h is e = ap (λ (l : List End). ring_end x ∷ l) (ends_kept rs i r new (omega arith) is e)
 
 pub numbers_kept : (rs : List Ring) (i : ℕ) (r new : Ring) → i < length rs → r ≡ get_or rs i r → ring_end new ≡ ring_end r → numbers (set rs i new) ≡ numbers rs
-numbers_kept rs i r new h is e = sym (numbers_by_ends (set rs i new)) ∙ ap (map (λ (y : End). y.0)) (ends_kept rs i r new h is e) ∙ numbers_by_ends rs
+numbers_kept rs i r new h is e =
+    sym (map-map (λ (y : End). y.0) ring_end (set rs i new)) ∙ ap (map (λ (y : End). y.0)) (ends_kept rs i r new h is e) ∙ map-map (λ (y : End). y.0) ring_end rs
 
 pub taken_kept : (rs : List Ring) (i : ℕ) (r new : Ring) → i < length rs → r ≡ get_or rs i r → ring_end new ≡ ring_end r → ring_taken new ≡ ring_taken r
     → (w : ℕ) → taken_in w (set rs i new) ≡ taken_in w rs
@@ -74,17 +69,13 @@ taken_more (y ∷ rs) (suc i) r new x apart h is e by t w =
     let rest = taken_more rs i r new x apart.1 (omega arith) is e by t w in
     ⊎_elim (λ (here : (eqb y.number w ≡ true) × (y.number ≡ w)).
     let not_x : eqb x.writer w ≡ false = ne_eqb x.writer w (λ same. other (sym by ∙ same ∙ sym here.1)) in
-    ap (λ b. cond b (ring_taken y) (taken_in w (set rs i new))) here.0
+    cond-true _ _ _ here.0
     ∙ sym (append-nil (ring_taken y))
     ∙ ap₂ (λ b c. cond b (ring_taken y) (taken_in w rs) ++ cond c (x ∷ []) []) (sym here.0) (sym not_x))
     (λ (there : (eqb y.number w ≡ false) × (y.number ≢ w)).
-    ap (λ b. cond b (ring_taken y) (taken_in w (set rs i new))) there.0 ∙ rest
+    cond-false _ _ _ there.0 ∙ rest
     ∙ ap (λ b. cond b (ring_taken y) (taken_in w rs) ++ of w (x ∷ [])) (sym there.0))
     (eqb_tells y.number w)
-
-pub if_some : (P Q : Request → Type 0) (o : Option Request) → ((r : Request) → P r → Q r) → IfSome o P → IfSome o Q
-if_some P Q (Some r) f h = f r h
-if_some P Q None f h = h
 
 pub if_none : (P Q : Type 0) (o : Option Request) → (P → Q) → IfNone o P → IfNone o Q
 if_none P Q (Some r) f h = h

@@ -21,6 +21,7 @@ use Rattle.jffs_line.specs.Line.{Line, End, senders}
 use Rattle.jffs_line.specs.declared.hand.Hands.{Hands}
 use Rattle.jffs_line.specs.declared.shared.SharedTaker.{SharedTaker}
 use Rattle.jffs_line.specs.Shared.{channel_line, shared_line, shared_end, shared_ends, shared_accepted, hand_sent, all_hands}
+use Rattle.jffs_line.proofs.Lists.{All-left, All-right, All-mapped}
 use Rattle.jffs_line.proofs.Making.{numbers_all}
 
 -- a pass of one channel is a pass of another end's, where the two ends' lines have one name
@@ -38,18 +39,6 @@ lines_named line (h ∷ hs) (w ∷ ws) e =
     let first : (w, line) ≡ shared_end h = cc in
     let rest : map (λ (w : ℕ). (w, line)) ws ≡ map shared_end hs = cc in
     All-cons (λ (h : SharedHand). shared_line h ≡ line) h hs (sym (ap (λ (x : End). x.1) first)) (lines_named line hs ws rest)
-
-pub All-left : {X : Type 0} (P : X → Type 0) (xs ys : List X) → All P (xs ++ ys) → All P xs
-All-left P [] ys h = All-nil P
-All-left P (x ∷ xs) ys h = All-cons P x xs (All-head P x (xs ++ ys) h) (All-left P xs ys (All-tail P x (xs ++ ys) h))
-
-pub All-right : {X : Type 0} (P : X → Type 0) (xs ys : List X) → All P (xs ++ ys) → All P ys
-All-right P [] ys h = h
-All-right P (x ∷ xs) ys h = All-right P xs ys (All-tail P x (xs ++ ys) h)
-
-All-mapped : {X Y : Type 0} (P : Y → Type 0) (f : X → Y) (xs : List X) → All P (map f xs) → All (λ x. P (f x)) xs
-All-mapped P f [] h = All-nil (λ x. P (f x))
-All-mapped P f (x ∷ xs) h = All-cons (λ x. P (f x)) x xs (All-head P (f x) (map f xs) h) (All-mapped P f xs (All-tail P (f x) (map f xs) h))
 
 -- the entries of all passes, once they have come together
 pub entries : (spare : List Sent) (hs : List SharedHand) (cleaner control : SharedHand)

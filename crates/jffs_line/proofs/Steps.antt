@@ -1,7 +1,8 @@
 -- Each step on the shared line keeps its rule.
 use Rattle.std.proofs.Common.{◌≡◌, ◌≢◌, ℕ, zero, suc, ◌+◌, ◌<◌, ◌≤◌, Bool, true, false, true≢false, List, [], ◌∷◌, ◌++◌, length, set, cond, eqb, sym, refl, ap, ◌∙◌, subst, ⊎_elim, ◌⊎◌, inl, inr, append_assoc, append-nil, arith}
 use Rattle.std.specs.List.{All}
-use Rattle.std.proofs.lemmas.Bool.{eq-eqb, ne_eqb}
+use Rattle.std.proofs.lemmas.Bool.{eq-eqb, ne_eqb, cond-true, cond-false}
+use Rattle.std.proofs.lemmas.List.{nil_from_length}
 use Rattle.std.proofs.lemmas.List.Elements.{All-nil, All-cons, All-head, All-tail, All-append, filter-append}
 use mathlib.Core.Option.{some, some-injective, some-ne-none}
 use lib.ListN.{get_elem?}
@@ -111,12 +112,12 @@ parts pass may taken s rest apart items views h at =
     let all : List Request = h.taken ++ items in
     let holder : ℕ → ℕ = h.holder in
     let holder' : ℕ → ℕ = λ w. cond (eqb w s.sender) (length vs) (holder w) in
-    let other : (w : ℕ) → w ≢ s.sender → holder' w ≡ holder w = λ w n. ap (λ b. cond b (length vs) (holder w)) (ne_eqb w s.sender n) in
+    let other : (w : ℕ) → w ≢ s.sender → holder' w ≡ holder w = λ w n. cond-false _ _ _ (ne_eqb w s.sender n) in
     let mine = h.passes pass v at in
     let held : holder s.sender ≡ pass = All-head (HeldBy holder pass) s rest mine.0 in
     let told : s.accepted ≡ of s.sender all = All-head (IsAllOf all) s rest mine.1 in
     let new : Fits holder' h.taker h.taken items (length vs) right = (
-      All-cons (HeldBy holder' (length vs)) s [] (ap (λ b. cond b (length vs) (holder s.sender)) (eq-eqb s.sender s.sender refl)) (All-nil (HeldBy holder' (length vs))),
+      All-cons (HeldBy holder' (length vs)) s [] (cond-true _ _ _ (eq-eqb s.sender s.sender refl)) (All-nil (HeldBy holder' (length vs))),
       All-cons (IsAllOf all) s [] told (All-nil (IsAllOf all)),
       λ t. absurd (true≢false (sym t)),
     ) in
@@ -146,8 +147,8 @@ merges pass v other u items views h at two at' =
     let vs : List Knows = set views pass both in
     let holder : ℕ → ℕ = h.holder in
     let holder' : ℕ → ℕ = λ w. cond (eqb (holder w) other) pass (holder w) in
-    let apart : (w : ℕ) → holder w ≢ other → holder' w ≡ holder w = λ w n. ap (λ b. cond b pass (holder w)) (ne_eqb (holder w) other n) in
-    let came : (w : ℕ) → holder w ≡ other → holder' w ≡ pass = λ w is. ap (λ b. cond b pass (holder w)) (eq-eqb (holder w) other is) in
+    let apart : (w : ℕ) → holder w ≢ other → holder' w ≡ holder w = λ w n. cond-false _ _ _ (ne_eqb (holder w) other n) in
+    let came : (w : ℕ) → holder w ≡ other → holder' w ≡ pass = λ w is. cond-true _ _ _ (eq-eqb (holder w) other is) in
     let was : get_elem? views other ≡ some u = ⊎_elim (λ x. absurd (two x.0)) (λ x. x.1) (at_set views pass other both u at') in
     let mine = h.passes pass v at in
     let theirs = h.passes other u was in
@@ -195,10 +196,6 @@ begins =
       passes = λ j v e. let is = alone maker_knows v j e in subst (λ (z : ℕ × Knows). Fits (λ _. 0) 0 [] [] z.0 z.1) (λ i. (sym is.0 i, is.1 i)) mine;
     }
 
-nothing : (rs : List Request) → length rs ≡ 0 → rs ≡ []
-nothing [] e = refl
-nothing (r ∷ rs) e = absurd (omega arith)
-
 -- what a hand learns where its line is full
 pub was_full : (capacity w : ℕ) (v : Knows) → v ≡ hand_knows w (accepted_of v) → Held capacity (Learned v) → WasFull capacity w (accepted_of v)
 was_full capacity w v is h =
@@ -211,4 +208,4 @@ pub may_hand_in : (n pass w : ℕ) (v : Knows) (x : Request) → v ≡ hand_know
 may_hand_in n pass w v x is by range = subst (λ (u : Knows). Pushes InOrder n pass u x (HandsIn u x)) (sym is) (hands_in n pass w (accepted_of v) x by range.0 range.1)
 
 pub was_empty : (v : Knows) → Held 0 (Learned v) → Learned v []
-was_empty v h = subst (Learned v) (nothing h.0 h.1) h.2
+was_empty v h = subst (Learned v) (nil_from_length h.0 h.1) h.2

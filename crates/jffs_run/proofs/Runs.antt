@@ -9,7 +9,7 @@ use Rattle.jffs_line.specs.declared.request.Request.{Request}
 use Rattle.jffs_line.specs.Requests.{of, IsNumbered}
 use Rattle.jffs_line.specs.declared.hand.Hand as Hand
 use Rattle.jffs_line.specs.declared.hand.Hands.{Hands}
-use Rattle.jffs_line.proofs.Settling.{All-left, All-right}
+use Rattle.jffs_line.proofs.Lists.{All-left, All-right}
 use Rattle.jffs_core.specs.Standing.{Standing}
 use Rattle.jffs_tree.specs.Origin.{Tree}
 use Rattle.jffs_index.specs.declared.step.Step.{Step}

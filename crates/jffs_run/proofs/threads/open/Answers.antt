@@ -1,6 +1,6 @@
 use Rattle.std.proofs.Common.{rules, subst}
 use Rattle.std.specs.List.{All}
-use Rattle.jffs_line.proofs.Settling.{All-left}
+use Rattle.jffs_line.proofs.Lists.{All-left}
 use Rattle.jffs_index.specs.declared.reader.Reader.{Reader}
 use Rattle.jffs_index.specs.Ends.{IsReaderOf}
 use Rattle.jffs_run.proofs.threads.open.Goals as goal

@@ -1,8 +1,7 @@
-use Rattle.std.proofs.Common.{◌≡◌, ℕ, [], ◌∷◌, ◌++◌, set, ◌∙◌}
-use Rattle.jffs_line.specs.declared.request.Request.{Request}
-use Rattle.jffs_line.specs.Requests.{of}
+use Rattle.std.proofs.Common.{◌≡◌, ℕ, set, ◌∙◌}
+use Rattle.std.proofs.lemmas.Option.{IfSome_then}
 use Rattle.jffs_line.specs.Rings.{ring_taken, taken_in}
-use Rattle.jffs_line.proofs.Ringing.{within, apart, numbers_kept, ends_kept, taken_kept, taken_more, if_some, if_none}
+use Rattle.jffs_line.proofs.Ringing.{within, apart, numbers_kept, ends_kept, taken_kept, taken_more, if_none}
 use Rattle.jffs_line.proofs.rings.RingTaker.pop_at.Goals as goal
 
 pub invariant_of-self : goal.invariant_of-self
@@ -21,9 +20,8 @@ pub returns-clause-some : goal.returns-clause-some
 returns-clause-some c =
     let old = c.index_mut-ring.result.now in
     let rs = c.args.self.now.rings.items in
-    if_some (λ (r : Request). (r.writer ≡ old.number) × (ring_taken c.pop.new.self ≡ ring_taken old ++ r ∷ []))
-    (λ (r : Request). (w : ℕ) → taken_in w (set rs c.args.index c.pop.new.self) ≡ taken_in w rs ++ of w (r ∷ [])) c.pop.result
-    (λ r h. taken_more rs c.args.index old c.pop.new.self r (apart c.args.self.now) (within c.args.self.now c.args.index c.requires) c.index_mut-ring.ensures.value c.pop.ensures.end h.0 h.1) c.pop.ensures.some
+    IfSome_then c.pop.result c.pop.ensures.some
+    (λ r h. taken_more rs c.args.index old c.pop.new.self r (apart c.args.self.now) (within c.args.self.now c.args.index c.requires) c.index_mut-ring.ensures.value c.pop.ensures.end h.0 h.1)
 
 pub returns-clause-none : goal.returns-clause-none
 returns-clause-none c =

@@ -1,5 +1,5 @@
 use Rattle.std.proofs.Common.{ℕ, ◌+◌, ◌++◌, [], ◌∷◌, List, ap, ◌∙◌, sym}
-use Rattle.jffs_line.proofs.RingMaking.{range_more}
+use Rattle.jffs_line.proofs.Lists.{range_more}
 use Rattle.jffs_line.proofs.rings.make.writer_rings.Goals as goal
 
 pub loop-index-preserved : goal.loop-index-preserved

@@ -2,24 +2,19 @@
 use Rattle.std.proofs.Common.{◌≡◌, ℕ, Bool, true, false, cond, ◌&&◌, eqb, [], ◌∷◌, Some, None, refl, sym, ap, subst, ◌∙◌, arith}
 use Rattle.std.specs.declared.cmp.Ordering.{Ordering}
 use Rattle.std.specs.declared.cmp.Ordering.TheVariants.{Less, Equal, Greater}
-use Rattle.std.specs.Ordering.{nat_cmp, is_eq, match_ordering, ordering_then}
-use Rattle.std.specs.Cmp.{unsigned_tied}
+use Rattle.std.specs.Ordering.{nat_cmp, is_eq, match_ordering}
+use Rattle.std.specs.Cmp.{unsigned_ties, both_tied}
 use Rattle.std.specs.Map.{lookup, remove_entry}
 use Rattle.std.specs.BTreeMap.{insert_entry, is_at}
-use Rattle.std.proofs.lemmas.Bool.{eqb-true, eq-eqb, and_parts, true≢false}
+use Rattle.std.proofs.lemmas.Bool.{eqb-true, eq-eqb, and_parts, true≢false, cond-true}
 use Rattle.std.proofs.lemmas.Bool.Decides.{nat_tests}
 use Rattle.jffs_tree.specs.declared.wish.Outcome.{Outcome}
 use Rattle.jffs_index.specs.Outcomes.{Outcomes, request_cmp, outcome_at, with_outcome, without_outcome}
 
-then_tied : (a b : Ordering) → is_eq (ordering_then a b) ≡ is_eq a && is_eq b
-then_tied Less b = refl
-then_tied Equal b = refl
-then_tied Greater b = refl
-
 -- two requests stand at one place where they are the same
 same_request : (writer seq w s : ℕ) → is_at (request_cmp (writer, seq)) (w, s) ≡ (eqb writer w && eqb seq s)
 same_request writer seq w s =
-    then_tied (nat_cmp writer w) (nat_cmp seq s) ∙ (λ i. unsigned_tied writer w i && unsigned_tied seq s i)
+    sym (both_tied (eqb writer w) (eqb seq s) (nat_cmp writer w) (nat_cmp seq s) (unsigned_ties writer w) (unsigned_ties seq s))
 
 eqb-swap : (a b : ℕ) → eqb a b ≡ eqb b a
 eqb-swap a b = grind (arith, nat_tests)
@@ -74,13 +69,13 @@ module _ (k : ℕ × ℕ) (v : Outcome) where
   back_step : (e : (ℕ × ℕ) × Outcome) (es more : Outcomes) → (lookup (is_at (request_cmp k)) es ≡ None → remove_entry (is_at (request_cmp k)) more ≡ es)
       → (o : Ordering) → request_cmp k e.0 ≡ o → cond (is_eq o) (Some e.1) (lookup (is_at (request_cmp k)) es) ≡ None
       → remove_entry (is_at (request_cmp k)) (match_ordering o ((k, v) ∷ e ∷ es) ((e.0, v) ∷ es) (e ∷ more)) ≡ e ∷ es
-  back_step e es more rest Less is none = ap (λ b. cond b (e ∷ es) ((k, v) ∷ remove_entry (is_at (request_cmp k)) (e ∷ es))) (at_itself k)
+  back_step e es more rest Less is none = cond-true _ _ _ (at_itself k)
   back_step e es more rest Equal is none = cc
   back_step e es more rest Greater is none =
       ap (λ o. cond (is_eq o) more (e ∷ remove_entry (is_at (request_cmp k)) more)) is ∙ ap (λ (z : Outcomes). e ∷ z) (rest none)
 
   back_at : (es : Outcomes) → lookup (is_at (request_cmp k)) es ≡ None → remove_entry (is_at (request_cmp k)) (insert_entry request_cmp es k v) ≡ es
-  back_at [] none = ap (λ b. cond b [] ((k, v) ∷ [])) (at_itself k)
+  back_at [] none = cond-true _ _ _ (at_itself k)
   back_at (e ∷ es) none = back_step e es (insert_entry request_cmp es k v) (back_at es) (request_cmp k e.0) refl none
 
 -- an outcome that was entered as the first of its request is taken back

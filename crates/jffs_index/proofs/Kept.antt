@@ -1,8 +1,11 @@
 -- Each step of an index keeps its rule.
-use Rattle.std.proofs.Common.{◌≡◌, ℕ, ◌+◌, ◌≤◌, ◌≢◌, Bool, true, false, ◌&&◌, List, [], ◌∷◌, ◌++◌, length, drop, set, fold, refl, sym, ap, subst, ◌∙◌, ⊎_elim, append_assoc, append-nil, length-append, Option, Some, None, Result, Ok, Err, MatchResult, MatchBool, zero, suc, arith}
+use Rattle.std.proofs.Common.{◌≡◌, ℕ, ◌+◌, ◌≤◌, ◌≢◌, Bool, true, false, List, [], ◌∷◌, ◌++◌, length, drop, set, fold, refl, sym, ap, subst, ◌∙◌, ⊎_elim, append_assoc, append-nil, length-append, Option, Some, None, Result, Ok, Err, MatchResult, MatchBool, zero, suc, arith}
+use Rattle.std.proofs.Math.Seq.{drop-length}
+use Rattle.std.proofs.lemmas.List.{nil_from_length}
 use Rattle.std.proofs.lemmas.List.Sums.{fold-append}
-use Rattle.std.proofs.lemmas.Bool.{false≢true}
+use Rattle.std.proofs.lemmas.Bool.{and_parts}
 use Rattle.std.proofs.lemmas.Bool.Decides.{nat_tests}
+use Rattle.std.proofs.lemmas.Result.{MatchResult-at_ok, MatchResult-at_err}
 use lib.Dec.{leb}
 use mathlib.Core.Option.{some, some-injective, some-ne-none}
 use mathlib.Core.List.{IsPrefix}
@@ -23,24 +26,20 @@ use Rattle.jffs_index.specs.Pages.{page_index, history_of, IsFaithful, after_cha
 use Rattle.jffs_index.specs.Sights.{Sighted, sighted, opened_tree}
 use Rattle.jffs_index.specs.Writing.{IsSound, held}
 use Rattle.jffs_index.specs.Books.{head_of}
-use Rattle.jffs_index.proofs.Fronts.{prefix_shorter, prefix_rest, nothing_left, whole_of}
-
-and_both : (a b : Bool) → (a && b) ≡ true → (a ≡ true) × (b ≡ true)
-and_both true b e = (refl, e)
-and_both false b e = absurd (false≢true e)
+use Rattle.jffs_index.proofs.Fronts.{prefix_shorter, prefix_rest, whole_of}
 
 -- where each node fits at its turn, the test changes nothing
 pub fold-tested : (x : Shown) (steps : List Step) → all_fit x steps ≡ true → fold after_tested x steps ≡ fold after_step x steps
 fold-tested x [] e = refl
 fold-tested x (s ∷ steps) e =
-    let both = and_both (fits x s) (all_fit (after_step x s) steps) e in
+    let both = and_parts (fits x s) (all_fit (after_step x s) steps) e in
     let one : after_tested x s ≡ after_step x s = rw both.0 refl in
     ap (λ (z : Shown). fold after_tested z steps) one ∙ fold-tested (after_step x s) steps both.1
 
 all_fit-push : (x : Shown) (steps : List Step) (s : Step) → all_fit x steps ≡ true → fits (fold after_step x steps) s ≡ true → all_fit x (steps ++ s ∷ []) ≡ true
 all_fit-push x [] s e f = rw f refl
 all_fit-push x (t ∷ steps) s e f =
-    let both = and_both (fits x t) (all_fit (after_step x t) steps) e in
+    let both = and_parts (fits x t) (all_fit (after_step x t) steps) e in
     let rest : all_fit (after_step x t) (steps ++ s ∷ []) ≡ true = all_fit-push (after_step x t) steps s both.1 f in
     rw (both.0, rest) refl
 
@@ -52,10 +51,6 @@ answered-fold x (s ∷ steps) = omega (arith, answered-fold (after_step x s) ste
 pub view-extended : (h : History) (steps : List Step) → view_of (extended h steps) ≡ fold after_step (view_of h) steps
 view-extended h steps = fold-append after_step (opened h.opening) h.steps steps
 
-empty_list : (steps : List Step) → length steps ≡ 0 → steps ≡ []
-empty_list [] e = refl
-empty_list (s ∷ steps) e = absurd (omega arith)
-
 extended-nil : (h : History) → extended h [] ≡ h
 extended-nil h = ap (λ (z : List Step). record { opening = h.opening; steps = z }) (append-nil h.steps)
 
@@ -64,7 +59,7 @@ pub same_length : (h k : History) → BeginsWith h k → (view_of h).answered �
 same_length h k b e =
     let long : (fold after_step (view_of k) b.0).answered ≡ (view_of k).answered + length b.0 = answered-fold (view_of k) b.0 in
     let as_long : (view_of h).answered ≡ (fold after_step (view_of k) b.0).answered = ap (λ (z : Shown). z.answered) (ap view_of b.1 ∙ view-extended k b.0) in
-    let none : b.0 ≡ [] = empty_list b.0 (omega (arith, long, as_long, e)) in
+    let none : b.0 ≡ [] = nil_from_length b.0 (omega (arith, long, as_long, e)) in
     b.1 ∙ (ap (extended k) none ∙ extended-nil k)
 
 pub begins_self : (h : History) → BeginsWith h h
@@ -194,7 +189,7 @@ pub logs_all : (page : Page) (changes : List Change) (book : Book) (logged : Lis
 logs_all page changes book logged known head count all s book' logged' b e =
     let long : all ≡ length logged' = omega (arith, s.counted_all, ap (length {A = Step}) e, length-append page.seen.log (steps_of changes)) in (
       record { faithful = s.faithful; knows = s.knows; word = s.word; same_book = b ∙ s.same_book; begins = prefix_self _ _ e; counted = long; counted_all = s.counted_all; fit = s.fit },
-      ap (λ (z : List Step). drop (length z) (page.seen.log ++ steps_of changes)) e ∙ nothing_left (page.seen.log ++ steps_of changes),
+      ap (λ (z : List Step). drop (length z) (page.seen.log ++ steps_of changes)) e ∙ drop-length (page.seen.log ++ steps_of changes),
     )
 
 -- one more step is pending
@@ -281,22 +276,16 @@ unpublished page page' q changes all book logged known known' head count total s
     let stays : IsSound page all book logged known head count total = same_steps page changes all book logged known head count total sound (ap steps_of is ∙ steps_reach changes q) in
     subst (λ (z : Option Index). IsSound page' all book logged z head count total) (sym knows) (subst (λ (z : Page). IsSound z all book logged known head count total) (sym same) stays)
 
-pub at_ok : {T E : Type 0} (P : T → Type 0) (Q : E → Type 0) (r : Result T E) (u : T) → r ≡ Ok u → MatchResult r P Q → P u
-at_ok {T} {E} P Q r u e m = subst (λ (z : Result T E). MatchResult z P Q) e m
-
-pub at_err : {T E : Type 0} (P : T → Type 0) (Q : E → Type 0) (r : Result T E) (x : E) → r ≡ Err x → MatchResult r P Q → Q x
-at_err {T} {E} P Q r x e m = subst (λ (z : Result T E). MatchResult z P Q) e m
-
 pub at_fault : {E : Type 0} (r : Result (Unit {0}) E) (x : E) → r ≡ Err x → (page page' next : Page) (all all' : List Change) (known known' : Option Index)
     → MatchResult r (λ _. (page' ≡ next) × (all' ≡ [])) (λ _. (page' ≡ page) × (all' ≡ all)) → MatchResult r (λ _. Sees known page page' known') (λ _. known' ≡ known)
     → (page' ≡ page) × (all' ≡ all) × (known' ≡ known)
 at_fault r x e page page' next all all' known known' values rule =
-    let v = at_err (λ _. (page' ≡ next) × (all' ≡ [])) (λ _. (page' ≡ page) × (all' ≡ all)) r x e values in
-    (v.0, v.1, at_err (λ _. Sees known page page' known') (λ _. known' ≡ known) r x e rule)
+    let v = MatchResult-at_err (λ _. (page' ≡ next) × (all' ≡ [])) (λ _. (page' ≡ page) × (all' ≡ all)) x e values in
+    (v.0, v.1, MatchResult-at_err (λ _. Sees known page page' known') (λ _. known' ≡ known) x e rule)
 
 pub at_publish : {E : Type 0} (r : Result (Unit {0}) E) (u : Unit {0}) → r ≡ Ok u → (page page' next : Page) (all all' : List Change) (known known' : Option Index)
     → MatchResult r (λ _. (page' ≡ next) × (all' ≡ [])) (λ _. (page' ≡ page) × (all' ≡ all)) → MatchResult r (λ _. Sees known page page' known') (λ _. known' ≡ known)
     → (page' ≡ next) × (all' ≡ []) × Sees known page page' known'
 at_publish r u e page page' next all all' known known' values rule =
-    let v = at_ok (λ _. (page' ≡ next) × (all' ≡ [])) (λ _. (page' ≡ page) × (all' ≡ all)) r u e values in
-    (v.0, v.1, at_ok (λ _. Sees known page page' known') (λ _. known' ≡ known) r u e rule)
+    let v = MatchResult-at_ok (λ _. (page' ≡ next) × (all' ≡ [])) (λ _. (page' ≡ page) × (all' ≡ all)) u e values in
+    (v.0, v.1, MatchResult-at_ok (λ _. Sees known page page' known') (λ _. known' ≡ known) u e rule)

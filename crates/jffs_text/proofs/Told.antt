@@ -1,10 +1,11 @@
 -- What the pieces of a dump tell, put together.
-use Rattle.std.proofs.Common.{◌≡◌, ℕ, zero, suc, ◌+◌, ◌-◌, ◌/◌, ◌%◌, ◌<◌, ◌≤◌, Bool, true, false, cond, ◌||◌, eqb, List, [], ◌∷◌, ◌++◌, length, take, drop, take-add, length-drop, option_map, Option, Some, None, refl, sym, ap, subst, ◌∙◌, arith}
+use Rattle.std.proofs.Common.{◌≡◌, ℕ, zero, suc, ◌+◌, ◌-◌, ◌/◌, ◌%◌, ◌<◌, ◌≤◌, true, false, cond, eqb, List, [], ◌∷◌, ◌++◌, length, take, drop, take_at, take-add, length-drop, length-take-le, option_map, Option, Some, None, refl, sym, ap, subst, ◌∙◌, arith}
 use Rattle.std.specs.List.{flat_map}
 use Rattle.std.specs.List.Sorted.{IsPermutation, IsSorted}
 use Rattle.std.specs.Option.{unwrap_or}
 use Rattle.std.specs.Io.KnownBytes.{Appends}
 use Rattle.std.proofs.KnownBytes.{Appends-trans}
+use Rattle.std.proofs.lemmas.Bool.{or_parts, cond-true, cond-false}
 use Rattle.std.proofs.lemmas.List.{take-append-drop}
 use Rattle.std.proofs.Math.Seq.{take-append_seam}
 use Rattle.std.specs.Prelude.{codes}
@@ -28,12 +29,8 @@ module _ (tree : Tree) (i : ℕ) where
       by_held (Some h) = refl
 
   pub size_told : is_directory_in (state_in tree) i ≡ false → unwrap_or (size_of tree i) 0 ≡ length (bytes_in tree i)
-  size_told file = ap (λ b. unwrap_or (cond b (Some 0) (option_map (λ h. length h.entry.bytes) (held_in tree i))) 0) (no_root (eqb i root) _ file) ∙ by_held (held_in tree i)
+  size_told file = ap (λ b. unwrap_or (cond b (Some 0) (option_map (λ h. length h.entry.bytes) (held_in tree i))) 0) (or_parts (eqb i root) _ file).0 ∙ by_held (held_in tree i)
     where
-      no_root : (a b : Bool) → (a || b) ≡ false → a ≡ false
-      no_root true b h = cc
-      no_root false b h = refl
-
       by_held : (o : Option Held) → unwrap_or (option_map (λ h. length h.entry.bytes) o) 0 ≡ length (unwrap_or (option_map (λ h. h.entry.bytes) o) [])
       by_held None = refl
       by_held (Some h) = refl
@@ -46,7 +43,7 @@ module _ (tree : Tree) (i : ℕ) where
       in_order (children i (state_in tree)) names (subst (λ b. IsPermutation (cond b (children i (state_in tree)) []) names) here shuffled) sorted
 
 -- Hex in pieces.
-abbrev digits : ℕ → List ℕ
+abbrev pub digits : ℕ → List ℕ
 digits b = hex_digit (b / 16) ∷ hex_digit (b % 16) ∷ []
 
 hex_more : (bytes : List ℕ) (o n : ℕ) → hex (take (o + n) bytes) ≡ hex (take o bytes) ++ hex (take n (drop o bytes))
@@ -56,15 +53,10 @@ pub shown_some : (bytes : List ℕ) → 0 < length bytes → shown_bytes bytes �
 shown_some [] h = absurd (omega arith)
 shown_some (b ∷ bytes) h = refl
 
-take_front : (n : ℕ) (xs ys : List ℕ) → n ≤ length xs → take n (take n xs ++ ys) ≡ take n xs
-take_front zero xs ys h = refl
-take_front (suc n) [] ys h = absurd (omega arith)
-take_front (suc n) (x ∷ xs) ys h = ap (λ l. x ∷ l) (take_front n xs ys (omega arith))
-
 -- A chunk of n bytes was read from the o-th on, into a buffer with other bytes behind it.
 module _ (bytes : List ℕ) (o n : ℕ) (behind chunk : List ℕ) (read : chunk ≡ take n (drop o bytes) ++ behind) (inside : n ≤ length bytes - o) (a b c : Option (List ℕ)) (so_far : Appends a b (hex (take o bytes))) where
   chunk_is : take n chunk ≡ take n (drop o bytes)
-  chunk_is = ap (take n) read ∙ take_front n (drop o bytes) behind (let long = length-drop o bytes in omega arith)
+  chunk_is = ap (take n) read ∙ take_at (take n (drop o bytes)) behind n (length-take-le n (drop o bytes) (let long = length-drop o bytes in omega arith))
 
   module _ (x : List ℕ) (it : x ≡ take n chunk) where
     pub hex_told : Appends b c (hex x) → Appends a c (hex (take (o + n) bytes))
@@ -81,10 +73,10 @@ module _ (bytes : List ℕ) (o n : ℕ) (behind chunk : List ℕ) (read : chunk 
 -- The text of one name.
 module _ (s : State) (deeper : List ℕ → ℕ → List ℕ) (above : List ℕ) (a : List ℕ × ℕ) where
   pub text_of_directory : is_directory_in s a.1 ≡ true → name_text s deeper above a ≡ directory_line (path_of above a.0) ++ deeper (path_of above a.0) a.1
-  text_of_directory here = ap (λ b. cond b (directory_line (path_of above a.0) ++ deeper (path_of above a.0) a.1) (file_line (path_of above a.0) (bytes_of (at s a.1)))) here
+  text_of_directory here = cond-true _ _ _ here
 
   pub text_of_file : is_directory_in s a.1 ≡ false → name_text s deeper above a ≡ file_line (path_of above a.0) (bytes_of (at s a.1))
-  text_of_file here = ap (λ b. cond b (directory_line (path_of above a.0) ++ deeper (path_of above a.0) a.1) (file_line (path_of above a.0) (bytes_of (at s a.1)))) here
+  text_of_file here = cond-false _ _ _ here
 
 pub below_none : (s : State) (above : List ℕ) (i : ℕ) → below 0 s above i ≡ []
 unfolding below

@@ -1,6 +1,7 @@
 use Rattle.std.proofs.Common.{◌≡◌, take, arith, rules, take-add, take_all, append-nil, length-drop, sym}
+use Rattle.std.proofs.lemmas.List.{take_rest}
 use Rattle.std.proofs.KnownBytes.{Appends-kept, Appends-nil, Appends-trans}
-use Rattle.jffs_text.proofs.Adding.{begun_taken, rest_of}
+use Rattle.jffs_text.proofs.Adding.{begun_taken}
 use Rattle.jffs_text.proofs.dumping.put.Goals as goal
 use Rattle.jffs_text.proofs.dumping.put.Goals.{in-Ok, in-Err+else-ne}
 
@@ -29,8 +30,8 @@ writes-preserved g c =
     let sent = c.writes.sent in
     elim c.match-write.branch [
       | in-Ok w ↦
-          let more = rw (rest_of all sent) at w.in-Ok.ensures.bytes in
-          let bound = rw (rest_of all sent) at w.in-Ok.ensures.bound in
+          let more = rw (take_rest all sent) at w.in-Ok.ensures.bytes in
+          let bound = rw (take_rest all sent) at w.in-Ok.ensures.bound in
           rw (w.sent-is, take-add sent w.in-Ok.count all) (omega (arith, inv.0, bound, length-drop sent all), Appends-trans _ _ _ _ _ inv.1 more)
       | in-Err+else-ne w ↦ rw w.sent-is (inv.0, Appends-kept _ _ _ _ inv.1 w.in-Err.ensures.bytes)
     ]

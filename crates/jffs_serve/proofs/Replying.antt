@@ -3,7 +3,7 @@ use Rattle.std.proofs.Common.{◌≡◌, ℕ, inl, inr, Bool, true, false, ◌||
 use Rattle.std.proofs.lemmas.List.{map-append}
 use Rattle.std.proofs.lemmas.List.Elements.{filter-append}
 use Rattle.std.proofs.lemmas.List.Folds.{list_any-append}
-use Rattle.std.proofs.lemmas.Bool.{or_parts}
+use Rattle.std.proofs.lemmas.Bool.{both_ways, or_parts}
 use Rattle.std.proofs.Math.Bool.{or-false, or-true}
 use Rattle.jffs_node.specs.declared.node.Node.{Node}
 use Rattle.jffs_tree.specs.declared.wish.Cause.{Cause}
@@ -41,7 +41,7 @@ all_reply_more : (replies : List Reply) (r : Reply) → AllReply replies → any
 all_reply_more [] r all open_still here = (here, (λ _. refl), tt)
 all_reply_more (q ∷ replies) r all open_still here =
     let parts = or_parts (is_closed q.step.outcome) (any_closed (map answer_in replies)) open_still in
-    let last : is_closed q.step.outcome ≡ true → replies ++ r ∷ [] ≡ [] = λ closed. absurd (let e : true ≡ false = sym closed ∙ parts.0 in cc) in
+    let last : is_closed q.step.outcome ≡ true → replies ++ r ∷ [] ≡ [] = λ closed. absurd (both_ways (is_closed q.step.outcome) parts.0 closed) in
     (all.0, last, all_reply_more replies r all.2 parts.1 here)
 
 refuses_last : (replies : List Reply) (r : Reply) (cause : Cause) → r.request.wish ≡ Unmount → r.step.outcome ≡ Refused cause → RefusesUnmount (replies ++ r ∷ []) cause

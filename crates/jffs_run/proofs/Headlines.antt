@@ -1,6 +1,7 @@
 -- Lemmas for what a run promises.
 use Rattle.std.proofs.Common.{◌≡◌, ◌≢◌, ℕ, ◌+◌, ◌≤◌, ◌<◌, ◌⊎◌, inl, inr, Bool, List, [], ◌∷◌, ◌++◌, length, take, map, refl, sym, ◌∙◌, ap, ap₂, subst, arith, eqb, cond, zero, suc}
 use Rattle.std.specs.List.{All, Contains, range_with_len}
+use Rattle.std.proofs.lemmas.Bool.{cond-true, cond-false, eq-eqb, ne_eqb}
 use Rattle.std.proofs.lemmas.Bool.Decides.{eqb_tells}
 use Rattle.std.proofs.lemmas.List.{map-append, length-map}
 use Rattle.std.proofs.lemmas.List.Elements.{All-head, All-tail}
@@ -41,12 +42,12 @@ same_numbers sender (reply ∷ replies) all =
     elim (eqb_tells reply.request.writer sender) [
       | inl same ↦
           ap (λ (w : ℕ). cond (eqb w sender) (reply.step.seq ∷ numbers_of sender (map answer_in replies)) (numbers_of sender (map answer_in replies))) writer
-          ∙ (ap (λ (b : Bool). cond b (reply.step.seq ∷ numbers_of sender (map answer_in replies)) (numbers_of sender (map answer_in replies))) same.0
+          ∙ (cond-true _ _ _ same.0
           ∙ (ap₂ (λ (n : ℕ) (ns : List ℕ). n ∷ ns) seq rest
           ∙ sym (ap (λ (b : Bool). seqs (cond b (reply.request ∷ of sender (requests_in replies)) (of sender (requests_in replies)))) same.0)))
       | inr other ↦
           ap (λ (w : ℕ). cond (eqb w sender) (reply.step.seq ∷ numbers_of sender (map answer_in replies)) (numbers_of sender (map answer_in replies))) writer
-          ∙ (ap (λ (b : Bool). cond b (reply.step.seq ∷ numbers_of sender (map answer_in replies)) (numbers_of sender (map answer_in replies))) other.0
+          ∙ (cond-false _ _ _ other.0
           ∙ (rest
           ∙ sym (ap (λ (b : Bool). seqs (cond b (reply.request ∷ of sender (requests_in replies)) (of sender (requests_in replies)))) other.0)))
     ]
@@ -88,19 +89,11 @@ module _ {H : Type 0} (g : Hand.Ghosts H) where
 
   -- what the first of the hands accepted, where it is this sender's
   found : (sender : ℕ) (hand : H) (hands : List H) → g.sender hand ≡ sender → accepted_by g sender (hand ∷ hands) ≡ g.accepted hand
-  found sender hand hands is =
-      elim (eqb_tells (g.sender hand) sender) [
-        | inl same ↦ ap (λ (b : Bool). cond b (g.accepted hand) (accepted_by g sender hands)) same.0
-        | inr other ↦ absurd (other.1 is)
-      ]
+  found sender hand hands is = cond-true _ _ _ (eq-eqb (g.sender hand) sender is)
 
   -- where it isn't, the others'
   passed : (sender : ℕ) (hand : H) (hands : List H) → g.sender hand ≢ sender → accepted_by g sender (hand ∷ hands) ≡ accepted_by g sender hands
-  passed sender hand hands not =
-      elim (eqb_tells (g.sender hand) sender) [
-        | inl same ↦ absurd (not same.1)
-        | inr other ↦ ap (λ (b : Bool). cond b (g.accepted hand) (accepted_by g sender hands)) other.0
-      ]
+  passed sender hand hands not = cond-false _ _ _ (ne_eqb (g.sender hand) sender not)
 
   -- what the hand at a place accepted is found by its sender
   accepted_at :
@@ -114,7 +107,7 @@ module _ {H : Type 0} (g : Hand.Ghosts H) where
             let here : n ≡ place = let s = each.0.sender in let t = same.1 in omega arith in (
               hand,
               subst (λ (k : ℕ). AtPlace script k hand) here each.0,
-              ap (λ (b : Bool). cond b (g.accepted hand) (accepted_by g (place + 1) (hands ++ tail))) same.0,
+              cond-true _ _ _ same.0,
               λ all. subst (λ (k : ℕ). HandedInAll g script k hand) here all.0,
             )
         | inr other ↦
@@ -123,7 +116,7 @@ module _ {H : Type 0} (g : Hand.Ghosts H) where
             let rest = accepted_at script (n + 1) hands tail each.1 place later below' in (
               rest.0,
               rest.1,
-              ap (λ (b : Bool). cond b (g.accepted hand) (accepted_by g (place + 1) (hands ++ tail))) other.0 ∙ rest.2,
+              cond-false _ _ _ other.0 ∙ rest.2,
               λ all. rest.3 all.1,
             )
       ]
@@ -139,7 +132,7 @@ module _ {H : Type 0} (g : Hand.Ghosts H) where
         | inl same ↦ absurd (let s = each.0.sender in other n (let c : length (hand ∷ hands) ≡ length hands + 1 = omega arith in omega arith) (sym same.1 ∙ s))
         | inr differs ↦
             let rest = accepted_elsewhere script (n + 1) hands tail each.1 sender (λ place below. other place (let c : length (hand ∷ hands) ≡ length hands + 1 = omega arith in omega arith)) in
-            ap (λ (b : Bool). cond b (g.accepted hand) (accepted_by g sender (hands ++ tail))) differs.0 ∙ rest
+            cond-false _ _ _ differs.0 ∙ rest
       ]
 
   -- what was taken of any sender and then what waits is what it accepted

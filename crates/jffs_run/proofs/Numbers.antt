@@ -1,6 +1,6 @@
 -- Lemmas on the requests that a sender makes of its wishes.
-use Rattle.std.proofs.Common.{◌≡◌, ℕ, ◌+◌, ◌<◌, List, [], ◌∷◌, ◌++◌, length, take, zero, suc, ap, ◌∙◌, arith, length-take, get_or}
-use Rattle.std.proofs.lemmas.List.{take_more, length-map}
+use Rattle.std.proofs.Common.{◌≡◌, ℕ, ◌+◌, ◌<◌, List, [], ◌∷◌, ◌++◌, length, take, ap, ◌∙◌, arith, length-take, get_or}
+use Rattle.std.proofs.lemmas.List.{take_more, length-map, get_or-map}
 use Rattle.jffs_text.specs.declared.command.Command.{Command}
 use Rattle.jffs_tree.specs.declared.wish.Wish.{Wish}
 use Rattle.jffs_line.specs.declared.request.Request.{Request}
@@ -24,14 +24,8 @@ numbered-next sender n xs i x below here =
     ∙ (numbered-push sender n (take i xs) x
     ∙ ap (λ (k : ℕ). numbered sender n (take i xs) ++ request sender (n + k) x ∷ []) count))
 
--- the wish of the command at a place
-wish-at : (commands : List Command) (i : ℕ) (command : Command) (d : Wish) → i < length commands → get_or commands i command ≡ command → get_or (wishes_of commands) i d ≡ wish_of command
-wish-at [] i command d below here = absurd (omega arith)
-wish-at (first ∷ commands) zero command d below here = ap wish_of here
-wish-at (first ∷ commands) (suc i) command d below here = wish-at commands i command d (omega arith) here
-
 -- one command more
 pub numbered-more : (sender n : ℕ) (commands : List Command) (i : ℕ) (command : Command) → i < length commands → get_or commands i command ≡ command → numbered sender n (take (i + 1) (wishes_of commands)) ≡ numbered sender n (take i (wishes_of commands)) ++ request sender (n + i) (wish_of command) ∷ []
 numbered-more sender n commands i command below here =
     let many : length (wishes_of commands) ≡ length commands = length-map commands wish_of in
-    numbered-next sender n (wishes_of commands) i (wish_of command) (omega arith) (wish-at commands i command (wish_of command) below here)
+    numbered-next sender n (wishes_of commands) i (wish_of command) (omega arith) (get_or-map wish_of commands i command (wish_of command) below ∙ ap wish_of here)

@@ -41,9 +41,3 @@ moved {X} {Y} {E} f k xs now x from y rest all is begins same was =
     ∙ (append_assoc (map f xs) (f x ∷ []) (map k rest)
     ∙ (ap (λ (e : E). map f xs ++ e ∷ map k rest) same
     ∙ (ap (λ (l : List Y). map f xs ++ map k l) (sym begins) ∙ was))))
-
--- an element of a list, whatever stands for one that isn't there
-pub get_or-any : {X : Type 0} (xs : List X) (i : ℕ) (d e : X) → i < length xs → get_or xs i d ≡ get_or xs i e
-get_or-any [] i d e below = absurd (omega arith)
-get_or-any (x ∷ xs) zero d e below = refl
-get_or-any (x ∷ xs) (suc i) d e below = get_or-any xs i d e (omega arith)

@@ -1,9 +1,10 @@
 -- Lemmas that put a run together.
-use Rattle.std.proofs.Common.{◌≡◌, ◌≤◌, ℕ, Bool, ◌+◌, List, [], ◌∷◌, ◌++◌, length, map, refl, sym, ◌∙◌, ap, ap₂, subst, arith, append-nil, append_assoc, length-append, get_or, Option}
+use Rattle.std.proofs.Common.{◌≡◌, ◌≤◌, ℕ, Bool, ◌+◌, List, [], ◌∷◌, ◌++◌, length, map, sym, ◌∙◌, ap, ap₂, subst, arith, append_assoc, length-append, get_or, Option}
 use Rattle.std.specs.List.{All, Contains, range_with_len}
 use Rattle.std.proofs.lemmas.List.{length-map}
 use Rattle.std.proofs.lemmas.List.FromFn.{length-range_with_len}
 use Rattle.std.proofs.lemmas.List.Elements.{All-head, All-tail}
+use mathlib.Core.List.{map-map}
 use Rattle.jffs_line.specs.Line.{End, senders}
 use Rattle.jffs_line.specs.declared.request.Request.{Request}
 use Rattle.jffs_line.specs.Requests.{of, IsNumbered}
@@ -16,6 +17,7 @@ use Rattle.jffs_index.specs.declared.step.Step.{Step}
 use Rattle.jffs_index.specs.declared.rule.History.{History}
 use Rattle.jffs_index.specs.Histories.{view_of}
 use Rattle.jffs_index.specs.Shown.{opened}
+use Rattle.jffs_index.proofs.Fronts.{prefix_whole}
 use Rattle.jffs_index.proofs.Kept.{answered-fold}
 use Rattle.jffs_serve.specs.declared.session.Kept.{Kept}
 use Rattle.jffs_serve.specs.Kept.{unput}
@@ -34,22 +36,11 @@ use Rattle.jffs_run.specs.Device.{Device, IsLeftBy}
 use Rattle.jffs_run.specs.Headline.{IsRun, requests_in}
 use Rattle.jffs_run.proofs.Headlines.{account_with, is_run}
 
--- nothing stands behind a beginning that is as long as the whole
-whole-beginning : {X : Type 0} (xs ys zs : List X) → xs ++ ys ≡ zs → length xs ≡ length zs → xs ≡ zs
-whole-beginning xs [] zs is long = sym (append-nil xs) ∙ is
-whole-beginning {X} xs (y ∷ ys) zs is long =
-    let both : length (xs ++ y ∷ ys) ≡ length zs = ap (length {A = X}) is in
-    let sum : length (xs ++ y ∷ ys) ≡ length xs + length (y ∷ ys) = length-append xs (y ∷ ys) in
-    absurd (omega arith)
-
 module _ {H : Type 0} (g : Hand.Ghosts H) where
-  senders_of : (hands : List H) → map g.sender hands ≡ map (λ (e : End). e.0) (map (end_of g) hands)
-  senders_of [] = refl
-  senders_of (hand ∷ hands) = ap (λ (l : List ℕ). g.sender hand ∷ l) (senders_of hands)
-
   -- hands with the same ends have the same senders
   same_senders : (hands before : List H) → map (end_of g) hands ≡ map (end_of g) before → map g.sender hands ≡ map g.sender before
-  same_senders hands before same = senders_of hands ∙ (ap (map (λ (e : End). e.0)) same ∙ sym (senders_of before))
+  same_senders hands before same =
+      sym (map-map (λ (e : End). e.0) (end_of g) hands) ∙ (ap (map (λ (e : End). e.0)) same ∙ map-map (λ (e : End). e.0) (end_of g) before)
 
   -- how many writers there are
   pub count_writers : (hands : List H) (cleaner control : H) (writers : ℕ) → map g.sender (hands ++ cleaner ∷ control ∷ []) ≡ senders writers → length hands ≡ writers
@@ -100,7 +91,7 @@ module _ {H : Type 0} (g : Hand.Ghosts H) where
       let answers : length core.answers ≡ length (map answer_in replies) = ap (length {A = Answer}) answers_are in
       let replies_many : length (map answer_in replies) ≡ length replies = length-map replies answer_in in
       let steps_many : length steps ≡ length replies = length-map replies (λ (r : Reply). r.step) in
-      ap₂ (λ (t : Tree) (l : List Step). let h : History = record { opening = t; steps = l } in h) (sym opened_is) (sym (whole-beginning published.steps (pending ++ unput kept) steps put (omega arith))) in
+      ap₂ (λ (t : Tree) (l : List Step). let h : History = record { opening = t; steps = l } in h) (sym opened_is) (sym (prefix_whole published.steps steps (pending ++ unput kept, put) (omega arith))) in
       subst (λ (answers : List Answer). IsRun start.standing (account_with g script statements hands answers waiting ends served device)) (sym answers_are)
       (is_run g start.standing core script statements hands replies waiting ends served device eight
       (count_writers hands.writers.items hands.cleaner hands.control.hand (length script) now) now

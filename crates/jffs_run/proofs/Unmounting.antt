@@ -1,9 +1,11 @@
 -- What the end of a run tells of what was accepted.
-use Rattle.std.proofs.Common.{◌≡◌, ◌≢◌, ℕ, ◌+◌, inl, inr, Bool, true, false, ◌||◌, List, [], ◌∷◌, ◌++◌, length, take, map, refl, sym, ◌∙◌, ap, subst, arith, cond, zero, suc}
+use Rattle.std.proofs.Common.{◌≡◌, ◌≢◌, ℕ, ◌+◌, inl, inr, ⊎_elim, Bool, true, List, [], ◌∷◌, ◌++◌, length, take, map, refl, sym, ◌∙◌, ap, subst, arith, cond, zero, suc}
 use Rattle.std.specs.List.{AllByRecursion}
-use Rattle.std.proofs.lemmas.Bool.{cases_lt}
+use Rattle.std.proofs.lemmas.Bool.{cases_lt, cond-true, cond-false, or_cases}
 use Rattle.std.proofs.lemmas.Bool.Decides.{eqb_tells}
 use Rattle.std.proofs.lemmas.List.{length-map}
+use Rattle.std.proofs.Math.Seq.{take-length}
+use mathlib.Core.List.{append-eq-nil_iff}
 use Rattle.jffs_node.specs.declared.node.Node.{Node}
 use Rattle.jffs_tree.specs.declared.wish.Wish.{Wish}
 use Rattle.jffs_tree.specs.declared.wish.Wish.TheVariants.{Unmount}
@@ -103,11 +105,7 @@ closed_one volume past after (r ∷ replies) lawful all closed =
     let so = closes_unmount r.step.outcome lawful.1.turn r.request step.copies step.own step.outcome is in
     inl (all.0 so.0, so.1) in
     let later : any_closed (map answer_in replies) ≡ true → AnswersUnmount (r ∷ replies) Closed = λ is. inr (closed_one volume lawful.0 after replies lawful.2 all.1 is) in
-    either (is_closed r.step.outcome) (any_closed (map answer_in replies)) here later closed
-  where
-    either : {P : Type 0} (a b : Bool) → (a ≡ true → P) → (b ≡ true → P) → (a || b) ≡ true → P
-    either true b f g is = f refl
-    either false b f g is = g is
+    ⊎_elim here later (or_cases (is_closed r.step.outcome) (any_closed (map answer_in replies)) closed)
 
 -- where the Unmount was answered, the control has handed it in
 asked : (replies : List Reply) (outcome : Outcome) → AnswersUnmount replies outcome → of 10 (requests_in replies) ≡ [] → ⊥
@@ -121,17 +119,9 @@ asked (r ∷ replies) outcome answers none = elim answers [
   where
     others : (q : Request) (requests : List Request) → of 10 (q ∷ requests) ≡ [] → of 10 requests ≡ []
     others q requests none = elim (eqb_tells q.writer 10) [
-      | inl same ↦ absurd (let mine : q ∷ of 10 requests ≡ [] = ap (λ (b : Bool). cond b (q ∷ of 10 requests) (of 10 requests)) (sym same.0) ∙ none in cc)
-      | inr other ↦ ap (λ (b : Bool). cond b (q ∷ of 10 requests) (of 10 requests)) (sym other.0) ∙ none
+      | inl same ↦ absurd (let mine : q ∷ of 10 requests ≡ [] = sym (cond-true _ _ _ same.0) ∙ none in cc)
+      | inr other ↦ sym (cond-false _ _ _ other.0) ∙ none
     ]
-
-take-all : {X : Type 0} (xs : List X) → take (length xs) xs ≡ xs
-take-all [] = refl
-take-all (x ∷ xs) = ap (λ l. x ∷ l) (take-all xs)
-
-nothing : {X : Type 0} (xs ys : List X) → xs ++ ys ≡ [] → xs ≡ []
-nothing [] ys is = refl
-nothing (x ∷ xs) ys is = absurd (cc)
 
 module _ {start : Standing} {account : Account} (run : IsRun start account) where
   -- each request for an Unmount that was accepted is the control's
@@ -165,11 +155,11 @@ module _ {start : Standing} {account : Account} (run : IsRun start account) wher
   -- where the Unmount was answered, all commands were accepted
   took_all : (outcome : Outcome) → AnswersUnmount run.replies outcome → TookAll account.script account.accepted
   took_all outcome answers = elim run.offered [
-    | inl idle ↦ absurd (asked run.replies outcome answers (nothing (of 10 (requests_in run.replies)) (of 10 account.waiting) (run.each 10 ∙ idle)))
+    | inl idle ↦ absurd (asked run.replies outcome answers (append-eq-nil_iff.0 (run.each 10 ∙ idle)).0)
     | inr all ↦ λ place below.
         let wishes : List Wish = wishes_of (commands_at account.script place) in
         let many : length (account.accepted (place + 1)) ≡ length wishes = all place below ∙ sym (length-map (commands_at account.script place) wish_of) in
-        run.writers place below ∙ ap (numbered (place + 1) 1) (ap (λ (k : ℕ). take k wishes) many ∙ take-all wishes)
+        run.writers place below ∙ ap (numbered (place + 1) 1) (ap (λ (k : ℕ). take k wishes) many ∙ take-length wishes)
   ]
 
 pub runs_end_unmounted : RunsEndUnmounted

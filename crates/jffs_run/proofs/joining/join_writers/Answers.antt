@@ -1,8 +1,8 @@
-use Rattle.std.proofs.Common.{rules, ◌≡◌, ◌+◌, ℕ, ◌∷◌, length, refl, sym, ap, ap₂, arith, vec_len}
+use Rattle.std.proofs.Common.{rules, ◌≡◌, ◌+◌, ◌∷◌, length, refl, sym, ap, arith, vec_len}
 use Rattle.std.specs.Vec.Iter.{into_iter_items}
-use Rattle.jffs_line.specs.Line.{Line, End}
 use Rattle.jffs_run.specs.Ends.{HandedIn, HandedInAll, end_of}
 use Rattle.jffs_run.specs.Started.{IsStarted, end_given}
+use Rattle.jffs_run.proofs.Crews.{same_end}
 use Rattle.jffs_run.proofs.Writers.{handed_in, handed_in_all}
 use Rattle.jffs_run.proofs.Places.{EachFrom-same, EachFrom-next, EachFrom-push, moved}
 use Rattle.jffs_run.proofs.joining.join_writers.Goals as goal
@@ -22,7 +22,7 @@ loop-handle-preserved g c =
       count = let cons : length (into_iter_items c.loop-handle.handle-iterator) ≡ length (c.in-Some.handle ∷ into_iter_items c.next.new.self) = ap length step.0 in let count = before.count in omega arith;
       room = let room = before.room in omega (arith, pushed.capacity);
       same = moved (end_of g.H.Hand) (end_given g.H.Hand) c.loop-handle.hands.items _ hand _ c.in-Some.handle _ _ pushed.items step.0
-          (ap₂ (λ (s : ℕ) (l : Line). let e : End = (s, l) in e) kept.0 kept.1) before.same;
+          (same_end g.H.Hand _ _ kept.0 kept.1) before.same;
       started = λ script each. (EachFrom-next (IsStarted script) _ _ _ _ _ longer step.0 (before.started script each)).1;
       handed_in = λ script each.
           let started = (EachFrom-next (IsStarted script) _ _ _ _ _ longer step.0 (before.started script each)).0 in

@@ -1,12 +1,13 @@
 use Rattle.std.proofs.Common.{rules, ◌≡◌, ◌+◌, ◌<◌, ℕ, ◌∷◌, length, refl, sym, ◌∙◌, ap, subst, arith, vec_len, get_or}
 use Rattle.std.specs.List.{All}
 use Rattle.std.specs.Vec.Iter.{into_iter_items}
+use Rattle.std.proofs.lemmas.List.{get_or_default}
 use Rattle.std.proofs.lemmas.List.Elements.{All-head, All-tail}
 use Rattle.jffs_index.specs.declared.reader.Reader.{Reader}
 use Rattle.jffs_index.specs.Ends.{index_of}
 use Rattle.jffs_run.specs.Ends.{HasAt}
 use Rattle.jffs_run.specs.Started.{IsLooking}
-use Rattle.jffs_run.proofs.Places.{EachFrom-same, EachFrom-push, get_or-any}
+use Rattle.jffs_run.proofs.Places.{EachFrom-same, EachFrom-push}
 use Rattle.jffs_run.proofs.starting.start_readers.Goals as goal
 
 pub loop-reader-preserved : goal.loop-reader-preserved
@@ -28,7 +29,7 @@ loop-reader-preserved g c =
           let first : index_of c.in-Some.reader ≡ index = All-head (λ (r : Reader). index_of r ≡ index) c.in-Some.reader _ (subst (All (λ (r : Reader). index_of r ≡ index)) step.0 (before.readers index all)) in
           let at : HasAt c.args.statements.now (0 + length c.loop-reader.handles.items) c.in-Some-start_reader.handle.promise.statement.now = (
             below,
-            get_or-any c.args.statements.now (0 + length c.loop-reader.handles.items) c.in-Some-start_reader.handle.promise.statement.now c.index-statements-len.result below
+            get_or_default c.args.statements.now (0 + length c.loop-reader.handles.items) c.in-Some-start_reader.handle.promise.statement.now c.index-statements-len.result below
                 ∙ (ap (λ (i : ℕ). get_or c.args.statements.now i c.index-statements-len.result) (here ∙ sym at_len)
                 ∙ (sym c.index-statements-len.is ∙ sym c.in-Some-start_reader.ensures.1)),
           ) in

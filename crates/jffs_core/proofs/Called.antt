@@ -1,6 +1,5 @@
 -- What the calls that clean and erase leave.
-use Rattle.std.proofs.Common.{◌≡◌, ℕ, zero, suc, ◌≤◌, true, false, List, [], length, Result, Ok, Err, IfErr, refl, sym, ap, subst, ◌∙◌, arith}
-use Rattle.std.proofs.lemmas.Bool.{both_ways}
+use Rattle.std.proofs.Common.{◌≡◌, ℕ, zero, suc, ◌≤◌, false, List, [], length, Result, Ok, Err, IfErr, refl, sym, ap, subst, ◌∙◌, arith}
 use Rattle.jffs_node.specs.declared.node.Node.{Node}
 use Rattle.jffs_tree.specs.declared.wish.Cause.{Cause}
 use Rattle.jffs_tree.specs.declared.wish.Cause.TheVariants as causes
@@ -77,9 +76,6 @@ did_stop mounted past cause old new works s h =
       several = λ w. one.several;
       wants = one.wants;
     }
-
-pub stopped_before : (mounted past : List Node) (c : Standing) → c.failed ≡ true → StandsFor mounted past c → Stops mounted past causes.Failed c c
-stopped_before mounted past c fails s = record { after = past; added = record { copies = []; true_copies = tt; joined = refl }; stands = s; several = λ works. absurd (both_ways c.failed works fails); why = (fails, refl); wants = record { at_turn = λ e. cc; to_copy = λ e. cc } }
 
 pub device_stop : (mounted past : List Node) (cause : Cause) (old new : Standing) → old.failed ≡ false → StandsFor mounted past old → cause ≡ causes.Device → RefusedAt cause past old new → StandsFor mounted past new × StopIs cause past old new
 device_stop mounted past cause old new works s is h =

@@ -109,22 +109,6 @@ decided_cause past limits wish cause is =
     let holds : ℕ → Option (ℕ × Held) = λ v. holder (tree_of past) v in
     one_of (causes_for s holds limits wish) (node_for s holds limits wish) cause (of_tree s holds limits wish) (sym (in_parts s holds limits wish) ∙ is)
 
-has_version : (s : State) (holds : ℕ → Option (ℕ × Held)) (limits : Limits) (wish : Wish) → AllByRecursion (λ (c : Bool × Cause). c.0 ≡ false) (causes_for s holds limits wish) → is_none limits.next_version ≡ false
-has_version s holds limits (MakeDir path) h = h.1.1.1.1.0
-has_version s holds limits (Create path) h = h.1.1.1.1.0
-has_version s holds limits (Write path offset bytes) h = h.1.1.1.1.0
-has_version s holds limits (Truncate path size) h = h.1.1.1.0
-has_version s holds limits (Rename source target) h = h.1.1.1.1.1.0
-has_version s holds limits (Remove path) h = h.1.1.1.0
-has_version s holds limits (Copy source parent name offset bytes) h = h.1.1.1.0
-has_version s holds limits Unmount h = h.0
-
-pub decided_version : (past : List Node) (limits : Limits) (wish : Wish) (n : NewNode) → decide past limits wish ≡ Ok n → is_none limits.next_version ≡ false
-decided_version past limits wish n is =
-    let s = state_of_past past in
-    let holds : ℕ → Option (ℕ × Held) = λ v. holder (tree_of past) v in
-    has_version s holds limits wish (all_passed (causes_for s holds limits wish) (node_for s holds limits wish) n (sym (in_parts s holds limits wish) ∙ is)).0
-
 -- The node of a wish that is neither a Copy nor an Unmount is no copy, and has a name.
 abbrev IsNamed : NewNode → Type 0
 IsNamed n = (n.copy ≡ false) × (is_some n.name ≡ true)

@@ -1,11 +1,10 @@
 -- Each step of an index keeps its rule.
-use Rattle.std.proofs.Common.{◌≡◌, ℕ, ◌+◌, ◌≤◌, ◌≢◌, Bool, true, false, List, [], ◌∷◌, ◌++◌, length, drop, set, fold, refl, sym, ap, subst, ◌∙◌, ⊎_elim, append_assoc, append-nil, length-append, Option, Some, None, Result, Ok, Err, MatchResult, MatchBool, zero, suc, arith}
-use Rattle.std.proofs.Math.Seq.{drop-length}
+use Rattle.std.proofs.Common.{◌≡◌, ℕ, ◌+◌, ◌≤◌, ◌≢◌, Bool, true, false, List, [], ◌∷◌, ◌++◌, length, drop, set, fold, refl, sym, ap, subst, ◌∙◌, ⊎_elim, append_assoc, append-nil, length-append, Option, Some, None, Result, Err, MatchResult, MatchBool, zero, suc, arith}
 use Rattle.std.proofs.lemmas.List.{nil_from_length}
 use Rattle.std.proofs.lemmas.List.Sums.{fold-append}
 use Rattle.std.proofs.lemmas.Bool.{and_parts}
 use Rattle.std.proofs.lemmas.Bool.Decides.{nat_tests}
-use Rattle.std.proofs.lemmas.Result.{MatchResult-at_ok, MatchResult-at_err}
+use Rattle.std.proofs.lemmas.Result.{MatchResult-at_err}
 use lib.Dec.{leb}
 use mathlib.Core.Option.{some, some-injective, some-ne-none}
 use mathlib.Core.List.{IsPrefix}
@@ -182,16 +181,6 @@ lacks_count page changes logged batch count all pre is c a =
 prefix_self : (xs ys : List Step) → xs ≡ ys → IsPrefix xs ys
 prefix_self xs ys e = ([], append-nil xs ∙ e)
 
--- the book has all steps that were put
-pub logs_all : (page : Page) (changes : List Change) (book : Book) (logged : List Step) (known : Option Index) (head : Named) (count all : ℕ) → IsSound page changes book logged known head count all
-    → (book' : Book) (logged' : List Step) → book' ≡ book → logged' ≡ page.seen.log ++ steps_of changes
-    → IsSound page changes book' logged' known head all all × ((held page changes logged').unlogged ≡ [])
-logs_all page changes book logged known head count all s book' logged' b e =
-    let long : all ≡ length logged' = omega (arith, s.counted_all, ap (length {A = Step}) e, length-append page.seen.log (steps_of changes)) in (
-      record { faithful = s.faithful; knows = s.knows; word = s.word; same_book = b ∙ s.same_book; begins = prefix_self _ _ e; counted = long; counted_all = s.counted_all; fit = s.fit },
-      ap (λ (z : List Step). drop (length z) (page.seen.log ++ steps_of changes)) e ∙ drop-length (page.seen.log ++ steps_of changes),
-    )
-
 -- one more step is pending
 pub puts : (page : Page) (changes changes' : List Change) (s : Step) (book : Book) (logged : List Step) (known : Option Index) (head : Named) (count all more : ℕ) → IsSound page changes book logged known head count all
     → changes' ≡ changes ++ Put s ∷ [] → more ≡ all + 1 → fits (view_of (extended (history_of page) (steps_of changes))) s ≡ true → IsSound page changes' book logged known head count more
@@ -282,10 +271,3 @@ pub at_fault : {E : Type 0} (r : Result (Unit {0}) E) (x : E) → r ≡ Err x �
 at_fault r x e page page' next all all' known known' values rule =
     let v = MatchResult-at_err (λ _. (page' ≡ next) × (all' ≡ [])) (λ _. (page' ≡ page) × (all' ≡ all)) x e values in
     (v.0, v.1, MatchResult-at_err (λ _. Sees known page page' known') (λ _. known' ≡ known) x e rule)
-
-pub at_publish : {E : Type 0} (r : Result (Unit {0}) E) (u : Unit {0}) → r ≡ Ok u → (page page' next : Page) (all all' : List Change) (known known' : Option Index)
-    → MatchResult r (λ _. (page' ≡ next) × (all' ≡ [])) (λ _. (page' ≡ page) × (all' ≡ all)) → MatchResult r (λ _. Sees known page page' known') (λ _. known' ≡ known)
-    → (page' ≡ next) × (all' ≡ []) × Sees known page page' known'
-at_publish r u e page page' next all all' known known' values rule =
-    let v = MatchResult-at_ok (λ _. (page' ≡ next) × (all' ≡ [])) (λ _. (page' ≡ page) × (all' ≡ all)) u e values in
-    (v.0, v.1, MatchResult-at_ok (λ _. Sees known page page' known') (λ _. known' ≡ known) u e rule)

@@ -132,13 +132,6 @@ module _ (all_rings : List Ring) (all_hands : List RingHand) (apart : Apart (han
         others = λ w none. kept w (All-head (IsNot w) h old.done none) ∙ old.others w (All-tail (IsNot w) h old.done none);
       }
 
-  pub emptied_all : (rs : List Ring) (waiting : List Request) → AreEmptied all_rings all_hands rs [] waiting
-      → All (λ (h : RingHand). taken_in h.number all_rings ++ of h.number waiting ≡ ring_accepted h) all_hands
-  emptied_all rs waiting last = subst (All (λ (h : RingHand). taken_in h.number all_rings ++ of h.number waiting ≡ ring_accepted h)) (sym last.hands_are) last.settled
-
-  pub emptied_others : (rs : List Ring) (waiting : List Request) → AreEmptied all_rings all_hands rs [] waiting → (w : ℕ) → All (IsNot w) all_hands → of w waiting ≡ []
-  emptied_others rs waiting last w none = last.others w (subst (All (IsNot w)) last.hands_are none)
-
 pub not_there : (hs : List RingHand) (w : ℕ) → ¬ (Contains (hand_numbers hs) w) → All (IsNot w) hs
 not_there [] w none = All-nil (IsNot w)
 not_there (h ∷ hs) w none =

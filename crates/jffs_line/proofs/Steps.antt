@@ -2,7 +2,6 @@
 use Rattle.std.proofs.Common.{◌≡◌, ◌≢◌, ℕ, zero, suc, ◌+◌, ◌<◌, ◌≤◌, Bool, true, false, true≢false, List, [], ◌∷◌, ◌++◌, length, set, cond, eqb, sym, refl, ap, ◌∙◌, subst, ⊎_elim, ◌⊎◌, inl, inr, append_assoc, append-nil, arith}
 use Rattle.std.specs.List.{All}
 use Rattle.std.proofs.lemmas.Bool.{eq-eqb, ne_eqb, cond-true, cond-false}
-use Rattle.std.proofs.lemmas.List.{nil_from_length}
 use Rattle.std.proofs.lemmas.List.Elements.{All-nil, All-cons, All-head, All-tail, All-append, filter-append}
 use mathlib.Core.Option.{some, some-injective, some-ne-none}
 use lib.ListN.{get_elem?}
@@ -206,6 +205,3 @@ was_full capacity w v is h =
 -- a hand's pass may hand in
 pub may_hand_in : (n pass w : ℕ) (v : Knows) (x : Request) → v ≡ hand_knows w (accepted_of v) → x.writer ≡ w → (0 < w) × (w ≤ 10) → Pushes InOrder n pass v x (HandsIn v x)
 may_hand_in n pass w v x is by range = subst (λ (u : Knows). Pushes InOrder n pass u x (HandsIn u x)) (sym is) (hands_in n pass w (accepted_of v) x by range.0 range.1)
-
-pub was_empty : (v : Knows) → Held 0 (Learned v) → Learned v []
-was_empty v h = subst (Learned v) (nil_from_length h.0 h.1) h.2

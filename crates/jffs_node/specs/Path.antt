@@ -1,5 +1,5 @@
 -- The grammar of paths, and the first fault of a text that is none.
-use Rattle.std.specs.Prelude.{ℕ, ◌+◌, ◌≤◌, Bool, ◌||◌, ◌==◌, nat_lt, List, [], ◌∷◌, ◌++◌, length, Option, Some, None, Result, Ok, Err, if◌then◌else◌, flat_map, IsTrue}
+use Rattle.std.specs.Prelude.{ℕ, ◌+◌, ◌≤◌, Bool, ◌||◌, ◌==◌, nat_lt, List, [], ◌∷◌, ◌++◌, length, Option, Some, None, Result, Ok, Err, if◌then◌else◌, IsTrue}
 use Rattle.std.specs.List.{AllByRecursion, list_all, slice_split}
 use Rattle.jffs_node.specs.declared.path.PathFault.{PathFault}
 use Rattle.jffs_node.specs.declared.path.PathFault.TheVariants.{NoSlash, NameEmpty, NameLong, NameByte, Deep}
@@ -41,11 +41,6 @@ pub record IsPath (names : List (List ℕ)) : Type 0 where
 abbrev pub path_of : List ℕ → Result (List (List ℕ)) PathFault
 path_of [] = Err NoSlash
 path_of (b ∷ text) = if b == 47 then checked_names (names_in text) else Err NoSlash
-
--- the one text of a path
-abbrev pub path_text : List (List ℕ) → List ℕ
-path_text [] = 47 ∷ []
-path_text (name ∷ names) = flat_map (λ n. 47 ∷ n) (name ∷ names)
 
 abbrev pub unless_bad : List ℕ → Option PathFault → Result (List ℕ) PathFault
 unless_bad name None = Ok name

@@ -28,10 +28,6 @@ commands-at [] i d below = absurd (omega arith)
 commands-at (writer ∷ writers) zero d below = refl
 commands-at (writer ∷ writers) (suc i) d below = commands-at writers i d (omega arith)
 
-pub commands-length : (writers : List Writer) → length (commands_of writers) ≡ length writers
-commands-length [] = refl
-commands-length (writer ∷ writers) = let rest = commands-length writers in omega arith
-
 -- an element moves from the front of one list to the end of another, and what both show stays
 pub moved : {X Y E : Type 0} (f : X → E) (k : Y → E) (xs now : List X) (x : X) (from : List Y) (y : Y) (rest : List Y) (all : List E)
     → now ≡ xs ++ x ∷ [] → from ≡ y ∷ rest → f x ≡ k y → map f xs ++ map k from ≡ all → map f now ++ map k rest ≡ all

@@ -1,7 +1,6 @@
 -- What the log of an image is after a record was written, whole or in part.
-use Rattle.std.proofs.Common.{◌≡◌, ◌≢◌, ℕ, ◌+◌, ◌*◌, ◌/◌, ◌<◌, ◌≤◌, Bool, true, false, eqb, List, [], ◌∷◌, ◌++◌, length, flat_map, replicate, get_or, sum_by, refl, sym, ap, subst, ◌∙◌, arith, append_assoc}
-use Rattle.std.specs.List.{list_all, enumerate_from}
-use Rattle.std.proofs.lemmas.Bool.{and_parts, eqb-true}
+use Rattle.std.proofs.Common.{◌≡◌, ◌≢◌, ℕ, ◌+◌, ◌*◌, ◌/◌, ◌<◌, ◌≤◌, Bool, true, false, List, [], ◌∷◌, ◌++◌, length, flat_map, replicate, get_or, sum_by, refl, sym, ap, subst, ◌∙◌, arith, append_assoc}
+use Rattle.std.specs.List.{enumerate_from}
 use Rattle.std.proofs.lemmas.Grind.{flat_map-append}
 use Rattle.std.proofs.lemmas.List.{append-nil}
 use Rattle.std.proofs.lemmas.List.Sums.{sum_by-cons}
@@ -9,12 +8,14 @@ use Rattle.jffs_node.specs.declared.node.Node.{Node}
 use Rattle.jffs_node.specs.Record.{spelling, record_len, dsize, is_lawful, has_place}
 use Rattle.jffs_node.specs.Reading.{Reading, is_erased}
 use Rattle.jffs_node.proofs.Found.{length_spelled}
+use Rattle.jffs_node.proofs.Each.{each_front}
+use Rattle.jffs_node.proofs.Sound.{only}
 use Rattle.jffs_log.specs.Image.{Sector, Placed, sector_of, placed_from, records_in, turned}
 use Rattle.jffs_log.specs.Volume.{sector_bytes, sectors_in}
 use Rattle.jffs_log.specs.Ring.{IsRing}
 use Rattle.jffs_log.specs.Live.{IsOpenSector}
 use Rattle.jffs_log.proofs.SectorSpellings.{reading_open, erased_open}
-use Rattle.jffs_log.proofs.Ring.{Numbered, all_append, ring_tail, ring_next, ring_stays, ring_reads}
+use Rattle.jffs_log.proofs.Ring.{Numbered, ring_tail, ring_next, ring_stays, ring_reads}
 use Rattle.jffs_log.proofs.Open.{length-sectors_in, get_or-sectors_in, sector_after, image_after, sectors_after, sector_long, record_short, whole_reads, part_reads, part_used}
 
 placed_more : (sector at : ℕ) (nodes : List Node) (n : Node) → placed_from sector at (nodes ++ n ∷ []) ≡ placed_from sector at nodes ++ record { sector = sector; place = at + sum_by record_len nodes; node = n } ∷ []
@@ -48,13 +49,6 @@ end_same older k s t e = records_end older (k, t) ∙ ap (λ (ns : List Node). f
 end_none : (held : List Numbered) (k : ℕ) (t : Sector) → t.reading.nodes ≡ [] → flat_map records_in (held ++ (k, t) ∷ []) ≡ flat_map records_in held
 end_none held k t e = records_end held (k, t) ∙ ap (λ (ns : List Node). flat_map records_in held ++ placed_from k 0 ns) e ∙ append-nil (flat_map records_in held)
 
--- erased bytes
-erased_bytes : (bytes : List ℕ) → is_erased bytes ≡ true → bytes ≡ replicate (length bytes) 255
-erased_bytes [] h = refl
-erased_bytes (b ∷ bytes) h =
-    let both = and_parts (eqb b 255) (list_all (λ c. eqb c 255) bytes) h in
-    ap (λ k. k ∷ bytes) (eqb-true b 255 both.0) ∙ ap (λ (xs : List ℕ). 255 ∷ xs) (erased_bytes bytes both.1)
-
 -- the sectors of a ring that was read from an image
 pub ring_sector : (first count len : ℕ) (image : List ℕ) (xs ys : List Numbered) (t : Numbered) → first < length (sectors_in count len image) → turned first (enumerate_from 0 (sectors_in count len image)) ≡ xs ++ t ∷ ys
     → (t.0 < count) × (t.1 ≡ sector_of (sector_bytes len t.0 image))
@@ -71,7 +65,7 @@ blank_open first count len image held blank b whole h =
     let there = ring_sector first count len image held blank b h.inside h.order in
     let bytes = sector_bytes len b.0 image in
     let erased : is_erased bytes ≡ true = ap (λ (s : Sector). s.erased) (sym there.1) ∙ h.unused.0 in
-    let filled = erased_bytes bytes erased in
+    let filled = only 255 bytes erased in
     let any : IsOpenSector count len image b.0 [] (length bytes) = record { whole = whole; below = there.0; holds = record { spelled = filled; in_place = tt } } in
     subst (IsOpenSector count len image b.0 []) (sector_long count len image b.0 [] (length bytes) any) any
 
@@ -87,7 +81,7 @@ module _ (first count len : ℕ) (image : List ℕ) (older blank : List Numbered
       ∙ ap (λ (r : Reading). r.nodes) (reading_open (sector_bytes len t.0 image) nodes (replicate free 255) h.holds (erased_open free))
 
   tail_used : is_erased (sector_bytes len t.0 image) ≡ false
-  tail_used = ap (λ (s : Sector). s.erased) (sym tail_is) ∙ (all_append (λ s. s.1.erased ≡ false) older (t ∷ []) ring.used).1.0
+  tail_used = ap (λ (s : Sector). s.erased) (sym tail_is) ∙ (each_front (λ s. s.1.erased ≡ false) older (t ∷ []) ring.used).1.0
 
   abbrev pub tail_after : List ℕ → Numbered
   tail_after part = (t.0, sector_of (sector_after count len image t.0 nodes free h part))

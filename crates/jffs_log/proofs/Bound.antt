@@ -1,6 +1,6 @@
 -- The room bound.
-use Rattle.std.proofs.Common.{◌≡◌, ℕ, zero, suc, ◌+◌, ◌-◌, ◌*◌, ◌/◌, ◌≤◌, ◌<◌, Bool, true, false, cond, ◌&&◌, ◌||◌, leb, eqb, List, [], ◌∷◌, length, ◌⊎◌, inl, inr, ⊎_elim, refl, sym, ap, subst, ◌∙◌, arith}
-use Rattle.std.proofs.lemmas.Bool.{le-leb, eqb-true, and_parts, or_right, cases_Bool, cases_lt, both_ways}
+use Rattle.std.proofs.Common.{◌≡◌, ℕ, zero, suc, ◌+◌, ◌-◌, ◌*◌, ◌/◌, ◌≤◌, ◌<◌, Bool, true, false, cond, ◌&&◌, leb, eqb, List, [], ◌∷◌, length, ◌⊎◌, inl, inr, ⊎_elim, refl, sym, ap, subst, ◌∙◌, arith}
+use Rattle.std.proofs.lemmas.Bool.{le-leb, eqb-true, and_parts, or_left, or_right, cases_Bool, cases_lt, both_ways}
 use Rattle.std.proofs.Math.Nat.{mul-le-mul_right}
 use Rattle.jffs_node.specs.declared.node.Node.{Node}
 use Rattle.jffs_node.specs.Record.{record_len, len_of_data, dsize, is_unmount}
@@ -8,13 +8,13 @@ use Rattle.jffs_tree.specs.Origin.{is_live}
 use Rattle.jffs_log.specs.declared.room.Room.{Room}
 use Rattle.jffs_log.specs.declared.room.Room.TheVariants.{Fresh, Unmount}
 use Rattle.jffs_log.specs.declared.room.Room.TheVariants as rooms
-use Rattle.jffs_log.specs.Room.{heavy, has_room, erased_need, tail_need}
+use Rattle.jffs_log.specs.Room.{heavy, has_room, tail_need}
 use Rattle.jffs_log.specs.Cleaning.{Session, is_history, put, copied, with_copy, handled, cleaned, fresh_has_room, room_made, cleanings, oldest_records, handled_each}
 use Rattle.std.specs.List.{AllByRecursion}
 use Rattle.jffs_log.specs.RoomLaws.{Among, CopiesKeepSound, HandledAreDead, IsSound, CopiesTakeOver, UnmountNodesAreDead, CleaningHasRoom, CleaningMayStop, PutsKeepErased, FreshKeepsTwo, PutsKeepSound, ErasingKeepsSound, MakingRoomKeepsSound, FullLogsFill, FullLogsAreHeavy, CleaningsAreFew, UnmountHasRoom}
 use Rattle.jffs_log.proofs.Sectors.{needs_more, needs_itself}
 use Rattle.jffs_log.proofs.Turn.{charged, charged_live, full_at, IsFull, full_counts}
-use Rattle.jffs_log.proofs.Puts.{map_all, put_by, next_erased, tail_sound, next_sound, quarter_fits}
+use Rattle.jffs_log.proofs.Puts.{map_all, put_by, next_erased, enough_erased, tail_sound, next_sound, quarter_fits}
 use Rattle.jffs_log.proofs.Cleanings.{live_in, charged_in, IsUnderWay, IsTurn, begun, some_handled, turn_cleaned, sound_erased}
 
 -- At the start of a turn.
@@ -49,13 +49,9 @@ module _ (takes : CopiesTakeOver) (unmounts : UnmountNodesAreDead) where
   module _ (total z weight len : ℕ) (low : 64 ≤ z) (enough : 6 ≤ total) where
     pub no_room : (s : Session) → fresh_has_room len s ≡ false → (s.log.free < len + 64) × (s.log.erased < 4)
     no_room s h =
-        let a = ⊎_elim (λ l. l) (λ g. absurd (both_ways _ h (or_from_left (leb (len + 64) s.log.free) (leb 4 s.log.erased) (le-leb (len + 64) s.log.free g)))) (cases_lt s.log.free (len + 64)) in
+        let a = ⊎_elim (λ l. l) (λ g. absurd (both_ways _ h (or_left (leb (len + 64) s.log.free) (leb 4 s.log.erased) (le-leb (len + 64) s.log.free g)))) (cases_lt s.log.free (len + 64)) in
         let b = ⊎_elim (λ l. l) (λ g. absurd (both_ways _ h (or_right (leb (len + 64) s.log.free) (leb 4 s.log.erased) (le-leb 4 s.log.erased g)))) (cases_lt s.log.erased 4) in
         (a, b)
-      where
-        or_from_left : (a b : Bool) → a ≡ true → (a || b) ≡ true
-        or_from_left true b h = refl
-        or_from_left false b h = cc
 
     -- the turn ends with room, or with no sector left
     made : (left : ℕ) (s : Session) → IsTurn total z weight left s → (k : ℕ) × IsTurn total z weight k (room_made z len left s) × ((fresh_has_room len (room_made z len left s) ≡ true) ⊎ (k ≡ 0))
@@ -113,11 +109,6 @@ module _ (takes : CopiesTakeOver) (unmounts : UnmountNodesAreDead) where
 
   pub cleanings_are_few : CleaningsAreFew
   cleanings_are_few total z len s sound = let e = few_cleanings z len (length s.log.sectors) s in let k = sound.counted in omega arith
-
-enough_erased : (room : Room) → 2 ≤ erased_need room
-enough_erased rooms.Fresh = omega arith
-enough_erased rooms.Copy = omega arith
-enough_erased rooms.Unmount = omega arith
 
 pub puts_keep_erased : PutsKeepErased
 puts_keep_erased z room n log has one = put_by (λ l. 1 ≤ l.erased) z room n log

@@ -1,10 +1,10 @@
 -- The copy that cleaning makes takes over from its source.
-use Rattle.std.proofs.Common.{◌≡◌, ℕ, zero, suc, min, ◌+◌, ◌-◌, ◌≤◌, ◌<◌, Bool, true, false, cond, not, ◌&&◌, ◌||◌, leb, ltb, eqb, List, [], ◌∷◌, ◌++◌, length, map, flat_map, option_to_list, take, drop, ◌⊎◌, inl, inr, ⊎_elim, Option, Some, None, unwrap_or, is_some, refl, sym, ap, subst, ◌∙◌, arith}
-use Rattle.std.specs.List.{list_any, list_all, range_with_len}
+use Rattle.std.proofs.Common.{◌≡◌, ℕ, min, ◌+◌, ◌-◌, ◌≤◌, ◌<◌, Bool, true, false, cond, not, ◌&&◌, ◌||◌, leb, ltb, eqb, List, [], ◌∷◌, length, map, flat_map, option_to_list, take, drop, ◌⊎◌, inl, inr, ⊎_elim, Option, Some, None, unwrap_or, is_some, refl, sym, ap, subst, ◌∙◌, arith}
+use Rattle.std.specs.List.{list_any, list_all}
 use Rattle.std.specs.Option.{option_map_or}
-use Rattle.std.proofs.lemmas.Bool.{eqb-true, eq-eqb, leb-true, ltb-true, lt-ltb, le-leb, and_parts, and_from, or_left, or_right, cases_Bool, cases_lt, both_ways}
+use Rattle.std.proofs.lemmas.Bool.{eqb-true, eq-eqb, leb-true, ltb-true, lt-ltb, le-leb, and_parts, and_from, or_left, or_right, cases_Bool, cases_lt, both_ways, not-true}
+use Rattle.std.proofs.lemmas.Option.{none-some, same_Some}
 use Rattle.std.proofs.lemmas.List.{length-take, length-drop}
-use Rattle.std.proofs.lemmas.List.Folds.{list_any-append}
 use Rattle.jffs_node.specs.declared.node.Node.{Node}
 use Rattle.jffs_node.specs.Record.{dsize, len_of_data, is_unmount, is_file, kind_byte}
 use Rattle.jffs_tree.specs.State.{Entry, State, at, bytes_of, state_of_past}
@@ -12,37 +12,17 @@ use Rattle.jffs_tree.specs.Origin.{concerns, entry, size_in, writes, place_befor
 use Rattle.jffs_tree.specs.Check.{keeps_kind, keeps_places, keeps_form, each_fits}
 use Rattle.jffs_tree.specs.Decide.{entry_of, nobody}
 use Rattle.jffs_tree.proofs.Pointwise.{at-state}
+use Rattle.jffs_tree.proofs.Erasing.{present}
+use Rattle.jffs_tree.proofs.WholeTree.{the_version, any_of, from_range, named}
 use Rattle.jffs_tree.proofs.Live.{newest_is_live, origin_is_live}
 use Rattle.jffs_tree.proofs.Copies.{cleaning_copies_are_true}
 use Rattle.jffs_tree.proofs.TrueCopy.{true_copy_keeps_state}
-use Rattle.jffs_tree.proofs.Steps.{entry-other, entry-written, newest-other, newest-deleted, newest-written, own_or_back, origin-other, origin-written, origin-moved, origin-padding, where_is}
+use Rattle.jffs_tree.proofs.Steps.{its_inode, not_unmount, entry-other, entry-written, newest-other, newest-deleted, newest-written, origin-other, origin-deleted, origin-written, origin-moved, origin-padding, where_is}
+use Rattle.jffs_tree.proofs.Entries.{fits_parts, each_fits_from}
 use Rattle.jffs_log.specs.Cleaning.{copied, version_after, versions_fall, keeps_length, is_history}
 use Rattle.jffs_log.specs.RoomLaws.{Among, CopiesTakeOver, UnmountNodesAreDead}
 
-pub none_some : {A : Type 0} (o : Option A) (x : A) → o ≡ None → o ≡ Some x → ⊥
-none_some o x e f = cc
-
-pub same_some : {A : Type 0} (o : Option A) (x y : A) → o ≡ Some x → o ≡ Some y → x ≡ y
-same_some o x y e f = let g : Some x ≡ Some y = sym e ∙ f in cc
-
 -- Where a live version comes from.
-is_it : ℕ → ℕ → Bool
-is_it v w = eqb w v
-
-held_by : (v : ℕ) (o : Option ℕ) → list_any (λ w. eqb w v) (option_to_list o) ≡ true → o ≡ Some v
-held_by v None h = cc
-held_by v (Some w) h = ⊎_elim (λ t. ap (λ x. Some x) (eqb-true w v t)) (λ f. absurd (both_ways (eqb w v || false) (ap (λ b. b || false) f) h)) (cases_Bool (eqb w v))
-
-any_of : {A : Type 0} (p : A → Bool) (xs ys : List A) → list_any p (xs ++ ys) ≡ true → (list_any p xs ≡ true) ⊎ (list_any p ys ≡ true)
-any_of p xs ys h = ⊎_elim (λ t. inl t) (λ f. inr (sym (list_any-append p xs ys ∙ ap (λ b. b || list_any p ys) f) ∙ h)) (cases_Bool (list_any p xs))
-
-at_place : (f : ℕ → Option ℕ) (v n a : ℕ) → list_any (λ w. eqb w v) (flat_map option_to_list (map f (range_with_len a n))) ≡ true → (p : ℕ) × (p < a + n) × (f p ≡ Some v)
-at_place f v zero a h = absurd (both_ways false refl h)
-at_place f v (suc n) a h = ⊎_elim
-    (λ here. (a, omega arith, held_by v (f a) here))
-    (λ there. let later = at_place f v n (a + 1) there in (later.0, (let l = later.1 in omega arith), later.2))
-    (any_of (λ w. eqb w v) (option_to_list (f a)) (flat_map option_to_list (map f (range_with_len (a + 1) n))) h)
-
 abbrev pub IsNewest : List Node → ℕ → ℕ → Type 0
 IsNewest past v i = version_of (newest past i) ≡ Some v
 
@@ -58,8 +38,8 @@ in_held past v (x ∷ s) h = ⊎_elim
     (λ here. (
       x.0,
       ⊎_elim
-          (λ new. inl (held_by v (version_of (newest past x.0)) new))
-          (λ old. inr (let a = at_place (λ p. version_of (origin past x.0 p)) v (size_in past x.0) 0 old in (a.0, (let l = a.1 in omega arith), a.2)))
+          (λ new. inl (the_version v (version_of (newest past x.0)) new))
+          (λ old. inr (let a = from_range (λ p. version_of (origin past x.0 p)) v (size_in past x.0) 0 old in (a.0, (let l = a.1 in omega arith), a.2)))
           (any_of (λ w. eqb w v) (option_to_list (version_of (newest past x.0))) (flat_map option_to_list (writers_of past x.0)) here),
     ))
     (λ there. in_held past v s there)
@@ -69,53 +49,36 @@ pub comes_from : (past : List Node) (v : ℕ) → is_live past v ≡ true → Co
 comes_from past v h = in_held past v (state_of_past past) h
 
 -- An inode with a newest node, or with the origin of a byte, is present.
-newest_present : (past : List Node) (i : ℕ) (m : Node) → newest past i ≡ Some m → (e : Entry) × (entry past i ≡ Some e)
-newest_present [] i m h = absurd (none_some None m refl h)
-newest_present (n ∷ past) i m h = ⊎_elim
-    (λ c. ⊎_elim
-    (λ d. absurd (none_some (newest (n ∷ past) i) m (newest-deleted i n past c d) h))
-    (λ d. (_, entry-written i n past c d))
-    (cases_Bool n.deleted))
-    (λ c. let later = newest_present past i m (sym (newest-other i n past c) ∙ h) in (later.0, entry-other i n past c ∙ later.1))
-    (cases_Bool (concerns i n))
-
-pub origin_deleted : (i : ℕ) (n : Node) (past : List Node) (p : ℕ) → concerns i n ≡ true → n.deleted ≡ true → origin (n ∷ past) i p ≡ None
-origin_deleted i n past p c d = ap (λ t. cond (not t) (origin past i p) (cond n.deleted None (own_or_back i n past p))) c ∙ ap (λ t. cond t None (own_or_back i n past p)) d
-
 origin_present : (past : List Node) (i p : ℕ) (m : Node) → origin past i p ≡ Some m → (e : Entry) × (entry past i ≡ Some e)
-origin_present [] i p m h = absurd (none_some None m refl h)
+origin_present [] i p m h = absurd (none-some m h)
 origin_present (n ∷ past) i p m h = ⊎_elim
     (λ c. ⊎_elim
-    (λ d. absurd (none_some (origin (n ∷ past) i p) m (origin_deleted i n past p c d) h))
+    (λ d. absurd (none-some m (sym (origin-deleted i n past p c d) ∙ h)))
     (λ d. (_, entry-written i n past c d))
     (cases_Bool n.deleted))
     (λ c. let later = origin_present past i p m (sym (origin-other i n past p c) ∙ h) in (later.0, entry-other i n past c ∙ later.1))
     (cases_Bool (concerns i n))
 
-of_version : (o : Option Node) (v : ℕ) → version_of o ≡ Some v → (m : Node) × (o ≡ Some m) × (m.version ≡ v)
-of_version (Some m) v h = (m, refl, cc)
-of_version None v h = cc
-
 -- what comes from somewhere is live
 pub is_newest_live : (past : List Node) (v i : ℕ) → IsNewest past v i → is_live past v ≡ true
 is_newest_live past v i h =
-    let m = of_version (newest past i) v h in
-    let e = newest_present past i m.0 m.1 in
+    let m = named (newest past i) v h in
+    let e = present past i m.0 m.1 in
     subst (λ w. is_live past w ≡ true) m.2 (newest_is_live past i e.0 m.0 e.1 m.1)
 
 pub is_origin_live : (past : List Node) (v i : ℕ) → IsOrigin past v i → is_live past v ≡ true
 is_origin_live past v i h =
-    let m = of_version (origin past i h.0) v h.2 in
+    let m = named (origin past i h.0) v h.2 in
     let e = origin_present past i h.0 m.0 m.1 in
     subst (λ w. is_live past w ≡ true) m.2 (origin_is_live past i h.0 e.0 m.0 e.1 h.1 m.1)
 
 -- The newest node, and an origin, is one of the nodes and speaks of the inode; and bytes stay where they were written.
 newest_among : (past : List Node) (i : ℕ) (m : Node) → newest past i ≡ Some m → Among m past × (concerns i m ≡ true)
-newest_among [] i m h = absurd (none_some None m refl h)
+newest_among [] i m h = absurd (none-some m h)
 newest_among (n ∷ past) i m h = ⊎_elim
     (λ c. ⊎_elim
-    (λ d. absurd (none_some (newest (n ∷ past) i) m (newest-deleted i n past c d) h))
-    (λ d. let same = same_some (newest (n ∷ past) i) m n h (newest-written i n past c d) in (inl same, ap (concerns i) same ∙ c))
+    (λ d. absurd (none-some m (sym (newest-deleted i n past c d) ∙ h)))
+    (λ d. let same = same_Some m n (sym h ∙ newest-written i n past c d) in (inl same, ap (concerns i) same ∙ c))
     (cases_Bool n.deleted))
     (λ c. let later = newest_among past i m (sym (newest-other i n past c) ∙ h) in (inr later.0, later.1))
     (cases_Bool (concerns i n))
@@ -132,12 +95,10 @@ history_parts n past h =
     let b = and_parts (each_fits (n ∷ past)) (versions_fall (n ∷ past)) a.0 in
     let l = and_parts (keeps_length n) (list_all keeps_length past) a.1 in
     let v = and_parts (list_all (λ m. ltb m.version n.version) past) (versions_fall past) b.1 in
-    let f = and_parts (each_fits past && keeps_kind past n && keeps_places past n) (keeps_form past n) b.0 in
-    let g = and_parts (each_fits past && keeps_kind past n) (keeps_places past n) f.0 in
-    let k = and_parts (each_fits past) (keeps_kind past n) g.0 in
+    let f = fits_parts n past b.0 in
     record {
-      before = and_from (each_fits past && versions_fall past) (list_all keeps_length past) (and_from (each_fits past) (versions_fall past) k.0 v.1) l.1;
-      places = g.1;
+      before = and_from (each_fits past && versions_fall past) (list_all keeps_length past) (and_from (each_fits past) (versions_fall past) f.0 v.1) l.1;
+      places = f.2;
       length = l.0;
       falls = v.0;
     }
@@ -149,34 +110,31 @@ in_place true false ends h k = inr k
 in_place false true ends h k = inl refl
 in_place false false ends h k = cc
 
-inode_of : (i : ℕ) (n : Node) → concerns i n ≡ true → n.inode ≡ i
-inode_of i n c = eqb-true n.inode i (and_parts (not (is_unmount n.kind)) (eqb n.inode i) c).1
-
 unmoved : (n : Node) (past : List Node) (i p : ℕ) → is_history (n ∷ past) ≡ true → concerns i n ≡ true → (n.offset + dsize n ≤ p) → (place_before n p ≡ (p - dsize n) + n.rsize) → place_before n p < size_in past i
     → place_before n p ≡ p
 unmoved n past i p h c behind back there =
     let parts = history_parts n past h in
-    let at : size_in past n.inode ≡ size_in past i = ap (size_in past) (inode_of i n c) in
+    let at : size_in past n.inode ≡ size_in past i = ap (size_in past) (its_inode i n c) in
     ⊎_elim
     (λ same. let e = eqb-true (dsize n) n.rsize same in omega arith)
     (λ ends. let l = leb-true (size_in past n.inode) (n.offset + n.rsize) ends in absurd (omega arith))
     (in_place (is_file n.kind) (eqb (dsize n) n.rsize) (leb (size_in past n.inode) (n.offset + n.rsize)) parts.length parts.places)
 
 origin_among : (past : List Node) (i p : ℕ) (m : Node) → is_history past ≡ true → origin past i p ≡ Some m → Among m past × (concerns i m ≡ true) × (writes m p ≡ true)
-origin_among [] i p m h o = absurd (none_some None m refl o)
+origin_among [] i p m h o = absurd (none-some m o)
 origin_among (n ∷ past) i p m h o =
     let parts = history_parts n past h in
     ⊎_elim
     (λ c. ⊎_elim
-    (λ d. absurd (none_some (origin (n ∷ past) i p) m (origin_deleted i n past p c d) o))
+    (λ d. absurd (none-some m (sym (origin-deleted i n past p c d) ∙ o)))
     (λ d. ⊎_elim
-    (λ w. let same = same_some (origin (n ∷ past) i p) m n o (origin-written i n past p c d w.0) in (inl same, ap (concerns i) same ∙ c, ap (λ k. writes k p) same ∙ w.0))
+    (λ w. let same = same_Some m n (sym o ∙ origin-written i n past p c d w.0) in (inl same, ap (concerns i) same ∙ c, ap (λ k. writes k p) same ∙ w.0))
     (λ w. ⊎_elim
     (λ was.
     let stays : place_before n p ≡ p = ⊎_elim (λ before. before.1) (λ behind. unmoved n past i p h c behind.0 behind.1 was) w.1 in
     let later = origin_among past i (place_before n p) m parts.before (sym (origin-moved i n past p c d w.0 was) ∙ o) in
     (inr later.0, later.1, ap (writes m) (sym stays) ∙ later.2))
-    (λ gone. absurd (none_some (origin (n ∷ past) i p) m (origin-padding i n past p c d w.0 gone) o))
+    (λ gone. absurd (none-some m (sym (origin-padding i n past p c d w.0 gone) ∙ o)))
     (cases_lt (place_before n p) (size_in past i)))
     (where_is n p))
     (cases_Bool n.deleted))
@@ -184,7 +142,7 @@ origin_among (n ∷ past) i p m h o =
     (cases_Bool (concerns i n))
 
 -- Versions.
-all_test : (p : Node → Bool) (nodes : List Node) (m : Node) → list_all p nodes ≡ true → Among m nodes → p m ≡ true
+pub all_test : (p : Node → Bool) (nodes : List Node) (m : Node) → list_all p nodes ≡ true → Among m nodes → p m ≡ true
 all_test p [] m h a = absurd a
 all_test p (n ∷ nodes) m h a = let parts = and_parts (p n) (list_all p nodes) h in ⊎_elim (λ here. ap p here ∙ parts.0) (λ there. all_test p nodes m parts.1 there) a
 
@@ -220,16 +178,16 @@ live_node past n h a live =
     let from = comes_from past n.version live in
     ⊎_elim
     (λ new.
-    let m = of_version (newest past from.0) n.version new in
+    let m = named (newest past from.0) n.version new in
     let k = newest_among past from.0 m.0 m.1 in
     let same = same_node past m.0 n h k.0 a m.2 in
-    let at : n.inode ≡ from.0 = ap (λ x. x.inode) (sym same) ∙ inode_of from.0 m.0 k.1 in
+    let at : n.inode ≡ from.0 = ap (λ x. x.inode) (sym same) ∙ its_inode from.0 m.0 k.1 in
     inl (ap (newest past) at ∙ m.1 ∙ ap (λ x. Some x) same))
     (λ old.
-    let m = of_version (origin past from.0 old.0) n.version old.2 in
+    let m = named (origin past from.0 old.0) n.version old.2 in
     let k = origin_among past from.0 old.0 m.0 h m.1 in
     let same = same_node past m.0 n h k.0 a m.2 in
-    let at : n.inode ≡ from.0 = ap (λ x. x.inode) (sym same) ∙ inode_of from.0 m.0 k.1 in
+    let at : n.inode ≡ from.0 = ap (λ x. x.inode) (sym same) ∙ its_inode from.0 m.0 k.1 in
     inr (old.0, subst (λ j. old.0 < size_in past j) (sym at) old.1, ap (λ j. origin past j old.0) at ∙ m.1 ∙ ap (λ x. Some x) same))
     from.1
 
@@ -241,17 +199,13 @@ live_concerns past n h a live = ⊎_elim
 
 pub live_present : (past : List Node) (n : Node) → is_history past ≡ true → Among n past → is_live past n.version ≡ true → (e : Entry) × (entry past n.inode ≡ Some e)
 live_present past n h a live = ⊎_elim
-    (λ new. newest_present past n.inode n new)
+    (λ new. present past n.inode n new)
     (λ old. origin_present past n.inode old.0 n old.2)
     (live_node past n h a live)
 
-not_unmount : (u t : Bool) → (not u && t) ≡ true → u ≡ false
-not_unmount true t h = cc
-not_unmount false t h = refl
-
 pub unmounts_are_dead : UnmountNodesAreDead
 unmounts_are_dead past n h a u = ⊎_elim
-    (λ live. absurd (both_ways (is_unmount n.kind) (not_unmount (is_unmount n.kind) (eqb n.inode n.inode) (live_concerns past n h a live)) u))
+    (λ live. absurd (both_ways (is_unmount n.kind) (not_unmount n.inode n (live_concerns past n h a live)) u))
     (λ dead. dead)
     (cases_Bool (is_live past n.version))
 
@@ -262,12 +216,7 @@ longer a b h = omega arith
 -- A true copy of the next version.
 module _ (past : List Node) (h : is_history past ≡ true) (c : Node) (e : Entry) (true_copy : IsTrueCopy past c e) (next : c.version ≡ version_after past) where
   stands_parts : (is_unmount c.kind ≡ false) × (c.deleted ≡ false)
-  stands_parts = parts_of (is_unmount c.kind) c.deleted true_copy.stands
-    where
-      parts_of : (u d : Bool) → (not u && not d) ≡ true → (u ≡ false) × (d ≡ false)
-      parts_of true d k = cc
-      parts_of false true k = cc
-      parts_of false false k = (refl, refl)
+  stands_parts = let parts = and_parts (not (is_unmount c.kind)) (not c.deleted) true_copy.stands in (not-true (is_unmount c.kind) parts.0, not-true c.deleted parts.1)
 
   same_entry : (i : ℕ) → entry (c ∷ past) i ≡ entry past i
   same_entry i = sym (at-state (c ∷ past) i) ∙ ap (λ s. at s i) (true_copy_keeps_state past c e true_copy) ∙ at-state past i
@@ -285,8 +234,8 @@ module _ (past : List Node) (h : is_history past ≡ true) (c : Node) (e : Entry
         ⊎_elim
             (λ new. ⊎_elim
             (λ k.
-            let same = of_version (newest (c ∷ past) i) v new in
-            let f = same_some (newest (c ∷ past) i) same.0 c same.1 (newest-written i c past k stands_parts.1) in
+            let same = named (newest (c ∷ past) i) v new in
+            let f = same_Some same.0 c (sym same.1 ∙ newest-written i c past k stands_parts.1) in
             let g : c.version ≡ v = ap (λ x. x.version) (sym f) ∙ same.2 in
             absurd (omega arith))
             (λ k. inl (k, ap version_of (sym (newest-other i c past k)) ∙ new))
@@ -299,8 +248,8 @@ module _ (past : List Node) (h : is_history past ≡ true) (c : Node) (e : Entry
             ⊎_elim
             (λ k. ⊎_elim
             (λ w.
-            let same = of_version (origin (c ∷ past) i p) v old.2 in
-            let f = same_some (origin (c ∷ past) i p) same.0 c same.1 (origin-written i c past p k stands_parts.1 w.0) in
+            let same = named (origin (c ∷ past) i p) v old.2 in
+            let f = same_Some same.0 c (sym same.1 ∙ origin-written i c past p k stands_parts.1 w.0) in
             let g : c.version ≡ v = ap (λ x. x.version) (sym f) ∙ same.2 in
             absurd (omega arith))
             (λ w.
@@ -339,8 +288,7 @@ module _ (past : List Node) (h : is_history past ≡ true) (c : Node) (e : Entry
       let form : keeps_form past c ≡ true = stated (is_file c.kind) c.deleted c.size (list_any (λ m. is_some m.size) past) (length e.bytes) (true_copy.size ∙ ap (λ k. cond (is_file k) (Some (length e.bytes)) None) (sym true_copy.kind)) in
       and_from (each_fits (c ∷ past) && versions_fall (c ∷ past)) (list_all keeps_length (c ∷ past))
       (and_from (each_fits (c ∷ past)) (versions_fall (c ∷ past))
-      (and_from (each_fits past && keeps_kind past c && keeps_places past c) (keeps_form past c)
-      (and_from (each_fits past && keeps_kind past c) (keeps_places past c) (and_from (each_fits past) (keeps_kind past c) b.0 kind) places) form)
+      (each_fits_from c past b.0 kind places form)
       (and_from (list_all (λ m. ltb m.version c.version) past) (versions_fall past)
       (all_from (λ m. ltb m.version c.version) past (λ m k. lt-ltb m.version c.version (let l = newer_version past m h k in omega arith))) b.1))
       (and_from (keeps_length c) (list_all keeps_length past) (or_right (is_file c.kind) (eqb (dsize c) c.rsize) same_len) a.1)
@@ -363,25 +311,25 @@ module _ (past : List Node) (h : is_history past ≡ true) (c : Node) (e : Entry
         let i = from.0 in
         absurd (⊎_elim
         (λ new.
-        let m = of_version (newest past i) n.version new.1 in
+        let m = named (newest past i) n.version new.1 in
         let k = newest_among past i m.0 m.1 in
         let same = same_node past m.0 n h k.0 a m.2 in
         both_ways (concerns i c) new.0 (here i (ap (concerns i) (sym same) ∙ k.1)))
         (λ old.
-        let m = of_version (origin past i old.0) n.version old.2 in
+        let m = named (origin past i old.0) n.version old.2 in
         let k = origin_among past i old.0 m.0 h m.1 in
         let same = same_node past m.0 n h k.0 a m.2 in
         let con : concerns i n ≡ true = ap (concerns i) (sym same) ∙ k.1 in
         ⊎_elim
         (λ off. both_ways (concerns i c) off (here i con))
-        (λ off. both_ways (writes c old.0) off (covers old.0 (ap (λ x. writes x old.0) (sym same) ∙ k.2) (subst (λ j. old.0 < size_in past j) (sym (inode_of i n con)) old.1)))
+        (λ off. both_ways (writes c old.0) off (covers old.0 (ap (λ x. writes x old.0) (sym same) ∙ k.2) (subst (λ j. old.0 < size_in past j) (sym (its_inode i n con)) old.1)))
         old.3)
         from.1))
         (λ off. off)
         (cases_Bool (is_live (c ∷ past) n.version))
       where
         here : (i : ℕ) → concerns i n ≡ true → concerns i c ≡ true
-        here i con = and_from (not (is_unmount c.kind)) (eqb c.inode i) (ap not stands_parts.0) (eq-eqb c.inode i (inode ∙ inode_of i n con))
+        here i con = and_from (not (is_unmount c.kind)) (eqb c.inode i) (ap not stands_parts.0) (eq-eqb c.inode i (inode ∙ its_inode i n con))
 
 -- What the copy that cleaning makes covers, and how long it is. `o` is its offset, `b` its bytes.
 copied_len : (d o : ℕ) (bytes : List ℕ) → length (take d (drop o bytes)) ≤ d

@@ -14,8 +14,9 @@ use Rattle.jffs_log.specs.Live.{IsSound}
 use Rattle.jffs_log.specs.Book.{kept, HasTail, IsKept, placed_at, from_other}
 use Rattle.jffs_node.specs.declared.node.Node.{Node}
 use Rattle.jffs_node.specs.Record.{record_len}
+use Rattle.jffs_node.proofs.Found.{all_same}
 use Rattle.std.proofs.lemmas.Bool.{eq-eqb, ne_eqb}
-use Rattle.jffs_log.proofs.SectorSpellings.{reading_open, erased_all, erased_open}
+use Rattle.jffs_log.proofs.SectorSpellings.{reading_open, erased_open}
 use Rattle.jffs_log.proofs.Ring.{Numbered, ring_log, ring_erase, ring_lengths, place_in_ring, at_once}
 use Rattle.jffs_log.proofs.Volume.{length-replaced, split_replaced}
 use Rattle.jffs_log.proofs.Open.{length-sectors_in, get_or-split}
@@ -26,8 +27,8 @@ use Rattle.std.proofs.Math.Nat.{mul-le-mul_right}
 blank_sector : (len : ℕ) → sector_of (replicate len 255) ≡ record { erased = true; reading = record { nodes = []; ending = Free } }
 blank_sector len =
     let holds : HoldsNodes (replicate len 255) [] (replicate len 255) = record { spelled = refl; in_place = tt } in
-    let r = reading_open (replicate len 255) [] (replicate len 255) holds (erased_open len) ∙ ap (λ b. record { nodes = []; ending = cond b Free Torn }) (erased_all len) in
-    λ i. record { erased = erased_all len i; reading = r i }
+    let r = reading_open (replicate len 255) [] (replicate len 255) holds (erased_open len) ∙ ap (λ b. record { nodes = []; ending = cond b Free Torn }) (all_same len 255) in
+    λ i. record { erased = all_same len 255 i; reading = r i }
 
 pub sector_fits : (count len k : ℕ) → k < count → k * len + len ≤ count * len
 sector_fits count len k below = let more : suc k ≤ count = below in omega (arith, mul-le-mul_right len more)

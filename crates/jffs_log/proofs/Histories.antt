@@ -1,9 +1,11 @@
 -- A history stays lawful, and a scan finds it.
-use Rattle.std.proofs.Common.{◌≡◌, ◌⊎◌, ℕ, ◌<◌, Bool, true, false, not, cond, ltb, List, [], ◌∷◌, ◌++◌, reverse, Result, Ok, Err, inl, inr, refl, sym, ap, subst, ◌∙◌, arith, append_assoc}
+use Rattle.std.proofs.Common.{◌≡◌, ◌⊎◌, ℕ, Bool, true, false, not, cond, ltb, List, [], ◌∷◌, ◌++◌, reverse, Result, Ok, Err, inl, inr, refl, sym, ap, subst, ◌∙◌, arith, append_assoc}
 use Rattle.std.specs.List.{list_all, AllByRecursion}
 use Rattle.std.proofs.lemmas.Bool.{and_parts, and_from, ltb-true}
 use Rattle.std.proofs.lemmas.List.{reverse-append}
+use Rattle.std.proofs.lemmas.List.Folds.{list_all-append}
 use Rattle.jffs_node.specs.declared.node.Node.{Node}
+use Rattle.jffs_node.proofs.Each.{each_append}
 use Rattle.jffs_tree.specs.Origin.{is_live, tree_of}
 use Rattle.jffs_tree.specs.Check.{makes_tree}
 use Rattle.jffs_tree.specs.Laws.{NoneLive}
@@ -22,7 +24,8 @@ use Rattle.jffs_log.specs.declared.book.Book.{Book}
 use Rattle.jffs_log.specs.Book.{IsBook, HasSizes, IsCut, log_in, lives_in}
 use Rattle.jffs_log.proofs.Appended.{kept_readable}
 use Rattle.jffs_log.specs.History.{KeepsRules, IsLawfulHistory, IsHistory, HistoriesAreScanned, AppendsKeepHistory, CutsKeepHistory, ErasingKeepsHistory}
-use Rattle.jffs_log.proofs.MountedLog.{reversed, nodes_mapped, among_left, among_reversed, each_append}
+use Rattle.jffs_log.proofs.MountedLog.{reversed, nodes_mapped, among_left, among_reversed}
+use Rattle.jffs_log.proofs.Copied.{all_test}
 use Rattle.jffs_log.proofs.Sectors.{all_among}
 use Rattle.jffs_log.proofs.Live.{scan_reads}
 use Rattle.jffs_log.proofs.Staying.{all_stay_dead}
@@ -33,8 +36,7 @@ falls_part [] ys h = h
 falls_part (x ∷ xs) ys h = falls_part xs ys (and_parts (list_all (λ m. ltb m.version x.version) (xs ++ ys)) (versions_fall (xs ++ ys)) h).1
 
 all_part : (p : Node → Bool) (xs ys : List Node) → list_all p (xs ++ ys) ≡ true → list_all p ys ≡ true
-all_part p [] ys h = h
-all_part p (x ∷ xs) ys h = all_part p xs ys (and_parts (p x) (list_all p (xs ++ ys)) h).1
+all_part p xs ys h = (and_parts (list_all p xs) (list_all p ys) (sym (list_all-append p xs ys) ∙ h)).1
 
 pub turned_round : (n : Node) (nodes gone : List Node) → reverse (n ∷ nodes) ++ gone ≡ reverse nodes ++ (n ∷ gone)
 turned_round n nodes gone = ap (λ (xs : List Node). xs ++ gone) (reversed n nodes) ∙ append_assoc (reverse nodes) (n ∷ []) gone
@@ -116,16 +118,8 @@ own (n ∷ past) m h (inl same) =
         (λ e. absurd (omega arith), none_other nodes parts.1)
 own (n ∷ past) m h (inr later) =
     let parts = and_parts (list_all (λ k. ltb k.version n.version) past) (versions_fall past) h in
-    let less = below past parts.0 later in
+    let less = ltb-true m.version n.version (all_test (λ k. ltb k.version n.version) past m parts.0 later) in
     (λ e. absurd (omega arith), own past m parts.1 later)
-  where
-    below : (nodes : List Node) → list_all (λ k. ltb k.version n.version) nodes ≡ true → Among m nodes → m.version < n.version
-    below [] k a = absurd a
-    below (x ∷ nodes) k (inl same) =
-        let less = ltb-true x.version n.version (and_parts (ltb x.version n.version) (list_all (λ y. ltb y.version n.version) nodes) k).0 in
-        let number : m.version ≡ x.version = ap (λ (y : Node). y.version) same in
-        omega arith
-    below (x ∷ nodes) k (inr a) = below nodes (and_parts (ltb x.version n.version) (list_all (λ y. ltb y.version n.version) nodes) k).1 a
 
 pub lives_as : (past : List Node) (p : Placed) → versions_fall past ≡ true → Among p.node past → lives_in (tree_of past) p ≡ is_live past p.node.version
 lives_as past p falls a = live_whole past (tree_of past) p.node.version p.node.inode refl (own past p.node falls a)

@@ -1,8 +1,10 @@
 -- What a scan finds of a ring.
-use Rattle.std.proofs.Common.{◌≡◌, ℕ, ◌+◌, ◌≤◌, Bool, true, false, not, ◌||◌, List, [], ◌∷◌, ◌++◌, length, take, drop, set, zero, suc, flat_map, Option, None, Result, Err, cond, refl, sym, ap, ◌∙◌, arith}
+use Rattle.std.proofs.Common.{◌≡◌, ℕ, ◌+◌, ◌≤◌, true, not, ◌||◌, List, [], ◌∷◌, ◌++◌, length, take, drop, set, zero, suc, flat_map, Option, None, Result, Err, cond, refl, sym, ap, ◌∙◌, arith}
 use Rattle.std.specs.List.{list_any, enumerate_from, AllByRecursion}
 use Rattle.std.proofs.Math.Bool.{or_comm}
-use Rattle.std.proofs.lemmas.List.{take-append-drop}
+use Rattle.std.proofs.lemmas.Bool.{or_left, or_right}
+use Rattle.std.proofs.lemmas.List.{take-append-drop, map-append}
+use Rattle.std.proofs.lemmas.List.Folds.{list_any-append}
 use Rattle.jffs_node.specs.declared.read.Read.{Read}
 use Rattle.jffs_node.specs.declared.read.Read.TheVariants.{Closed, Free, Torn, Bad}
 use Rattle.jffs_node.specs.Reading.{reading_len}
@@ -23,21 +25,11 @@ pub ring_live : (first : ℕ) (sectors : List Sector) (held blank : List Numbere
 ring_live first sectors held blank h = ap (flat_map records_in) (ring_log first sectors held blank h).0
 
 any_append : (xs ys : List Numbered) → list_any (λ s. s.erased) (sectors_of (xs ++ ys)) ≡ list_any (λ s. s.erased) (sectors_of xs) || list_any (λ s. s.erased) (sectors_of ys)
-any_append [] ys = refl
-any_append (s ∷ xs) ys = ap (λ b. s.1.erased || b) (any_append xs ys) ∙ or_grouped s.1.erased _ _
-  where
-    or_grouped : (a b c : Bool) → (a || (b || c)) ≡ ((a || b) || c)
-    or_grouped true b c = refl
-    or_grouped false b c = refl
-
-or_true : (a b c : Bool) → b ≡ true → (a || (b || c)) ≡ true
-or_true true b c h = refl
-or_true false true c h = refl
-or_true false false c h = cc
+any_append xs ys = ap (list_any (λ s. s.erased)) (map-append (λ s. s.1) xs ys) ∙ list_any-append (λ s. s.erased) (sectors_of xs) (sectors_of ys)
 
 any_blank : (held blank : List Numbered) → 1 ≤ length blank → AllByRecursion (λ s. s.1.erased ≡ true) blank → list_any (λ s. s.erased) (sectors_of (held ++ blank)) ≡ true
 any_blank held [] some h = absurd (omega arith)
-any_blank held (b ∷ blank) some h = any_append held (b ∷ blank) ∙ or_true (list_any (λ s. s.erased) (sectors_of held)) b.1.erased _ h.0
+any_blank held (b ∷ blank) some h = any_append held (b ∷ blank) ∙ or_right (list_any (λ s. s.erased) (sectors_of held)) _ (or_left b.1.erased (list_any (λ s. s.erased) (sectors_of blank)) h.0)
 
 pub ring_readable : (first : ℕ) (sectors : List Sector) (held blank : List Numbered) → IsRing first sectors held blank → AllByRecursion (λ s. IsSound s.reading.ending) sectors → IsReadable sectors
 ring_readable first sectors held blank h sound =

@@ -1,5 +1,6 @@
 -- The records of the oldest sector, one after another.
-use Rattle.std.proofs.Common.{◌≡◌, ℕ, ◌≤◌, Bool, true, false, cond, ◌&&◌, List, [], ◌∷◌, ◌++◌, length, ⊎_elim, refl, ap, subst, sym, ◌∙◌, arith}
+use Rattle.std.proofs.Common.{◌≡◌, ℕ, ◌≤◌, cond, ◌&&◌, List, [], ◌∷◌, ◌++◌, length, ⊎_elim, refl, ap, subst, sym, ◌∙◌, arith}
+use Rattle.std.proofs.Math.Bool.{and_assoc}
 use Rattle.std.proofs.lemmas.Bool.{cases_Bool}
 use Rattle.jffs_node.specs.declared.node.Node.{Node}
 use Rattle.jffs_tree.specs.Origin.{is_live}
@@ -9,16 +10,12 @@ use Rattle.jffs_log.specs.RoomLaws.{HandledInParts, OldestStays}
 use Rattle.jffs_log.proofs.Sectors.{length_in_last, length_in_next}
 use Rattle.jffs_log.proofs.Puts.{put_by}
 
-and_in_parts : (a b c : Bool) → (a && (b && c)) ≡ ((a && b) && c)
-and_in_parts true b c = refl
-and_in_parts false b c = refl
-
 pub handled_in_parts : HandledInParts
 handled_in_parts z [] rest s = (refl, refl)
 handled_in_parts z (n ∷ done) rest s =
     let later = handled_in_parts z done rest (handled z n s) in (
       later.0,
-      ap (λ b. copy_has_room n s && b) later.1 ∙ and_in_parts (copy_has_room n s) (copies_have_room z done (handled z n s)) (copies_have_room z rest (handled_each z done (handled z n s))),
+      ap (λ b. copy_has_room n s && b) later.1 ∙ sym (and_assoc (copy_has_room n s) (copies_have_room z done (handled z n s)) (copies_have_room z rest (handled_each z done (handled z n s)))),
     )
 
 abbrev Stays : List (List Node) → List (List Node) → Type 0

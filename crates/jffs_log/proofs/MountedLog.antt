@@ -1,16 +1,15 @@
 -- A mounted image is a session with a lawful log.
-use Rattle.std.proofs.Common.{◌≡◌, ℕ, zero, suc, ◌+◌, ◌-◌, ◌/◌, ◌≤◌, ◌<◌, Bool, true, false, cond, not, ◌&&◌, ◌||◌, leb, ltb, eqb, List, [], ◌∷◌, ◌++◌, length, map, filter, flat_map, take, drop, reverse, get_or, inl, inr, ⊎_elim, Option, Some, None, Result, Ok, Err, refl, sym, ap, subst, ◌∙◌, arith}
+use Rattle.std.proofs.Common.{◌≡◌, ℕ, zero, suc, ◌+◌, ◌-◌, ◌/◌, ◌≤◌, ◌<◌, Bool, true, false, cond, not, ◌&&◌, leb, ltb, List, [], ◌∷◌, ◌++◌, length, map, filter, flat_map, take, drop, reverse, get_or, inl, inr, ⊎_elim, Option, Some, None, Result, Ok, Err, refl, sym, ap, subst, ◌∙◌, arith}
 use Rattle.std.specs.List.{AllByRecursion, list_any, list_all, last_or, enumerate_from}
-use Rattle.std.proofs.lemmas.Bool.{eqb-true, eq-eqb, le-leb, ltb-true, lt-ltb, and_parts, and_from, not-false}
+use Rattle.std.proofs.lemmas.Bool.{le-leb, ltb-true, lt-ltb, and_parts, and_from, not-false}
 use Rattle.std.proofs.lemmas.List.{length-drop, length-append, length-map, get_or-drop, reverse-append, take-append-drop}
 use Rattle.std.proofs.lemmas.List.Elements.{filter-append}
+use Rattle.std.proofs.lemmas.List.Folds.{list_all-append}
 use Rattle.std.proofs.lemmas.List.Filters.{length-filter_both}
 use Rattle.jffs_node.specs.declared.node.Node.{Node}
-use Rattle.jffs_node.specs.declared.node.Kind.{Kind}
-use Rattle.jffs_node.specs.declared.node.Kind.TheVariants.{File, Directory, Unmount}
 use Rattle.jffs_node.specs.declared.read.Read.{Read}
 use Rattle.jffs_node.specs.declared.read.Read.TheVariants.{Closed, Free, Torn, Bad}
-use Rattle.jffs_node.specs.Record.{record_len, dsize, is_file, has_place, kind_numbers, numbers_hold, fits_fields, suits_kind, size_numbers, has_no_range}
+use Rattle.jffs_node.specs.Record.{record_len, dsize, is_lawful, has_place}
 use Rattle.jffs_node.specs.Reading.{Reading, found, reading_of, reading_len, after_record}
 use Rattle.jffs_tree.specs.Origin.{tree_of}
 use Rattle.jffs_tree.specs.Check.{each_fits, check, makes_tree}
@@ -18,35 +17,20 @@ use Rattle.jffs_log.specs.declared.scanning.ScanWhy.{ScanWhy}
 use Rattle.jffs_log.specs.declared.scanning.ScanWhy.TheVariants as why
 use Rattle.jffs_log.specs.Image.{Sector, Placed, sector_of, placed_from, records_in, turned, starts, oldest_of, is_one_run, log_sectors, log_of, nodes_of, past_of, erased_count, is_free, is_clean, free_of_tail}
 use Rattle.jffs_node.proofs.Sound.{found_are_records}
+pub use Rattle.jffs_node.proofs.Each.{each_append, each_front}
+use Rattle.jffs_node.proofs.Lawfulness.{as_long}
+use Rattle.jffs_node.proofs.Rules.{place_parts}
+pub use Rattle.jffs_node.proofs.Rules.{ok_same}
 use Rattle.jffs_log.specs.Cleaning.{used, stands_from, last_fits, keeps_length, versions_fall, is_history}
 use Rattle.jffs_log.specs.Scan.{Scanned, versions_rise, first_bad, or_refuse, unless, scan_sectors, scan}
 use Rattle.jffs_flash.specs.Sizes.{is_geometry}
 use Rattle.jffs_log.specs.RoomLaws.{Among, MountsAreSound}
-use Rattle.jffs_log.proofs.Sectors.{used-cons, all_among, place_parts}
+use Rattle.jffs_log.proofs.Sectors.{used-cons, all_among}
 use Rattle.jffs_log.proofs.Puts.{map_all}
 
 -- A lawful node keeps the length, unless it is a file's.
-no_range : (n : Node) (amount : ℕ) → has_no_range n amount ≡ true → eqb amount n.rsize ≡ true
-no_range n amount h =
-    let a = and_parts (eqb n.offset 0 && eqb amount 0) (eqb n.rsize 0) h in
-    let b = and_parts (eqb n.offset 0) (eqb amount 0) a.0 in
-    let c = eqb-true amount 0 b.1 in
-    let d = eqb-true n.rsize 0 a.1 in
-    eq-eqb amount n.rsize (omega arith)
-
-by_kind : (k : Kind) (n : Node) (amount : ℕ) → kind_numbers k n amount ≡ true → (is_file k || eqb amount n.rsize) ≡ true
-by_kind File n amount h = refl
-by_kind Directory n amount h = no_range n amount (and_parts (leb 2 n.inode && leb 1 n.parent && ltb n.parent n.inode) (has_no_range n amount) h).1
-by_kind Unmount n amount h = no_range n amount (and_parts (eqb n.inode 0 && eqb n.parent 0) (has_no_range n amount) h).1
-
-pub lawful_keeps : (n : Node) → (fits_fields n && suits_kind n && numbers_hold n (dsize n)) ≡ true → keeps_length n ≡ true
-lawful_keeps n h =
-    let a = and_parts (fits_fields n && suits_kind n) (numbers_hold n (dsize n)) h in
-    let b = and_parts (leb 1 n.version && kind_numbers n.kind n (dsize n) && (not n.deleted || has_no_range n (dsize n)) && (not n.copy || eqb n.rsize (dsize n))) (size_numbers n (dsize n)) a.1 in
-    let c = and_parts (leb 1 n.version && kind_numbers n.kind n (dsize n) && (not n.deleted || has_no_range n (dsize n))) (not n.copy || eqb n.rsize (dsize n)) b.0 in
-    let d = and_parts (leb 1 n.version && kind_numbers n.kind n (dsize n)) (not n.deleted || has_no_range n (dsize n)) c.0 in
-    let e = and_parts (leb 1 n.version) (kind_numbers n.kind n (dsize n)) d.0 in
-    by_kind n.kind n (dsize n) e.1
+pub lawful_keeps : (n : Node) → is_lawful n ≡ true → keeps_length n ≡ true
+lawful_keeps n h = as_long n h
 
 -- What a sector reads as stands in it.
 abbrev pub Bytes : List ℕ → Type 0
@@ -71,7 +55,7 @@ reading_stands zero z place rest b l = (refl, refl)
 reading_stands (suc more) z place rest b l = elim (found (z / 4) rest) as (λ r. found (z / 4) rest ≡ r → Stands z place (after_found more (z / 4) rest r).nodes) [
   | Closed n len ↦ λ is.
       let known = found_are_records rest (z / 4) n len b is in
-      let parts = place_parts n (z / 4) (length rest) known.0.placed in
+      let parts = place_parts n.kind (dsize n) (z / 4) (length rest) known.0.placed in
       let fits = parts.1 in
       let same : len ≡ record_len n = known.1 in
       let d = length-drop len rest in
@@ -88,8 +72,7 @@ reading_stands (suc more) z place rest b l = elim (found (z / 4) rest) as (λ r.
 
 -- Versions that rise fall when they are read backwards.
 all_append : (p : Node → Bool) (xs ys : List Node) → list_all p xs ≡ true → list_all p ys ≡ true → list_all p (xs ++ ys) ≡ true
-all_append p [] ys h k = k
-all_append p (x ∷ xs) ys h k = let a = and_parts (p x) (list_all p xs) h in and_from (p x) (list_all p (xs ++ ys)) a.0 (all_append p xs ys a.1 k)
+all_append p xs ys h k = list_all-append p xs ys ∙ and_from (list_all p xs) (list_all p ys) h k
 
 pub reversed : (n : Node) (nodes : List Node) → reverse (n ∷ nodes) ≡ reverse nodes ++ n ∷ []
 reversed n nodes = reverse-append (n ∷ []) nodes
@@ -131,18 +114,10 @@ falls_backwards (n ∷ nodes) h =
 
 -- Lists of which something holds throughout.
 module _ {A : Type 0} (P : A → Type 0) where
-  pub each_append : (xs ys : List A) → AllByRecursion P xs → AllByRecursion P ys → AllByRecursion P (xs ++ ys)
-  each_append [] ys h k = k
-  each_append (x ∷ xs) ys h k = (h.0, each_append xs ys h.1 k)
-
-  pub each_front : (xs ys : List A) → AllByRecursion P (xs ++ ys) → AllByRecursion P xs × AllByRecursion P ys
-  each_front [] ys h = (tt, h)
-  each_front (x ∷ xs) ys h = let later = each_front xs ys h.1 in ((h.0, later.0), later.1)
-
   pub each_turned : (k : ℕ) (xs : List A) → AllByRecursion P xs → AllByRecursion P (turned k xs)
   each_turned k xs h =
-      let parts = each_front (take k xs) (drop k xs) (subst (AllByRecursion P) (sym (take-append-drop k xs)) h) in
-      each_append (drop k xs) (take k xs) parts.1 parts.0
+      let parts = each_front P (take k xs) (drop k xs) (subst (AllByRecursion P) (sym (take-append-drop k xs)) h) in
+      each_append P (drop k xs) (take k xs) parts.1 parts.0
 
   pub each_filtered : (p : A → Bool) (xs : List A) → AllByRecursion P xs → AllByRecursion P (filter p xs)
   each_filtered p [] h = tt
@@ -177,7 +152,7 @@ stands_used : (z place : ℕ) (nodes : List Node) → place ≤ z → stands_fro
 stands_used z place [] low h = omega arith
 stands_used z place (n ∷ nodes) low h =
     let a = and_parts (has_place n.kind (dsize n) (z / 4) (z - place)) (stands_from z (place + record_len n) nodes) h in
-    let b = (place_parts n (z / 4) (z - place) a.0).1 in
+    let b = (place_parts n.kind (dsize n) (z / 4) (z - place) a.0).1 in
     let c = used-cons n nodes in
     let later = stands_used z (place + record_len n) nodes (omega arith) a.1 in
     omega arith
@@ -260,27 +235,28 @@ flat_keeps [] h = refl
 flat_keeps (s ∷ sectors) h = all_append keeps_length s (flat_map (λ nodes. nodes) sectors) h.0 (flat_keeps sectors h.1)
 
 -- What a scan that refuses nothing has seen.
-pub passed : (test : Bool) (why : ScanWhy) (causes : List (Bool × ScanWhy)) (s t : Scanned) → unless ((test, why) ∷ causes) s ≡ Ok t → (test ≡ false) × (unless causes s ≡ Ok t)
+passed : (test : Bool) (why : ScanWhy) (causes : List (Bool × ScanWhy)) (s t : Scanned) → unless ((test, why) ∷ causes) s ≡ Ok t → (test ≡ false) × (unless causes s ≡ Ok t)
 passed true why causes s t h = cc
 passed false why causes s t h = (refl, h)
 
-pub no_bad : (o : Option ScanWhy) (r : Result Scanned ScanWhy) (t : Scanned) → or_refuse o r ≡ Ok t → r ≡ Ok t
-no_bad (Some why) r t h = cc
-no_bad None r t h = h
+none_bad : (o : Option ScanWhy) (r : Result Scanned ScanWhy) (t : Scanned) → or_refuse o r ≡ Ok t → (o ≡ None) × (r ≡ Ok t)
+none_bad (Some why) r t h = cc
+none_bad None r t h = (refl, h)
 
-pub ok_same : (s t : Scanned) → ◌≡◌ {A = Result Scanned ScanWhy} (Ok s) (Ok t) → s ≡ t
-ok_same s t h = cc
-
-pub geometry : (g : Bool) (r : Result Scanned ScanWhy) (t : Scanned) → cond g r (Err why.Geometry) ≡ Ok t → r ≡ Ok t
-geometry true r t h = h
+geometry : (g : Bool) (r : Result Scanned ScanWhy) (t : Scanned) → cond g r (Err why.Geometry) ≡ Ok t → (g ≡ true) × (r ≡ Ok t)
+geometry true r t h = (refl, h)
 geometry false r t h = cc
 
-record IsScan (sectors : List Sector) (scanned : Scanned) : Type 0 where
-  log : log_of sectors ≡ scanned.log
-  rise : versions_rise (nodes_of (log_of sectors)) ≡ true
-  tree : makes_tree (past_of (log_of sectors)) ≡ true
+pub record IsScan (z : ℕ) (image : List (List ℕ)) (scanned : Scanned) : Type 0 where
+  pub sizes : is_geometry (length image) z ≡ true
+  pub none : first_bad 0 (map sector_of image) ≡ None
+  pub erased : list_any (λ s. s.erased) (map sector_of image) ≡ true
+  pub run : is_one_run (map sector_of image) ≡ true
+  pub rise : versions_rise (nodes_of (log_of (map sector_of image))) ≡ true
+  pub tree : makes_tree (past_of (log_of (map sector_of image))) ≡ true
+  pub log : log_of (map sector_of image) ≡ scanned.log
 
-scan_parts : (z : ℕ) (image : List (List ℕ)) (scanned : Scanned) → scan z image ≡ Ok scanned → IsScan (map sector_of image) scanned
+pub scan_parts : (z : ℕ) (image : List (List ℕ)) (scanned : Scanned) → scan z image ≡ Ok scanned → IsScan z image scanned
 scan_parts z image scanned h =
     let sectors = map sector_of image in
     let result : Scanned = record { log = log_of sectors; tree = tree_of (past_of (log_of sectors)); clean = is_clean sectors } in
@@ -288,15 +264,20 @@ scan_parts z image scanned h =
     let second : List (Bool × ScanWhy) = (not (versions_rise (nodes_of (log_of sectors))), why.BadOrder) ∷ third in
     let first : List (Bool × ScanWhy) = (not (is_one_run sectors), why.Scattered) ∷ second in
     let all : List (Bool × ScanWhy) = (not (list_any (λ s. s.erased) sectors), why.NoErased) ∷ first in
-    let a = no_bad (first_bad 0 sectors) (unless all result) scanned (geometry (is_geometry (length image) z) (scan_sectors sectors) scanned h) in
-    let b = passed (not (list_any (λ s. s.erased) sectors)) why.NoErased first result scanned a in
+    let g = geometry (is_geometry (length image) z) (scan_sectors sectors) scanned h in
+    let a = none_bad (first_bad 0 sectors) (unless all result) scanned g.1 in
+    let b = passed (not (list_any (λ s. s.erased) sectors)) why.NoErased first result scanned a.1 in
     let c = passed (not (is_one_run sectors)) why.Scattered second result scanned b.1 in
     let d = passed (not (versions_rise (nodes_of (log_of sectors)))) why.BadOrder third result scanned c.1 in
     let e = passed (not (makes_tree (past_of (log_of sectors)))) why.BadTree [] result scanned d.1 in
     record {
-      log = ap (λ (s : Scanned). s.log) (ok_same result scanned e.1);
+      sizes = g.0;
+      none = a.0;
+      erased = not-false (list_any (λ s. s.erased) sectors) b.0;
+      run = not-false (is_one_run sectors) c.0;
       rise = not-false (versions_rise (nodes_of (log_of sectors))) d.0;
       tree = not-false (makes_tree (past_of (log_of sectors))) e.0;
+      log = ap (λ (s : Scanned). s.log) (ok_same result scanned e.1);
     }
 
 pub mounts_are_sound : MountsAreSound

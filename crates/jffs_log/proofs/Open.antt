@@ -1,28 +1,23 @@
 -- A record is written into the free part of a sector: what the image's sectors are then.
-use Rattle.std.proofs.Common.{◌≡◌, ◌≢◌, ℕ, zero, suc, ◌+◌, ◌-◌, ◌*◌, ◌/◌, ◌<◌, ◌≤◌, Bool, true, false, cond, List, [], ◌∷◌, ◌++◌, length, take, drop, replicate, set, get_or, sum_by, refl, sym, ap, subst, ◌∙◌, arith, length-append, length-drop}
+use Rattle.std.proofs.Common.{◌≡◌, ◌≢◌, ℕ, zero, suc, ◌+◌, ◌-◌, ◌*◌, ◌/◌, ◌<◌, ◌≤◌, Bool, true, false, cond, List, [], ◌∷◌, ◌++◌, length, take, drop, replicate, set, get_or, sum_by, sym, ap, subst, ◌∙◌, arith, length-append, length-drop}
 use Rattle.std.proofs.Math.Nat.{mul-le-mul_right}
-use Rattle.std.proofs.lemmas.List.{length-map, length-take-le, length-replicate, drop-drop, get_or-set_same}
+use Rattle.std.proofs.lemmas.List.{length-map, length-take-le, length-replicate, drop-drop, get_or-set_same, get_or_default}
 use Rattle.std.proofs.Math.ListN.{get_or-map}
 use Rattle.jffs_node.specs.declared.node.Node.{Node}
 use Rattle.jffs_node.specs.declared.read.Read.TheVariants.{Free, Torn}
 use Rattle.jffs_node.specs.Record.{spelling, record_len, dsize, is_lawful, has_place}
 use Rattle.jffs_node.specs.Reading.{Reading, is_erased, reading}
-use Rattle.jffs_node.proofs.Found.{length_spelled}
+use Rattle.jffs_node.proofs.Found.{all_same, length_spelled}
 use Rattle.jffs_flash.specs.Image.{replaced}
 use Rattle.jffs_log.specs.Image.{Sector, sector_of}
 use Rattle.jffs_log.specs.Sector.{spellings, HoldsNodes}
 use Rattle.jffs_log.specs.Volume.{split, sector_bytes, sectors_in}
 use Rattle.jffs_log.specs.Live.{IsSound, IsOpenSector}
-use Rattle.jffs_log.proofs.SectorSpellings.{length_spellings, in_place_fits, reading_open, erased_all, erased_open, not_erased, whole_written, part_written, part_open}
+use Rattle.jffs_log.proofs.SectorSpellings.{length_spellings, in_place_fits, reading_open, erased_open, not_erased, whole_written, part_written, part_open}
 use Rattle.jffs_log.proofs.Volume.{length-split, length-replaced, split_replaced, sectors_replaced}
 
 pub length-sectors_in : (count len : ℕ) (image : List ℕ) → length (sectors_in count len image) ≡ count
 length-sectors_in count len image = length-map (split count len image) sector_of ∙ length-split count len image
-
-other_default : {A : Type 0} (xs : List A) (k : ℕ) (d e : A) → k < length xs → get_or xs k d ≡ get_or xs k e
-other_default [] k d e h = absurd (omega arith)
-other_default (x ∷ xs) zero d e h = refl
-other_default (x ∷ xs) (suc k) d e h = other_default xs k d e (omega arith)
 
 pub get_or-split : (count len k : ℕ) (image d : List ℕ) → k < count → get_or (split count len image) k d ≡ sector_bytes len k image
 get_or-split zero len k image d h = absurd (omega arith)
@@ -34,7 +29,7 @@ get_or-split (suc count) len (suc k) image d h =
 pub get_or-sectors_in : (count len k : ℕ) (image : List ℕ) (d : Sector) → k < count → get_or (sectors_in count len image) k d ≡ sector_of (sector_bytes len k image)
 get_or-sectors_in count len k image d h =
     let many = length-sectors_in count len image in
-    other_default (sectors_in count len image) k d (sector_of []) (omega arith)
+    get_or_default (sectors_in count len image) k d (sector_of []) (omega arith)
     ∙ get_or-map sector_of (split count len image) k []
     ∙ ap sector_of (get_or-split count len k image [] h)
 
@@ -87,7 +82,7 @@ module _ (count len : ℕ) (image : List ℕ) (k : ℕ) (nodes : List Node) (fre
         let e : is_erased (sector_after (spelling n)) ≡ false = ap is_erased whole_holds.spelled ∙ not_erased_more nodes (replicate f 255) in
         let r : reading (sector_after (spelling n)) ≡ record { nodes = nodes ++ n ∷ []; ending = Free } =
         reading_open (sector_after (spelling n)) (nodes ++ n ∷ []) (replicate f 255) whole_holds (erased_open f)
-        ∙ ap (λ b. record { nodes = nodes ++ n ∷ []; ending = cond b Free Torn }) (erased_all f) in
+        ∙ ap (λ b. record { nodes = nodes ++ n ∷ []; ending = cond b Free Torn }) (all_same f 255) in
         λ i. record { erased = e i; reading = r i }
 
     pub whole_open : IsOpenSector count len (image_after (spelling n)) k (nodes ++ n ∷ []) (free - record_len n)
@@ -126,5 +121,5 @@ module _ (count len : ℕ) (image : List ℕ) (k : ℕ) (nodes : List Node) (fre
     part_used used = by_nodes nodes h.holds.spelled (part_written (sector_bytes len k image) part nodes free h.holds short).spelled
       where
         by_nodes : (ns : List Node) → sector_bytes len k image ≡ spellings ns ++ replicate free 255 → sector_after part ≡ spellings ns ++ left → is_erased (sector_after part) ≡ false
-        by_nodes [] e f = let a : is_erased (sector_bytes len k image) ≡ true = ap is_erased e ∙ erased_all free in cc
+        by_nodes [] e f = let a : is_erased (sector_bytes len k image) ≡ true = ap is_erased e ∙ all_same free 255 in cc
         by_nodes (m ∷ ns) e f = ap is_erased f ∙ not_erased m ns left

@@ -1,15 +1,18 @@
 -- A put keeps a log lawful.
-use Rattle.std.proofs.Common.{◌≡◌, ℕ, ◌+◌, ◌/◌, ◌≤◌, ◌<◌, Bool, true, false, cond, ◌||◌, leb, List, [], ◌∷◌, ◌++◌, length, inl, inr, ⊎_elim, refl, sym, subst, arith}
+use Rattle.std.proofs.Common.{◌≡◌, ℕ, ◌+◌, ◌/◌, ◌≤◌, ◌<◌, true, cond, leb, List, [], ◌∷◌, length, inl, inr, ⊎_elim, refl, sym, subst, arith}
 use Rattle.std.specs.List.{AllByRecursion}
 use Rattle.std.proofs.lemmas.Bool.{eqb-true, leb-true, le-leb, lt-leb, cases_lt}
 use Rattle.std.proofs.Math.Nat.{mul-div-le}
 use Rattle.jffs_node.specs.declared.node.Node.{Node}
 use Rattle.jffs_node.specs.Record.{record_len}
+use Rattle.jffs_node.proofs.Each.{each_append}
+use Rattle.jffs_node.proofs.Fitting.{or_second}
 use Rattle.jffs_log.specs.declared.room.Room.{Room}
+use Rattle.jffs_log.specs.declared.room.Room.TheVariants as rooms
 use Rattle.jffs_log.specs.Room.{tail_need, erased_need, has_room}
 use Rattle.jffs_log.specs.Cleaning.{Layout, Session, put, in_tail, in_next, in_last, stands_from, last_fits, is_history}
 use Rattle.jffs_log.specs.RoomLaws.{Among, IsSound}
-use Rattle.jffs_log.proofs.Sectors.{Needs, stands_more, each_in_last, each_in_next, last_in_last, last_in_next, free_small, length_in_last, length_in_next}
+use Rattle.jffs_log.proofs.Sectors.{Needs, stands_more, each_in_last, last_in_last, last_in_next, free_small, length_in_last, length_in_next}
 
 pub map_all : {A : Type 0} (P Q : A → Type 0) → ((x : A) → P x → Q x) → (xs : List A) → AllByRecursion P xs → AllByRecursion Q xs
 map_all P Q f [] h = tt
@@ -24,11 +27,12 @@ put_by P z room n log tail next = ⊎_elim
 
 -- where there is room but none in the tail, enough sectors are erased
 pub next_erased : (room : Room) (len free erased : ℕ) → has_room room len free erased ≡ true → free < tail_need room len → erased_need room ≤ erased
-next_erased room len free erased h less = leb-true (erased_need room) erased (or_false (leb (tail_need room len) free) (leb (erased_need room) erased) h (lt-leb (tail_need room len) free less))
-  where
-    or_false : (a b : Bool) → (a || b) ≡ true → a ≡ false → b ≡ true
-    or_false true b h e = cc
-    or_false false b h e = h
+next_erased room len free erased h less = leb-true (erased_need room) erased (or_second (leb (tail_need room len) free) (leb (erased_need room) erased) h (lt-leb (tail_need room len) free less))
+
+pub enough_erased : (room : Room) → 2 ≤ erased_need room
+enough_erased rooms.Fresh = omega arith
+enough_erased rooms.Copy = omega arith
+enough_erased rooms.Unmount = omega arith
 
 pub Known : List Node → List (List Node) → Type 0
 Known past sectors = AllByRecursion (λ nodes. AllByRecursion (λ n. Among n past) nodes) sectors
@@ -37,10 +41,6 @@ pub known_more : (past : List Node) (c : Node) (sectors : List (List Node)) → 
 unfolding Known
 known_more past c sectors h = map_all (λ nodes. AllByRecursion (λ n. Among n past) nodes) (λ nodes. AllByRecursion (λ n. Among n (c ∷ past)) nodes)
     (λ nodes k. map_all (λ n. Among n past) (λ n. Among n (c ∷ past)) (λ n a. inr a) nodes k) sectors h
-
-all_more : (P : Node → Type 0) (nodes : List Node) (n : Node) → AllByRecursion P nodes → P n → AllByRecursion P (nodes ++ n ∷ [])
-all_more P [] n h here = (here, tt)
-all_more P (m ∷ nodes) n h here = (h.0, all_more P nodes n h.1 here)
 
 module _ (total z need : ℕ) (c : Node) (s : Session) (sound : IsSound total z s) (history : is_history (c ∷ s.past) ≡ true) (needs : Needs need c) (long : record_len c ≤ need) (short : record_len c ≤ z / 4) where
   known : Known (c ∷ s.past) s.log.sectors
@@ -61,7 +61,7 @@ module _ (total z need : ℕ) (c : Node) (s : Session) (sound : IsSound total z 
       record {
         history = history;
         known = each_in_last (λ nodes. AllByRecursion (λ n. Among n (c ∷ s.past)) nodes) c s.log.sectors z s.log.free sound.tail
-            (λ nodes h l. all_more (λ n. Among n (c ∷ s.past)) nodes c h (inl refl)) (inl refl, tt) known;
+            (λ nodes h l. each_append (λ n. Among n (c ∷ s.past)) nodes (c ∷ []) h (inl refl, tt)) (inl refl, tt) known;
         stands = each_in_last (λ nodes. stands_from z 0 nodes ≡ true) c s.log.sectors z s.log.free sound.tail
             (λ nodes h l. stands_more z 0 need nodes c h needs long short (omega arith)) (alone (omega arith)) sound.stands;
         tail = last_in_last c s.log.sectors z s.log.free (omega arith) small sound.tail;
@@ -72,8 +72,8 @@ module _ (total z need : ℕ) (c : Node) (s : Session) (sound : IsSound total z 
   unfolding Known
   next_sound small one = record {
     history = history;
-    known = each_in_next (λ nodes. AllByRecursion (λ n. Among n (c ∷ s.past)) nodes) c s.log.sectors (inl refl, tt) known;
-    stands = each_in_next (λ nodes. stands_from z 0 nodes ≡ true) c s.log.sectors (alone small) sound.stands;
+    known = each_append (λ nodes. AllByRecursion (λ n. Among n (c ∷ s.past)) nodes) s.log.sectors ((c ∷ []) ∷ []) known ((inl refl, tt), tt);
+    stands = each_append (λ nodes. stands_from z 0 nodes ≡ true) s.log.sectors ((c ∷ []) ∷ []) sound.stands (alone small, tt);
     tail = last_in_next c s.log.sectors z (omega arith);
     counted = let e = length_in_next c s.log.sectors in let k = sound.counted in omega arith;
   }

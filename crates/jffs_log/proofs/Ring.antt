@@ -6,6 +6,7 @@ use Rattle.std.proofs.lemmas.Bool.{cases_lt}
 use Rattle.std.proofs.lemmas.List.{append-nil, take-append-drop, get_or_append_left, get_or-append-add, get_or-drop, get_or-take, take-append-le, drop-append-le, length-set, length-take-le, drop-set-lt, drop-set-add, take-set-le, set-append_left, set-append_right}
 use Rattle.std.proofs.lemmas.List.FromFn.{length-enumerate_from, get_or-enumerate_from}
 use Rattle.jffs_node.specs.declared.node.Node.{Node}
+use Rattle.jffs_node.proofs.Each.{each_append, each_front}
 use Rattle.jffs_log.specs.Image.{Sector, starts_from, starts, is_erased_option, is_one_run, oldest_of, turned, log_sectors}
 use Rattle.jffs_log.specs.Ring.{IsRing, IsAt, IsNext}
 
@@ -28,14 +29,6 @@ AreBlank xs = AllByRecursion (λ s. s.1.erased ≡ true) xs
 abbrev pub last_erased : Bool → List Numbered → Bool
 last_erased e [] = e
 last_erased e (s ∷ xs) = last_erased s.1.erased xs
-
-pub all_append : (P : Numbered → Type 0) (xs ys : List Numbered) → AllByRecursion P (xs ++ ys) → AllByRecursion P xs × AllByRecursion P ys
-all_append P [] ys h = (tt, h)
-all_append P (x ∷ xs) ys h = let more = all_append P xs ys h.1 in ((h.0, more.0), more.1)
-
-pub all_both : (P : Numbered → Type 0) (xs ys : List Numbered) → AllByRecursion P xs → AllByRecursion P ys → AllByRecursion P (xs ++ ys)
-all_both P [] ys h k = k
-all_both P (x ∷ xs) ys h k = (h.0, all_both P xs ys h.1 k)
 
 pub last_is : (o : _) (xs : List Numbered) → is_erased_option (last_or o (sectors_of xs)) ≡ last_erased (is_erased_option o) xs
 last_is o [] = refl
@@ -166,7 +159,7 @@ ring_starts first sectors held blank h =
       | inr straight ↦
           let parts = split_same d t held blank h.order straight in
           let m = parts.0 in
-          let blanks = all_append (λ s. s.1.erased ≡ true) m t (subst AreBlank parts.2 h.unused) in
+          let blanks = each_front (λ s. s.1.erased ≡ true) m t (subst AreBlank parts.2 h.unused) in
           ap starts whole
           ∙ ap (λ (xs : List Numbered). starts (sectors_of (t ++ xs))) parts.1
           ∙ starts_straight t held m blanks.1 h.used blanks.0 (subst (λ (xs : List Numbered). 1 ≤ length xs) parts.2 h.some)
@@ -174,7 +167,7 @@ ring_starts first sectors held blank h =
       | inl around ↦
           let parts = split_same held blank d t (sym h.order) (omega arith) in
           let m = parts.0 in
-          let useds = all_append (λ s. s.1.erased ≡ false) d m (subst AreUsed parts.1 h.used) in
+          let useds = each_front (λ s. s.1.erased ≡ false) d m (subst AreUsed parts.1 h.used) in
           let long : 1 ≤ length d = omega arith in
           let lengths : length t ≡ length m + length blank = ap length parts.2 ∙ length-append m blank in
           ap starts whole
@@ -209,9 +202,9 @@ ring_log first sectors held blank h = (
     by_held : (xs : List Numbered) → AreUsed xs → turned first (enumerate_from 0 sectors) ≡ xs ++ blank → filter is_used (turned (oldest_of (start_of xs first)) (enumerate_from 0 sectors)) ≡ xs
     by_held [] u order =
         let n = enumerate_from 0 sectors in
-        let both = all_append (λ s. s.1.erased ≡ true) (drop first n) (take first n) (subst AreBlank (sym order) h.unused) in
-        let all : AreBlank n = subst AreBlank (take-append-drop first n) (all_both _ (take first n) (drop first n) both.1 both.0) in
-        filter_used [] (n ++ []) tt (all_both _ n [] all tt)
+        let both = each_front (λ s. s.1.erased ≡ true) (drop first n) (take first n) (subst AreBlank (sym order) h.unused) in
+        let all : AreBlank n = subst AreBlank (take-append-drop first n) (each_append _ (take first n) (drop first n) both.1 both.0) in
+        filter_used [] (n ++ []) tt (each_append _ n [] all tt)
     by_held (s ∷ xs) u order = ap (filter is_used) order ∙ filter_used (s ∷ xs) blank u h.unused
 
 -- One sector of a ring changes.
@@ -304,11 +297,11 @@ ring_set first sectors xs ys t s inside order =
 pub ring_tail : (first : ℕ) (sectors : List Sector) (older : List Numbered) (t : Numbered) (blank : List Numbered) (s : Sector) → IsRing first sectors (older ++ t ∷ []) blank → s.erased ≡ false
     → IsRing first (set sectors t.0 s) (older ++ (t.0, s) ∷ []) blank
 ring_tail first sectors older t blank s h used =
-    let parts = all_append (λ s. s.1.erased ≡ false) older (t ∷ []) h.used in
+    let parts = each_front (λ s. s.1.erased ≡ false) older (t ∷ []) h.used in
     record {
       inside = subst (λ k. first < k) (sym (length-set sectors t.0 s)) h.inside;
       order = ring_set first sectors older blank t s h.inside (h.order ∙ append_assoc older (t ∷ []) blank) ∙ sym (append_assoc older ((t.0, s) ∷ []) blank);
-      used = all_both _ older ((t.0, s) ∷ []) parts.0 (used, tt);
+      used = each_append _ older ((t.0, s) ∷ []) parts.0 (used, tt);
       unused = h.unused;
       some = h.some;
     }
@@ -319,7 +312,7 @@ pub ring_next : (first : ℕ) (sectors : List Sector) (held : List Numbered) (b 
 ring_next first sectors held b blank s h some used = record {
   inside = subst (λ k. first < k) (sym (length-set sectors b.0 s)) h.inside;
   order = ring_set first sectors held blank b s h.inside h.order ∙ sym (append_assoc held ((b.0, s) ∷ []) blank);
-  used = all_both _ held ((b.0, s) ∷ []) h.used (used, tt);
+  used = each_append _ held ((b.0, s) ∷ []) h.used (used, tt);
   unused = h.unused.1;
   some = some;
 }
@@ -370,7 +363,7 @@ ring_erase first next sectors o held blank s h is erased =
           turned_next first next (enumerate_from 0 (set sectors o.0 s)) (o.0, s) (held ++ blank) (omega arith) (subst (λ k. IsNext first k next) (sym (numbers ∙ many)) is) order
           ∙ append_assoc held blank ((o.0, s) ∷ []);
       used = h.used.1;
-      unused = all_both _ blank ((o.0, s) ∷ []) h.unused (erased, tt);
+      unused = each_append _ blank ((o.0, s) ∷ []) h.unused (erased, tt);
       some = omega arith;
     }
 

@@ -3,7 +3,7 @@ use Rattle.std.proofs.Common.{◌≡◌, ⊎_elim, ℕ, ◌+◌, ◌<◌, ◌≤
 use Rattle.std.specs.List.{last_or, list_any, enumerate_from}
 use Rattle.std.specs.Prelude.{None}
 use Rattle.std.proofs.Math.Seq.{drop-append_seam, take-append_seam}
-use Rattle.std.proofs.lemmas.Bool.{cases_Bool, leb-true, not-true}
+use Rattle.std.proofs.lemmas.Bool.{and_parts, cases_Bool, leb-true, not-true, not-false}
 use Rattle.std.proofs.lemmas.List.{append-nil}
 use Rattle.std.proofs.lemmas.List.FromFn.{length-enumerate_from}
 use Rattle.jffs_log.specs.Image.{Sector, starts_from, starts, is_erased_option, is_one_run, oldest_of, turned}
@@ -48,11 +48,6 @@ pub record OneStart (e : Bool) (k a : ℕ) (xs : List Numbered) : Type 0 where
   pub used : first.1.erased ≡ false
   pub none_after : NoStart false after
 
-both_true : (a b : Bool) → (a && b) ≡ true → (a ≡ true) × (b ≡ true)
-both_true true true h = (refl, refl)
-both_true true false h = cc
-both_true false b h = cc
-
 one_start : (e : Bool) (k a : ℕ) (xs : List Numbered) → starts_from e k (sectors_of xs) ≡ a ∷ [] → OneStart e k a xs
 one_start e k a [] h = absurd (cc)
 one_start e k a (s ∷ xs) h =
@@ -61,7 +56,7 @@ one_start e k a (s ∷ xs) h =
     ⊎_elim
     (λ (yes : t ≡ true).
     let same : k ∷ r ≡ a ∷ [] = sym (start_here t k r yes) ∙ h in
-    let parts = both_true e (not s.1.erased) yes in
+    let parts = and_parts e (not s.1.erased) yes in
     let used = not-true s.1.erased parts.1 in
     let number : k ≡ a = cc in
     let none : r ≡ [] = cc in
@@ -96,12 +91,8 @@ one_start e k a (s ∷ xs) h =
 all_blank : (e : Bool) (xs : List Numbered) → e ≡ true → NoStart e xs → AreBlank xs
 all_blank e [] h n = tt
 all_blank e (s ∷ xs) h n =
-    let erased : s.1.erased ≡ true = by_erased s.1.erased (sym (ap (λ b. b && not s.1.erased) h) ∙ n.0) in
+    let erased : s.1.erased ≡ true = not-false s.1.erased (sym (ap (λ b. b && not s.1.erased) h) ∙ n.0) in
     (erased, all_blank s.1.erased xs erased n.1)
-  where
-    by_erased : (b : Bool) → (true && not b) ≡ false → b ≡ true
-    by_erased true h = refl
-    by_erased false h = cc
 
 any_then_blank : (e : Bool) (xs : List Numbered) → list_any (λ s. s.erased) (sectors_of xs) ≡ true → NoStart e xs → last_erased e xs ≡ true
 any_then_blank e [] some n = absurd (cc)

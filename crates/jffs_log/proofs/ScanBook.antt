@@ -1,7 +1,7 @@
 -- The book of an image whose sectors were read.
 use Rattle.std.proofs.Common.{◌≡◌, ◌⊎◌, inl, inr, ⊎_elim, ℕ, suc, ◌+◌, ◌-◌, ◌*◌, ◌/◌, ◌<◌, ◌≤◌, Bool, true, false, cond, not, ◌||◌, ltb, eqb, List, [], ◌∷◌, ◌++◌, length, drop, map, filter, flat_map, replicate, get_or, Option, Some, None, Result, Ok, Err, refl, sym, ap, subst, ◌∙◌, arith, length-drop}
 use Rattle.std.specs.List.{list_any, last_or, enumerate_from}
-use Rattle.std.proofs.lemmas.Bool.{cases_Bool, and_parts, eqb-true}
+use Rattle.std.proofs.lemmas.Bool.{cases_Bool}
 use Rattle.std.proofs.lemmas.List.{append_assoc, map-append, length-take-le}
 use Rattle.std.proofs.Math.Nat.{mul-le-mul_right}
 use Rattle.jffs_node.specs.declared.node.Node.{Node}
@@ -9,6 +9,7 @@ use Rattle.jffs_node.specs.declared.read.Why.{Why}
 use Rattle.jffs_node.specs.declared.read.Read.{Read}
 use Rattle.jffs_node.specs.declared.read.Read.TheVariants.{Closed, Free, Torn, Bad}
 use Rattle.jffs_node.specs.Reading.{Reading, reading, reading_len, is_erased, found, broken_rule, closed_or_bad}
+use Rattle.jffs_node.proofs.Sound.{only}
 use Rattle.jffs_flash.specs.Sizes.{is_geometry}
 use Rattle.jffs_log.specs.declared.book.Kept.{Kept}
 use Rattle.jffs_log.specs.declared.scanning.ScanWhy.{ScanWhy}
@@ -99,12 +100,6 @@ free_erased max rest h = by_test (ltb (length rest) 64 || not (eqb (get_or rest 
     by_test true false h = cc
     by_test false e h = absurd (not_free rest (broken_rule max rest) h)
 
-erased_bytes : (rest : List ℕ) → is_erased rest ≡ true → rest ≡ replicate (length rest) 255
-erased_bytes [] h = refl
-erased_bytes (b ∷ rest) h =
-    let both = and_parts (eqb b 255) (is_erased rest) h in
-    (λ i. (eqb-true b 255 both.0) i ∷ (erased_bytes rest both.1) i)
-
 is_free_read : (r : Read) → is_free r ≡ true → r ≡ Free
 is_free_read (Closed n len) h = cc
 is_free_read Free h = refl
@@ -116,7 +111,7 @@ pub free_holds : (sector : List ℕ) → IsSpelled sector → is_free (reading s
 free_holds sector h free =
     let rest = rest_of sector in
     let blank = free_erased (length sector / 4) rest (sym h.ends ∙ is_free_read (reading sector).ending free) in
-    let bytes = erased_bytes rest blank ∙ ap (λ (k : ℕ). replicate k 255) (length-drop (reading_len (reading sector)) sector) in
+    let bytes = only 255 rest blank ∙ ap (λ (k : ℕ). replicate k 255) (length-drop (reading_len (reading sector)) sector) in
     subst (λ (xs : List ℕ). HoldsNodes sector (reading sector).nodes xs) bytes h.holds
 
 -- The book.

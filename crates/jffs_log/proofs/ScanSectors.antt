@@ -2,6 +2,7 @@
 use Rattle.std.proofs.Common.{◌≡◌, ℕ, zero, suc, ◌+◌, ◌-◌, ◌*◌, ◌<◌, List, [], ◌∷◌, ◌++◌, length, take, drop, map, Option, Some, None, refl, sym, ap, subst, ◌∙◌, arith, below_more}
 use Rattle.std.specs.List.{enumerate_from, AllByRecursion}
 use Rattle.std.proofs.lemmas.List.{drop-drop, map-append}
+use Rattle.std.proofs.lemmas.Option.{none-some}
 use Rattle.jffs_node.specs.declared.read.Read.{Read}
 use Rattle.jffs_node.specs.declared.read.Read.TheVariants.{Closed, Free, Torn, Bad}
 use Rattle.jffs_node.specs.Reading.{reading_len}
@@ -59,10 +60,7 @@ sound_ending : (k at : ℕ) (r : Read) → bad_record k at r None ≡ None → I
 sound_ending k at (Closed n len) h = tt
 sound_ending k at Free h = tt
 sound_ending k at Torn h = tt
-sound_ending k at (Bad why) h = let wrong : Some (BadRecord k at why) ≡ None = h in absurd (none_some _ wrong)
-  where
-    none_some : (w : ScanWhy) → Some w ≡ None → ⊥
-    none_some w h = let Is : Option ScanWhy → Type 0 = λ o. elim o [ Some v ↦ Unit {0} | None ↦ ⊥ ] in subst Is h tt
+sound_ending k at (Bad why) h = absurd (none-some (BadRecord k at why) (sym h))
 
 first_parts : (k : ℕ) (s : Sector) (sectors : List Sector) → first_bad k (s ∷ sectors) ≡ or_later (bad_in (k, s)) (first_bad (k + 1) sectors)
 first_parts k s sectors = bad_or_later k (reading_len s.reading) s.reading.ending (first_bad (k + 1) sectors)

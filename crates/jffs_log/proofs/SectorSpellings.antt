@@ -4,13 +4,14 @@ use Rattle.std.proofs.lemmas.List.{get_or-replicate, length-replicate, drop-repl
 use Rattle.std.proofs.lemmas.Grind.{flat_map-append}
 use Rattle.std.proofs.Math.Seq.{drop-append_seam, take-append_seam, drop-append-add}
 use Rattle.std.proofs.lemmas.List.Sums.{sum_by-cons}
-use Rattle.std.proofs.lemmas.Bool.{and_parts, leb-true, ne_eqb, lt-ltb, cases_lt}
+use Rattle.std.proofs.lemmas.Bool.{ne_eqb, lt-ltb, cases_lt}
 use Rattle.jffs_node.specs.declared.node.Node.{Node}
 use Rattle.jffs_node.specs.declared.read.Read.{Read}
 use Rattle.jffs_node.specs.declared.read.Read.TheVariants.{Closed, Free, Torn, Bad}
-use Rattle.jffs_node.specs.Record.{spelling, record_len, dsize, is_lawful, is_unmount, has_place, len_of_data}
+use Rattle.jffs_node.specs.Record.{spelling, record_len, dsize, is_lawful, has_place, len_of_data}
 use Rattle.jffs_node.specs.Reading.{Reading, found, is_erased, after_record, reading_of, reading, broken_rule, closed_or_bad}
 use Rattle.jffs_node.proofs.Found.{records_are_found, length_spelled}
+use Rattle.jffs_node.proofs.Rules.{place_parts}
 use Rattle.jffs_flash.specs.Image.{replaced}
 use Rattle.jffs_log.specs.Sector.{spellings, AreInPlace, HoldsNodes}
 
@@ -46,9 +47,7 @@ pub record_long : (n : Node) → 64 ≤ record_len n
 record_long n = omega arith
 
 pub in_place_fits : (k : _) (amount max len : ℕ) → has_place k amount max len ≡ true → len_of_data amount ≤ len
-in_place_fits k amount max len h =
-    let two = and_parts _ (is_unmount k || _) h in
-    leb-true (len_of_data amount) len (and_parts _ _ two.0).1
+in_place_fits k amount max len h = (place_parts k amount max len h).1
 
 pub length_spellings : (max len : ℕ) (nodes : List Node) → AreInPlace max len nodes → length (spellings nodes) ≡ sum_by record_len nodes
 length_spellings max len [] h = refl
@@ -131,10 +130,6 @@ reading_open sector nodes rest h o =
     reading_holds sector nodes rest h (subst IsEnd (sym e) (free_or_torn_ends (is_erased rest))) ∙ ap (λ r. record { nodes = nodes; ending = r }) e
 
 -- erased flash
-pub erased_all : (k : ℕ) → is_erased (replicate k 255) ≡ true
-erased_all zero = refl
-erased_all (suc k) = erased_all k
-
 pub erased_open : (k : ℕ) → IsOpen (replicate k 255)
 erased_open k =
     let long : length {A = ℕ} (replicate k 255) ≡ k = length-replicate k 255 in

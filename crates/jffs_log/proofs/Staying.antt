@@ -2,20 +2,21 @@
 use Rattle.std.proofs.Common.{◌≡◌, ℕ, ◌<◌, true, false, ltb, List, [], ◌∷◌, ⊎_elim, Option, Some, None, length, sym, ap, subst, ◌∙◌, arith}
 use Rattle.std.specs.List.{list_all}
 use Rattle.std.proofs.lemmas.Bool.{and_parts, ltb-true, cases_Bool, cases_lt, both_ways}
+use Rattle.std.proofs.lemmas.Option.{none-some, same_Some}
 use Rattle.jffs_node.specs.declared.node.Node.{Node}
 use Rattle.jffs_tree.specs.Origin.{concerns, size_in, writes, place_before, origin, newest, version_of, is_live}
 use Rattle.jffs_tree.specs.Laws.{NoneLive}
-use Rattle.jffs_tree.proofs.Steps.{entry-other, newest-other, newest-deleted, newest-written, origin-other, origin-written, origin-moved, origin-padding}
+use Rattle.jffs_tree.proofs.Steps.{entry-other, newest-other, newest-deleted, newest-written, origin-other, origin-deleted, origin-written, origin-moved, origin-padding}
 use Rattle.jffs_tree.specs.State.{bytes_of}
-use Rattle.jffs_log.proofs.Copied.{none_some, same_some, comes_from, is_newest_live, is_origin_live, origin_deleted}
+use Rattle.jffs_log.proofs.Copied.{comes_from, is_newest_live, is_origin_live}
 
 of_none : (o : Option Node) (v : ℕ) → o ≡ None → version_of o ≡ Some v → ⊥
-of_none o v e f = none_some (version_of o) v (ap version_of e) f
+of_none o v e f = none-some v (sym (ap version_of e) ∙ f)
 
 -- what is live with one more node is that node, or was live before
 module _ (n : Node) (past : List Node) (v : ℕ) (older : v < n.version) where
   not_own : (o : Option Node) → o ≡ Some n → version_of o ≡ Some v → ⊥
-  not_own o e f = let same = same_some (version_of o) n.version v (ap version_of e) f in absurd (omega arith)
+  not_own o e f = let same = same_Some n.version v (sym (ap version_of e) ∙ f) in absurd (omega arith)
 
   newest_before : (i : ℕ) → version_of (newest (n ∷ past) i) ≡ Some v → is_live past v ≡ true
   newest_before i h = ⊎_elim
@@ -29,7 +30,7 @@ module _ (n : Node) (past : List Node) (v : ℕ) (older : v < n.version) where
   origin_before : (i p : ℕ) → p < size_in (n ∷ past) i → version_of (origin (n ∷ past) i p) ≡ Some v → is_live past v ≡ true
   origin_before i p there h = ⊎_elim
       (λ c. ⊎_elim
-      (λ d. absurd (of_none (origin (n ∷ past) i p) v (origin_deleted i n past p c d) h))
+      (λ d. absurd (of_none (origin (n ∷ past) i p) v (origin-deleted i n past p c d) h))
       (λ d. ⊎_elim
       (λ w. absurd (not_own (origin (n ∷ past) i p) (origin-written i n past p c d w) h))
       (λ w. ⊎_elim

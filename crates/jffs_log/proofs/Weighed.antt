@@ -2,13 +2,14 @@
 use Rattle.std.proofs.Common.{◌≡◌, ℕ, zero, suc, ◌+◌, ◌*◌, ◌/◌, ◌^◌, ◌<◌, ◌≤◌, Bool, true, false, cond, List, [], ◌∷◌, length, take, drop, map, filter, flat_map, sum_by, refl, sym, ap, subst, ◌∙◌, arith, length-append}
 use Rattle.std.specs.List.{sum, enumerate_from, AllByRecursion}
 use Rattle.std.proofs.Math.Nat.{mul-le-mul_right}
-use Rattle.std.proofs.lemmas.List.{length-take, length-map, take-append-drop}
+use Rattle.std.proofs.lemmas.List.{length-take, length-map}
 use Rattle.std.proofs.lemmas.List.Sums.{sum-map, sum_by-cons}
 use Rattle.jffs_node.specs.declared.node.Node.{Node}
 use Rattle.jffs_node.specs.declared.read.Read.{Read}
 use Rattle.jffs_node.specs.declared.read.Read.TheVariants.{Closed, Free, Torn, Bad}
 use Rattle.jffs_node.specs.Record.{record_len}
 use Rattle.jffs_node.specs.Reading.{found, reading_of}
+use Rattle.jffs_node.proofs.Each.{each_front}
 use Rattle.jffs_tree.specs.Origin.{Tree}
 use Rattle.jffs_tree.specs.Look.{holds_version}
 use Rattle.jffs_log.specs.declared.book.Kept.{Kept}
@@ -16,10 +17,10 @@ use Rattle.jffs_log.specs.Image.{Sector, Placed, placed_from, records_in}
 use Rattle.jffs_log.specs.Volume.{sectors_in}
 use Rattle.jffs_log.specs.Live.{live_log}
 use Rattle.jffs_log.specs.Book.{kept, IsKept, lives_in, weight_in}
-use Rattle.jffs_log.proofs.Ring.{Numbered, all_append, all_both, ring_lengths}
+use Rattle.jffs_log.proofs.Ring.{Numbered, ring_lengths}
 use Rattle.jffs_log.proofs.Open.{length-sectors_in}
 use Rattle.jffs_log.proofs.Appended.{kept_live, sizes_small}
-use Rattle.jffs_log.proofs.MountedLog.{after_found, each_numbered}
+use Rattle.jffs_log.proofs.MountedLog.{after_found, each_turned, each_numbered}
 
 abbrev kept_lives : Tree → Kept → Bool
 kept_lives tree k = holds_version tree k.inode k.version
@@ -77,8 +78,7 @@ module _ (count len : ℕ) (image : List ℕ) (first many tail used free : ℕ) 
       let P : Numbered → Type 0 = λ s. IsFew (len / 64) s.1 in
       let n = enumerate_from 0 (sectors_in count len image) in
       let all : AllByRecursion P n = each_numbered (IsFew (len / 64)) 0 (sectors_in count len image) (all_few count len image) in
-      let parts = all_append P (take first n) (drop first n) (subst (AllByRecursion P) (sym (take-append-drop first n)) all) in
-      (all_append P h.held h.blank (subst (AllByRecursion P) h.ring.order (all_both P (drop first n) (take first n) parts.1 parts.0))).0
+      (each_front P h.held h.blank (subst (AllByRecursion P) h.ring.order (each_turned P first n all))).0
 
   pub records_few : length records < 2 ^ 32
   records_few =

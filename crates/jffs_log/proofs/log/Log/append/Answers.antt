@@ -1,5 +1,5 @@
 use Rattle.std.proofs.Common.{◌≡◌, ℕ, ◌+◌, ◌-◌, ◌≤◌, ◌<◌, true, false, leb, [], ◌∷◌, ◌++◌, sym, ap, subst, ◌⊎◌, ◌∙◌, arith}
-use Rattle.std.proofs.lemmas.Bool.{leb-true}
+use Rattle.std.proofs.lemmas.Bool.{leb-true, leb-false}
 use Rattle.jffs_node.specs.Record.{record_len}
 use Rattle.jffs_log.specs.Ring.{IsAt}
 use Rattle.jffs_log.specs.Room.{tail_need}
@@ -10,7 +10,7 @@ use Rattle.jffs_log.proofs.Layouts.{put_in_tail, put_in_next}
 use Rattle.jffs_log.proofs.Histories.{book_appends, book_cuts}
 use Rattle.jffs_log.proofs.Appended.{kept_inside}
 use Rattle.jffs_log.proofs.Rooms.{kept_room, kept_free}
-use Rattle.jffs_log.proofs.Fits.{tail_fits, next_erased, ring_place, not_le}
+use Rattle.jffs_log.proofs.Fits.{tail_fits, two_erased, ring_place}
 use Rattle.jffs_log.proofs.Results.{on_ok, on_both, on_err, on_each}
 use Rattle.jffs_log.proofs.log.Log.append.Goals as goal
 
@@ -28,8 +28,8 @@ append_to_next-requires-clause-erased g c =
     let b = c.args.self.now.book in
     let image = g.F.Flash.image c.args.self.now.flash in
     let long : c.record_len.result ≡ record_len n = c.record_len.ensures in
-    let less : b.free < tail_need c.args.room c.record_len.result = not_le (tail_need c.args.room c.record_len.result) b.free (sym c.fits_tail.ensures ∙ c.if-fits_tail.false) in
-    next_erased c.args.room (record_len n) b.free b.sectors b.held
+    let less : b.free < tail_need c.args.room c.record_len.result = leb-false (tail_need c.args.room c.record_len.result) b.free (sym c.fits_tail.ensures ∙ c.if-fits_tail.false) in
+    two_erased c.args.room (record_len n) b.free b.sectors b.held
     (sym (kept_room b.sectors b.sector_size image b.first b.held b.tail b.used b.free b.records.items c.requires.book c.args.room (record_len n)) ∙ c.requires.room)
     (subst (λ (k : ℕ). b.free < tail_need c.args.room k) long less)
 
@@ -54,8 +54,8 @@ returns-else-fits_tail-clause-cut g c =
     let new = g.F.Flash.image c.append_to_next.new.self.flash in
     let inside = kept_inside b.sectors b.sector_size old b.first b.held b.tail b.used b.free b.records.items c.requires.book in
     let long : c.record_len.result ≡ record_len n = c.record_len.ensures in
-    let less : b.free < tail_need c.args.room c.record_len.result = not_le (tail_need c.args.room c.record_len.result) b.free (sym c.fits_tail.ensures ∙ c.if-fits_tail.false) in
-    let room = next_erased c.args.room (record_len n) b.free b.sectors b.held
+    let less : b.free < tail_need c.args.room c.record_len.result = leb-false (tail_need c.args.room c.record_len.result) b.free (sym c.fits_tail.ensures ∙ c.if-fits_tail.false) in
+    let room = two_erased c.args.room (record_len n) b.free b.sectors b.held
     (sym (kept_room b.sectors b.sector_size old b.first b.held b.tail b.used b.free b.records.items c.requires.book c.args.room (record_len n)) ∙ c.requires.room)
     (subst (λ (k : ℕ). b.free < tail_need c.args.room k) long less) in
     let there = ring_place b.first b.sectors b.held inside.0 (omega arith) in
@@ -118,8 +118,8 @@ returns-else-fits_tail-clause-history g c =
     let new = g.F.Flash.image c.append_to_next.new.self.flash in
     let inside = kept_inside b.sectors b.sector_size old b.first b.held b.tail b.used b.free b.records.items c.requires.book in
     let long : c.record_len.result ≡ record_len n = c.record_len.ensures in
-    let less : b.free < tail_need c.args.room c.record_len.result = not_le (tail_need c.args.room c.record_len.result) b.free (sym c.fits_tail.ensures ∙ c.if-fits_tail.false) in
-    let room = next_erased c.args.room (record_len n) b.free b.sectors b.held
+    let less : b.free < tail_need c.args.room c.record_len.result = leb-false (tail_need c.args.room c.record_len.result) b.free (sym c.fits_tail.ensures ∙ c.if-fits_tail.false) in
+    let room = two_erased c.args.room (record_len n) b.free b.sectors b.held
     (sym (kept_room b.sectors b.sector_size old b.first b.held b.tail b.used b.free b.records.items c.requires.book c.args.room (record_len n)) ∙ c.requires.room)
     (subst (λ (k : ℕ). b.free < tail_need c.args.room k) long less) in
     let there = ring_place b.first b.sectors b.held inside.0 (omega arith) in

@@ -8,7 +8,6 @@ use Rattle.jffs_node.specs.Record.{is_lawful}
 use Rattle.jffs_node.specs.Reading.{found, reading_of}
 use Rattle.jffs_node.proofs.Sound.{found_are_records}
 use Rattle.jffs_flash.specs.Sizes.{is_geometry}
-use Rattle.jffs_log.specs.declared.scanning.ScanWhy.TheVariants as why
 use Rattle.jffs_log.specs.Image.{Placed, sector_of, records_in, starts, oldest_of, turned, log_sectors, nodes_of, past_of}
 use Rattle.jffs_log.specs.Volume.{split, sectors_in}
 use Rattle.jffs_log.specs.Live.{live_log}

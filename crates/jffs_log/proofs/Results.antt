@@ -5,14 +5,6 @@ pub if_err : {A E : Type 0} (r : Result A E) (P : Type 0) → P → IfErr r (λ 
 if_err (Ok x) P h = tt
 if_err (Err e) P h = h
 
-pub on_ok : {A E : Type 0} (r : Result A E) (P Q : Type 0) → (P → Q) → OnOk r P → OnOk r Q
-on_ok (Ok x) P Q f h = f h
-on_ok (Err e) P Q f h = tt
-
-pub on_err : {A E : Type 0} (r : Result A E) (P Q : Type 0) → (P → Q) → IfErr r (λ _. P) → IfErr r (λ _. Q)
-on_err (Ok x) P Q f h = tt
-on_err (Err e) P Q f h = f h
-
 pub on_both : {A E : Type 0} (r : Result A E) (P Q R : Type 0) → (P → Q → R) → OnOk r P → OnOk r Q → OnOk r R
 on_both (Ok x) P Q R f h k = f h k
 on_both (Err e) P Q R f h k = tt

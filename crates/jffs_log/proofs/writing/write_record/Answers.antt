@@ -1,9 +1,9 @@
 use Rattle.std.proofs.Common.{◌≡◌, ℕ, ◌+◌, List, [], ◌∷◌, set, ap, subst, ◌∙◌}
+use Rattle.std.proofs.lemmas.Result.{on_ok_weaker, IfErr-weaker}
 use Rattle.jffs_flash.specs.Image.{replaced, programmed, IsHalfProgrammed}
-use Rattle.jffs_node.specs.Record.{spelling}
 use Rattle.jffs_log.specs.Gate.{IsWritten}
 use Rattle.jffs_log.proofs.Gate.{opened, first_half, second_whole, second_half}
-use Rattle.jffs_log.proofs.Results.{if_err, on_ok, on_err}
+use Rattle.jffs_log.proofs.Results.{if_err}
 use Rattle.jffs_log.proofs.writing.write_record.Goals as goal
 
 pub returns-in_err-program_erased-clause-written : goal.returns-in_err-program_erased-clause-written
@@ -23,8 +23,7 @@ returns-clause-done g c =
     let new = g.F.Flash.image c.program.new.self in
     let open_gate : set c.encode_into.new.out 7 255 ≡ opened n = ap (λ (xs : List ℕ). set xs 7 255) c.encode_into.ensures in
     let first : mid ≡ replaced c.args.at (opened n) old = c.in_ok-program_erased.ensures.done ∙ ap (λ (xs : List ℕ). replaced c.args.at xs old) open_gate in
-    on_ok c.program.result (new ≡ programmed (c.args.at + 7) (0 ∷ []) mid) (new ≡ replaced c.args.at (spelling n) old)
-    (λ e. e ∙ ap (programmed (c.args.at + 7) (0 ∷ [])) first ∙ second_whole c.args.at n old c.requires.lawful c.requires.inside)
+    on_ok_weaker c.program.result (λ e. e ∙ ap (programmed (c.args.at + 7) (0 ∷ [])) first ∙ second_whole c.args.at n old c.requires.lawful c.requires.inside)
     c.program.ensures.done
 
 pub returns-clause-written : goal.returns-clause-written
@@ -35,6 +34,5 @@ returns-clause-written g c =
     let new = g.F.Flash.image c.program.new.self in
     let open_gate : set c.encode_into.new.out 7 255 ≡ opened n = ap (λ (xs : List ℕ). set xs 7 255) c.encode_into.ensures in
     let first : mid ≡ replaced c.args.at (opened n) old = c.in_ok-program_erased.ensures.done ∙ ap (λ (xs : List ℕ). replaced c.args.at xs old) open_gate in
-    on_err c.program.result (IsHalfProgrammed (c.args.at + 7) (0 ∷ []) mid new) (IsWritten c.args.at n old new)
-    (λ h. second_half c.args.at n old new c.requires.lawful c.requires.inside (subst (λ (xs : List ℕ). IsHalfProgrammed (c.args.at + 7) (0 ∷ []) xs new) first h))
+    IfErr-weaker c.program.result _ _ (λ _ h. second_half c.args.at n old new c.requires.lawful c.requires.inside (subst (λ (xs : List ℕ). IsHalfProgrammed (c.args.at + 7) (0 ∷ []) xs new) first h))
     c.program.ensures.half

@@ -1,17 +1,18 @@
 use Rattle.std.proofs.Common.{◌≡◌, ℕ, ◌+◌, ◌-◌, ◌≤◌, ◌<◌, true, false, leb, [], ◌∷◌, ◌++◌, sym, ap, subst, ◌⊎◌, ◌∙◌, arith}
 use Rattle.std.proofs.lemmas.Bool.{leb-true, leb-false}
+use Rattle.std.proofs.lemmas.Result.{on_ok_weaker, IfErr-weaker}
 use Rattle.jffs_node.specs.Record.{record_len}
 use Rattle.jffs_log.specs.Ring.{IsAt}
 use Rattle.jffs_log.specs.Room.{tail_need}
-use Rattle.jffs_log.specs.Book.{IsBook, IsCut, IsCutSomewhere, log_in, layout_in, placed_at}
-use Rattle.jffs_log.specs.Cleaning.{Layout, put, in_tail, in_next}
+use Rattle.jffs_log.specs.Book.{IsBook, IsCut, log_in, layout_in, placed_at}
+use Rattle.jffs_log.specs.Cleaning.{Layout}
 use Rattle.jffs_log.specs.History.{IsHistory}
 use Rattle.jffs_log.proofs.Layouts.{put_in_tail, put_in_next}
 use Rattle.jffs_log.proofs.Histories.{book_appends, book_cuts}
 use Rattle.jffs_log.proofs.Appended.{kept_inside}
 use Rattle.jffs_log.proofs.Rooms.{kept_room, kept_free}
 use Rattle.jffs_log.proofs.Fits.{tail_fits, two_erased, ring_place}
-use Rattle.jffs_log.proofs.Results.{on_ok, on_both, on_err, on_each}
+use Rattle.jffs_log.proofs.Results.{on_both, on_each}
 use Rattle.jffs_log.proofs.log.Log.append.Goals as goal
 
 pub append_to_tail-requires-clause-fits : goal.append_to_tail-requires-clause-fits
@@ -59,8 +60,7 @@ returns-else-fits_tail-clause-cut g c =
     (sym (kept_room b.sectors b.sector_size old b.first b.held b.tail b.used b.free b.records.items c.requires.book c.args.room (record_len n)) ∙ c.requires.room)
     (subst (λ (k : ℕ). b.free < tail_need c.args.room k) long less) in
     let there = ring_place b.first b.sectors b.held inside.0 (omega arith) in
-    on_err c.append_to_next.result ((k : ℕ) → IsAt b.first b.sectors b.held k → IsCut b old new (placed_at k 0 n)) (IsCutSomewhere b old new n)
-    (λ cuts. record { sector = there.0; place = 0; cut = cuts there.0 there.1 })
+    IfErr-weaker c.append_to_next.result _ _ (λ _ cuts. record { sector = there.0; place = 0; cut = cuts there.0 there.1 })
     c.append_to_next.ensures.cut
 
 pub returns-then-fits_tail-clause-layout : goal.returns-then-fits_tail-clause-layout
@@ -76,8 +76,7 @@ returns-then-fits_tail-clause-layout g c =
     ∙ ap (λ (k : ℕ). leb (tail_need c.args.room k) b.free) (sym c.record_len.ensures)
     ∙ sym c.fits_tail.ensures
     ∙ c.if-fits_tail.true in
-    on_ok c.append_to_tail.result (new ≡ in_tail n log) (new ≡ put b.sector_size c.args.room n log)
-    (λ e. e ∙ sym (put_in_tail b.sector_size c.args.room n log fits)) c.append_to_tail.ensures.layout
+    on_ok_weaker c.append_to_tail.result (λ e. e ∙ sym (put_in_tail b.sector_size c.args.room n log fits)) c.append_to_tail.ensures.layout
 
 pub returns-else-fits_tail-clause-layout : goal.returns-else-fits_tail-clause-layout
 returns-else-fits_tail-clause-layout g c =
@@ -92,8 +91,7 @@ returns-else-fits_tail-clause-layout g c =
     ∙ ap (λ (k : ℕ). leb (tail_need c.args.room k) b.free) (sym c.record_len.ensures)
     ∙ sym c.fits_tail.ensures
     ∙ c.if-fits_tail.false in
-    on_ok c.append_to_next.result (new ≡ in_next b.sector_size n log) (new ≡ put b.sector_size c.args.room n log)
-    (λ e. e ∙ sym (put_in_next b.sector_size c.args.room n log full)) c.append_to_next.ensures.layout
+    on_ok_weaker c.append_to_next.result (λ e. e ∙ sym (put_in_next b.sector_size c.args.room n log full)) c.append_to_next.ensures.layout
 
 pub returns-then-fits_tail-clause-history : goal.returns-then-fits_tail-clause-history
 returns-then-fits_tail-clause-history g c =

@@ -1,7 +1,7 @@
 -- Nodes that change an inode, make one or remove one, as decisions give them.
 use Rattle.std.proofs.Common.{◌≡◌, ℕ, min, max, ◌+◌, ◌-◌, ◌<◌, ◌≤◌, ◌^◌, Bool, true, false, cond, not, ◌&&◌, eqb, ltb, List, [], ◌∷◌, length, take, drop, get_or, ◌⊎◌, inl, inr, ⊎_elim, Option, Some, None, refl, sym, ap, subst, ◌∙◌, arith}
 use Rattle.std.specs.List.{AllByRecursion, list_all, list_any}
-use Rattle.std.proofs.lemmas.Bool.{eqb-true, eqb-false, and_parts, cases_Bool, cases_lt, both_ways, not-true}
+use Rattle.std.proofs.lemmas.Bool.{eqb-true, eqb-false, and_parts, cases_Bool, cases_lt, both_ways, not-true, not-false}
 use Rattle.std.proofs.lemmas.List.{get_or_past, get_or-take, get_or-drop, length-take, length-drop}
 use Rattle.jffs_node.specs.declared.node.Node.{Node}
 use Rattle.jffs_node.specs.declared.node.Kind.{Kind}
@@ -247,13 +247,8 @@ module _ (past : List Node) (before : IsLawfulPast past) (version writer seq : �
         })
         before
       where
-        must : (d t : Bool) → d ≡ true → (d && not t) ≡ false → t ≡ true
-        must true true d h = refl
-        must true false d h = cc
-        must false t d h = cc
-
         home_same : is_directory e.kind ≡ true → e.parent ≡ p
-        home_same d = eqb-true e.parent p (must (is_directory e.kind) (eqb e.parent p) d stays)
+        home_same d = eqb-true e.parent p (not-false (eqb e.parent p) (sym (ap (λ b. b && not (eqb e.parent p)) d) ∙ stays))
 
     -- MakeDir and Create.
     module _ (k : ℕ) (new : IsNewInode past k) where

@@ -1,5 +1,5 @@
 -- A copy that the decision accepts is true.
-use Rattle.std.proofs.Common.{◌≡◌, ℕ, zero, suc, min, unwrap_or, ◌+◌, Bool, true, false, cond, not, ◌&&◌, leb, ltb, eqb, T, List, [], ◌∷◌, length, map, take, drop, ⊎_elim, Option, Some, None, is_none, Ok, bytes_eq, refl, sym, ap, subst, ◌∙◌, arith}
+use Rattle.std.proofs.Common.{◌≡◌, ℕ, zero, suc, min, unwrap_or, ◌≤◌, ◌+◌, Bool, true, false, cond, not, ◌&&◌, leb, ltb, eqb, T, List, [], ◌∷◌, length, map, take, drop, ⊎_elim, Option, Some, None, is_none, Ok, bytes_eq, refl, sym, ap, subst, ◌∙◌, arith}
 use Rattle.std.specs.List.{list_any, find}
 use Rattle.std.specs.Ordering.{nat_cmp}
 use Rattle.std.proofs.lemmas.Bool.{not-false}
@@ -134,6 +134,9 @@ pub same_front : (d : ℕ) (xs : List ℕ) → take (length (take d xs)) xs ≡ 
 same_front zero xs = refl
 same_front (suc d) [] = refl
 same_front (suc d) (x ∷ xs) = let later = same_front d xs in λ i. x ∷ later i
+
+pub no_more : (d : ℕ) (xs : List ℕ) → length (take d xs) ≤ d
+no_more d xs = let l = length-take d xs in omega arith
 
 no_limits : Limits
 no_limits = record { data_max = 0; next_inode = None; next_version = None }

@@ -23,9 +23,9 @@ use Rattle.jffs_node.specs.Path.{IsPath}
 use Rattle.jffs_tree.specs.Deciding.{IsLawfulPast, AreNumbers, IsNewInode, AreLimitsOf, IsWish, DecidedNodesKeepRules, CleaningCopiesKeepRules}
 use Rattle.jffs_tree.proofs.Pointwise.{at-state, sorted-state}
 use Rattle.jffs_node.proofs.Fitting.{small_bytes}
-use Rattle.jffs_tree.proofs.There.{resolved_there}
-use Rattle.jffs_tree.proofs.Copies.{same_bytes, the_holder, holder_is_there, same_front}
-use Rattle.jffs_tree.proofs.Resolving.{led_within, led_to_last, the_parent, the_inode, nothing_there}
+use Rattle.jffs_tree.proofs.There.{resolved_there, not_root}
+use Rattle.jffs_tree.proofs.Copies.{no_more, same_bytes, the_holder, holder_is_there, same_front}
+use Rattle.jffs_tree.proofs.Resolving.{value_of, led_within, led_to_last, the_parent, the_inode, nothing_there}
 use Rattle.jffs_node.proofs.Lawfulness.{lawful_from}
 use Rattle.jffs_node.proofs.Each.{each_at}
 use Rattle.jffs_node.proofs.Rules.{ok_same}
@@ -43,10 +43,6 @@ all_passed (c ∷ causes) n m is = one (λ h. all_passed causes n m h) c.0 refl 
         → AllByRecursion (λ (x : Bool × Cause). x.0 ≡ false) (c ∷ causes) × (n ≡ m)
     one rest true e is = cc
     one rest false e is = let later = rest is in ((e, later.0), later.1)
-
-given : (o : Option ℕ) → is_none o ≡ false → o ≡ Some (unwrap_or o 0)
-given None h = cc
-given (Some k) h = refl
 
 -- a write's node has at most the write's data
 written_data : {most : ℕ} (i : ℕ) (e : Entry) (offset : ℕ) (bytes : List ℕ) → length bytes ≤ most → length (write_node i e offset bytes).bytes ≤ most
@@ -92,20 +88,13 @@ module _ (past : List Node) (limits : Limits) (version writer seq : ℕ) (before
   an_entry : (path : List (List ℕ)) (i : ℕ) → resolve (state_of_past past) path ≡ Some i → ((length path ≡ 0) × (1 ≡ i) → ⊥) → at (state_of_past past) i ≡ Some (entry_of (state_of_past past) i)
   an_entry path i is low = ⊎_elim
       (λ root. absurd (low root))
-      (λ there. some (at (state_of_past past) i) there)
+      (λ there. value_of (at (state_of_past past) i) nobody there)
       (resolved_there (state_of_past past) 1 i path is)
-    where
-      some : (o : Option Entry) → is_some o ≡ true → o ≡ Some (unwrap_or o nobody)
-      some None h = cc
-      some (Some e) h = refl
 
   no_directory : (path : List (List ℕ)) → is_there (state_of_past past) path ≡ true → is_directory_in (state_of_past past) (inode_at (state_of_past past) path) ≡ false
       → at (state_of_past past) (inode_at (state_of_past past) path) ≡ Some (entry_of (state_of_past past) (inode_at (state_of_past past) path))
   no_directory path there file = an_entry path (inode_at (state_of_past past) path) (the_inode (state_of_past past) path there)
-      (λ top. not_top (inode_at (state_of_past past) path) top.1 file)
-    where
-      not_top : (i : ℕ) → 1 ≡ i → is_directory_in (state_of_past past) i ≡ false → ⊥
-      not_top i e f = let yes : is_directory_in (state_of_past past) i ≡ true = sym (ap (λ k. is_directory_in (state_of_past past) k) e) in cc
+      (λ top. not_root (state_of_past past) (inode_at (state_of_past past) path) top.1 file)
 
   below_root : (path : List (List ℕ)) → is_there (state_of_past past) path ≡ true → is_root path ≡ false
       → at (state_of_past past) (inode_at (state_of_past past) path) ≡ Some (entry_of (state_of_past past) (inode_at (state_of_past past) path))
@@ -207,7 +196,7 @@ module _ (past : List Node) (limits : Limits) (version writer seq : ℕ) (before
         ∷ (is_none limits.next_inode, InodesSpent)
         ∷ (is_none limits.next_version, VersionsSpent)
         ∷ []) (new_node kind) n is in
-        (a_home path names passed.0.0 (not-false _ passed.0.1.0) passed.0.1.1.0, fresh (unwrap_or limits.next_inode 0) (given limits.next_inode passed.0.1.1.1.0), passed.1)
+        (a_home path names passed.0.0 (not-false _ passed.0.1.0) passed.0.1.1.0, fresh (unwrap_or limits.next_inode 0) (value_of limits.next_inode 0 (not-false (is_some limits.next_inode) passed.0.1.1.1.0)), passed.1)
 
     decided_make_directory : (n : NewNode) → decide past limits (MakeDir path) ≡ Ok n → Good n
     decided_make_directory n is =
@@ -272,6 +261,3 @@ cleaning_copies_keep_rules past n e version writer seq before is v =
       subst (λ x. IsLawfulPast (with (copy_node n.inode x (min n.offset (length x.bytes)) (take (dsize n) (drop (min n.offset (length x.bytes)) x.bytes))) version writer seq ∷ past)) (sym there) keeps,
       no_more (dsize n) (drop (min n.offset (length (entry_of s n.inode).bytes)) (entry_of s n.inode).bytes),
     )
-  where
-    no_more : (d : ℕ) (xs : List ℕ) → length (take d xs) ≤ d
-    no_more d xs = let l = length-take d xs in omega arith

@@ -41,11 +41,8 @@ module _ (e : ℕ × Entry) (s : State) where
       by_name : (b : Bool) → same_name f e ≡ b → stands_first (e ∷ s) f ≡ (not (same_name e f) && stands_first s f)
       by_name true h =
           ap (λ b. option_map_or (λ c. eqb c f.0) (option_map (λ x. x.0) (cond b (Some e) (lists.find (is_child f.1.parent f.1.name) s))) false) h
-          ∙ ne_eqb e.0 f.0 (λ same. apart e.0 f.0 same low)
+          ∙ ne_eqb e.0 f.0 (λ same. let less = is_less e.0 f.0 low in omega arith)
           ∙ ap (λ b. not b && stands_first s f) (sym (either_way e f ∙ h))
-        where
-          apart : (a b : ℕ) → a ≡ b → is_lt (nat_cmp a b) ≡ true → ⊥
-          apart a b same less = let low = is_less a b less in omega arith
       by_name false h =
           ap (λ b. option_map_or (λ c. eqb c f.0) (option_map (λ x. x.0) (cond b (Some e) (lists.find (is_child f.1.parent f.1.name) s))) false) h
           ∙ ap (λ b. not b && stands_first s f) (sym (either_way e f ∙ h))

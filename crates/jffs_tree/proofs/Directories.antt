@@ -5,8 +5,7 @@ use Rattle.std.specs.List.Sorted.{IsStrictlySortedBy, IsPermutation, IsSorted}
 use Rattle.std.specs.Ordering.{is_eq, is_lt, eq_by_cmp, ordering_reverse}
 use Rattle.std.specs.Option.{option_map_or}
 use Rattle.std.specs.Result.{IfOk}
-use Rattle.std.specs.declared.cmp.Ordering.{Ordering}
-use Rattle.std.specs.declared.cmp.Ordering.TheVariants.{Equal, Greater}
+use Rattle.std.specs.declared.cmp.Ordering.TheVariants.{Equal}
 use Rattle.std.proofs.Math.Bool.{or-false}
 use Rattle.std.specs.Cmp.{Equal-is, IsTotalOrder, nat_cmp_total, then_total, on_total, tied_itself, unsigned_tied, both_ways}
 use Rattle.std.specs.Cmp.Lexicographic.{slice_cmp, nat_list_cmp_total, texts_ties}
@@ -49,11 +48,8 @@ own a = ap is_eq (tied_itself name_total a)
 -- rising names don't fall
 pub sorted_names : (xs : List (List ℕ × ℕ)) → IsStrictlySortedBy name_cmp xs → IsSorted name_cmp xs
 sorted_names xs rising k d low high =
-    not_back (name_cmp (get_or xs (k + 1) d) (get_or xs k d))
+    ap is_lt
     (name_total.antisymm (get_or xs (k + 1) d) (get_or xs k d) ∙ ap ordering_reverse (Less-from_sorted name_cmp xs k (k + 1) d rising (omega arith) high))
-  where
-    not_back : (o : Ordering) → o ≡ Greater → is_lt o ≡ false
-    not_back o e = ap is_lt e
 
 absent : (z : ℕ × Held) (tree : Tree) → T (entries.is_sorted nat_cmp (z ∷ tree)) → held_in tree z.0 ≡ None
 absent z tree sorted = by_held (held_in tree z.0) refl

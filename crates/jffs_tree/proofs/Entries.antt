@@ -1,5 +1,5 @@
 -- What lawful nodes that fit make of an inode.
-use Rattle.std.proofs.Common.{◌≡◌, ℕ, ◌+◌, ◌<◌, ◌≤◌, ◌^◌, Bool, true, false, not, ◌&&◌, ◌||◌, eqb, leb, IsTrue, List, [], ◌∷◌, length, get_or, ◌⊎◌, inl, inr, ⊎_elim, Option, Some, None, is_none, unwrap_or, refl, sym, ap, subst, ◌∙◌, arith}
+use Rattle.std.proofs.Common.{◌≡◌, ℕ, ◌+◌, ◌<◌, ◌≤◌, ◌^◌, true, false, not, ◌&&◌, ◌||◌, eqb, leb, IsTrue, List, [], ◌∷◌, length, get_or, ◌⊎◌, inl, inr, ⊎_elim, Option, Some, None, is_none, unwrap_or, refl, sym, ap, subst, ◌∙◌, arith}
 use Rattle.std.specs.List.{AllByRecursion}
 use Rattle.std.specs.Option.{option_map_or}
 use Rattle.std.proofs.lemmas.Bool.{eqb-true, leb-true, and_parts, and_from, or_cases, cases_Bool, cases_lt, both_ways}
@@ -112,16 +112,12 @@ module _ (n : Node) (past : List Node) (lawful : is_lawful n ≡ true) (stands :
         kind = inl is;
       }
     where
-      either : (f same last : Bool) → f ≡ true → ((not f || same) || last) ≡ true → (same ≡ true) ⊎ (last ≡ true)
-      either true true last f h = inl refl
-      either true false last f h = inr h
-      either false same last f h = cc
-
       places_kept : (dsize n ≡ n.rsize) ⊎ (length (bytes_of (entry past n.inode)) ≤ n.offset + n.rsize)
       places_kept = ⊎_elim
           (λ same. inl (eqb-true (dsize n) n.rsize same))
           (λ last. inr (leb-true (size_in past n.inode) (n.offset + n.rsize) last))
-          (either (is_file n.kind) (eqb (dsize n) n.rsize) (leb (size_in past n.inode) (n.offset + n.rsize)) (ap is_file is) places)
+          (or_cases (eqb (dsize n) n.rsize) (leb (size_in past n.inode) (n.offset + n.rsize))
+          (sym (ap (λ k. (not (is_file k) || eqb (dsize n) n.rsize) || leb (size_in past n.inode) (n.offset + n.rsize)) is) ∙ places))
 
   directory_written : n.kind ≡ Directory → IsLawfulEntry n.inode (written n (entry past n.inode))
   directory_written is =

@@ -60,6 +60,10 @@ module _ (past : List Node) where
   entry_held i (Some e) = refl
 
 -- The last writers after a node, place by place.
+pub size_said : (o : Option ℕ) → option_map_or (λ _. true) o false ≡ is_some o
+size_said None = refl
+size_said (Some k) = refl
+
 module _ (i : ℕ) (n : Node) (past : List Node) (c : concerns i n ≡ true) (d : n.deleted ≡ false) where
   size_after : size_in (n ∷ past) i ≡ length (rewritten n (bytes_of (entry past i)))
   size_after = ap (λ o. length (bytes_of o)) (entry-written i n past c d)
@@ -112,10 +116,6 @@ module _ (i : ℕ) (n : Node) (past : List Node) (c : concerns i n ≡ true) (d 
       let w = writers_grown ∙ ap (writers_after n) (sym (writers_held past i (entry past i) refl) ∙ ap (λ o. unwrap_or (option_map (λ h. h.writers) o) []) (sym (at-tree past i))) in
       let m = newest-written i n past c d in
       λ j. record { entry = e j; writers = w j; newest = version_of (m j); states_size = (ap has_size m ∙ size_said n.size) j }
-    where
-      size_said : (o : Option ℕ) → option_map_or (λ _. true) o false ≡ is_some o
-      size_said None = refl
-      size_said (Some k) = refl
 
 module _ (i : ℕ) (n : Node) (past : List Node) (c : concerns i n ≡ false) where
   same_writers : writers_of (n ∷ past) i ≡ writers_of past i

@@ -3,6 +3,7 @@ use Rattle.std.proofs.Common.{◌≡◌, ℕ, zero, suc, true, false, not, ◌||
 use Rattle.std.specs.List.{list_any, list_all}
 use Rattle.std.specs.Option.{option_map_or}
 use Rattle.std.specs.FinMap.Entries as entries
+use Rattle.std.proofs.Math.Bool.{or-false}
 use Rattle.std.proofs.lemmas.Bool.{eqb-true, eq-eqb, and_parts, and_from, or_left, or_right, or_cases, cases_Bool, cases_eq, not_from_false, both_ways, not-true}
 use Rattle.jffs_node.specs.Record.{is_directory}
 use Rattle.jffs_tree.specs.State.{Entry, State, at, is_child, is_directory_in}
@@ -34,7 +35,7 @@ which_directory s j h = ⊎_elim
   where
     by_entry : (o : Option Entry) → at s j ≡ o → (option_map_or (λ e. is_directory e.kind) o false || false) ≡ true → (e : Entry) × (at s j ≡ Some e) × (is_directory e.kind ≡ true)
     by_entry None is h = cc
-    by_entry (Some e) is h = (e, is, ⊎_elim (λ d. d) (λ no. cc) (or_cases (is_directory e.kind) false h))
+    by_entry (Some e) is h = (e, is, sym (or-false (is_directory e.kind)) ∙ h)
 
 -- Names lead from the root to the same inodes, where each inode on the way keeps its parent.
 chained : (Q : ℕ → Type 0) (s t : State) → ((j : ℕ) (f : Entry) → Q j → at s j ≡ Some f → ((g : Entry) × (at t j ≡ Some g) × (g.parent ≡ f.parent)) × Q f.parent)

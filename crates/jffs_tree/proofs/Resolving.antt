@@ -89,12 +89,12 @@ the_parent s path h = by_parent (parent_in s path) h
     by_parent None h = cc
     by_parent (Some p) h = (refl, h)
 
+pub value_of : {A : Type 0} (o : Option A) (d : A) → is_some o ≡ true → o ≡ Some (unwrap_or o d)
+value_of None d h = cc
+value_of (Some x) d h = refl
+
 pub the_inode : (s : State) (path : List (List ℕ)) → is_there s path ≡ true → resolve s path ≡ Some (inode_at s path)
-the_inode s path h = by_inode (resolve s path) h
-  where
-    by_inode : (o : Option ℕ) → is_some o ≡ true → o ≡ Some (unwrap_or o 0)
-    by_inode None h = cc
-    by_inode (Some i) h = refl
+the_inode s path h = value_of (resolve s path) 0 h
 
 pub nothing_there : (s : State) (path : List (List ℕ)) → is_there s path ≡ false → resolve s path ≡ None
 nothing_there s path h = by_inode (resolve s path) h

@@ -1,7 +1,6 @@
 -- The rules of a tree, inode by inode.
-use Rattle.std.proofs.Common.{◌≡◌, ℕ, Bool, true, false, ◌&&◌, IsTrue, List, [], ◌∷◌, length, map, ⊎_elim, Option, Some, None, is_some, refl, sym, ap, ◌∙◌}
+use Rattle.std.proofs.Common.{◌≡◌, ℕ, Bool, true, false, ◌&&◌, IsTrue, List, [], ◌∷◌, length, map, ⊎_elim, Some, is_some, sym, ap, ◌∙◌}
 use Rattle.std.specs.List.{AllByRecursion, list_all, range_with_len}
-use Rattle.std.specs.Option.{option_map_or}
 use Rattle.std.proofs.lemmas.Bool.{and_parts, and_from, or_left, or_right, cases_Bool}
 use Rattle.std.proofs.lemmas.Option.{none-some, same_Some}
 use Rattle.std.proofs.lemmas.List.Folds.{list_all-map}
@@ -14,7 +13,7 @@ use Rattle.jffs_tree.specs.Check.{each_fits, parents_are_there, names_differ, is
 use Rattle.jffs_tree.specs.Deciding.{IsLawfulPast}
 use Rattle.jffs_tree.proofs.Pointwise.{at-state, sorted-state}
 use Rattle.jffs_tree.proofs.Steps.{entry-other, entry-deleted, entry-written, newest-written}
-use Rattle.jffs_tree.proofs.Grown.{held_at, held_same}
+use Rattle.jffs_tree.proofs.Grown.{size_said, held_at, held_same}
 use Rattle.jffs_tree.proofs.Copies.{state_of_tree}
 use Rattle.jffs_tree.proofs.States.{all_at, all_from}
 use Rattle.jffs_tree.proofs.Kept.{IsOrderly, orderly, rules_from}
@@ -67,12 +66,8 @@ module _ (n : Node) (past : List Node) (lawful : AllByRecursion (λ m. IsTrue (i
       (λ d.
       let same = same_Some (written n (entry past i)) e (sym (entry-written i n past c d) ∙ is) in
       or_left (has_size (newest (n ∷ past) i)) (list_all is_some (writers_of (n ∷ past) i))
-      (ap has_size (newest-written i n past c d) ∙ said n.size (sized (ap (λ x. x.kind) same ∙ file) d)))
+      (ap has_size (newest-written i n past c d) ∙ size_said n.size ∙ sized (ap (λ x. x.kind) same ∙ file) d))
       (cases_Bool n.deleted)
-    where
-      said : (o : Option ℕ) → is_some o ≡ true → option_map_or (λ _. true) o false ≡ true
-      said None h = cc
-      said (Some k) h = refl
 
   writers_kept : HasWriters (n ∷ past)
   writers_kept i e is = ⊎_elim

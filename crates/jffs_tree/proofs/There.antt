@@ -54,15 +54,15 @@ named_there tree names i is some = ⊎_elim
     (λ there. held_there tree i there)
     (resolved_there (state_in tree) 1 i names is)
 
--- what is no directory
+-- what is no directory is not the root
+pub not_root : (s : State) (i : ℕ) → 1 ≡ i → is_directory_in s i ≡ false → ⊥
+not_root s i e other = let yes : is_directory_in s i ≡ true = sym (ap (λ k. is_directory_in s k) e) in cc
+
 pub file_there : (tree : Tree) (names : List (List ℕ)) (i : ℕ) → resolve (state_in tree) names ≡ Some i → is_directory_in (state_in tree) i ≡ false → is_some (held_in tree i) ≡ true
 file_there tree names i is file = ⊎_elim
-    (λ none. absurd (not_root i none.1 file))
+    (λ none. absurd (not_root (state_in tree) i none.1 file))
     (λ there. held_there tree i there)
     (resolved_there (state_in tree) 1 i names is)
-  where
-    not_root : (i : ℕ) → 1 ≡ i → is_directory_in (state_in tree) i ≡ false → ⊥
-    not_root i e f = let yes : is_directory_in (state_in tree) i ≡ true = sym (ap (λ k. is_directory_in (state_in tree) k) e) in cc
 
 pub entry_found : (tree : Tree) (i : ℕ) (h : Held) → held_in tree i ≡ Some h → entry_of (state_in tree) i ≡ h.entry
 entry_found tree i h is = ap (λ o. unwrap_or o nobody) (entry_in tree i ∙ ap (λ o. option_map (λ x. x.entry) o) is)

@@ -1,16 +1,13 @@
-use Rattle.std.proofs.Common.{◌≡◌, ℕ, Bool, true, false, not, List, T, refl, ap, subst, sym, ◌∙◌}
+use Rattle.std.proofs.Common.{ℕ, not, List, T, ap, subst, sym, ◌∙◌}
+use Rattle.std.proofs.Math.Bool.{not-not}
 use Rattle.jffs_tree.specs.Origin.{Held, state_in}
 use Rattle.jffs_tree.specs.Decide.{is_empty}
 use Rattle.jffs_tree.proofs.Standing.{any_found}
 use Rattle.jffs_tree.proofs.tree.Tree.has_names.Goals as goal
 
-twice : (b : Bool) → b ≡ not (not b)
-twice true = refl
-twice false = refl
-
 pub returns : goal.returns
 returns c =
     any_found c.args.inode c.self.inside.inodes.entries c.self.inside.children.keys (subst T (sym c.self.invariant.ordered) tt) c.self.invariant.indexed
     c.any_named.result c.any_named.ensures.some c.any_named.ensures.none
-    ∙ twice _
+    ∙ sym (not-not _)
     ∙ ap (λ (t : List (ℕ × Held)). not (is_empty (state_in t) c.args.inode)) c.self.view_is

@@ -1,5 +1,6 @@
-use Rattle.std.proofs.Common.{◌≡◌, ℕ, Bool, true, false, cond, not, ◌&&◌, eqb, List, Option, None, Some, IsTrue, inl, inr, refl, ap, subst, sym, rules, nat_cmp, ◌∙◌}
+use Rattle.std.proofs.Common.{◌≡◌, ℕ, true, false, cond, ◌&&◌, eqb, List, Option, None, Some, IsTrue, inl, inr, ap, subst, sym, rules, nat_cmp, ◌∙◌}
 use Rattle.std.specs.FinMap.Entries as entries
+use Rattle.std.proofs.lemmas.Bool.{not-true}
 use Rattle.jffs_tree.specs.Origin.{Held}
 use Rattle.jffs_tree.specs.Look.{parent_name_in}
 use Rattle.jffs_tree.specs.Index.{Place, has_place, is_named, IsIndexOf}
@@ -7,17 +8,13 @@ use Rattle.jffs_tree.proofs.Written.{put_there}
 use Rattle.jffs_tree.proofs.Reindexed.{tied, by_place, restored, parted, stayed}
 use Rattle.jffs_tree.proofs.tree.Tree.write.Goals as goal
 
-absent : (b t : Bool) → b ≡ not t → b ≡ true → t ≡ false
-absent b true e h = cc
-absent b false e h = refl
-
 pub invariant_of-self-then-is_new : goal.invariant_of-self-then-is_new
 invariant_of-self-then-is_new c =
     let old = c.self.inside.inodes.entries in
     let before = c.self.inside.children.keys in
     let here : Place = (c.args.node.now.parent, Some c.args.name, c.args.node.now.inode) in
     let kept = restored old old c.args.node.now c.args.name before c.self.invariant.indexed c.remove.new.self.keys
-    (absent c.in_ok-is_new.is_new (has_place before here) c.in_ok-is_new.ensures.added c.if-is_new.true)
+    (not-true (has_place before here) (sym c.in_ok-is_new.ensures.added ∙ c.if-is_new.true))
     (λ q. c.remove.ensures.updates.0 q ∙ ap (λ b. cond (tied here q) false b) (c.in_ok-is_new.ensures.updates.0 q)) in
     record {
       ordered = subst (λ (t : List (ℕ × Held)). IsTrue (entries.is_sorted nat_cmp t)) (sym c.in-Err.ensures.err) c.self.invariant.ordered;

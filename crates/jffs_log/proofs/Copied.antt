@@ -15,7 +15,7 @@ use Rattle.jffs_tree.proofs.Pointwise.{at-state}
 use Rattle.jffs_tree.proofs.Erasing.{present}
 use Rattle.jffs_tree.proofs.WholeTree.{the_version, any_of, from_range, named}
 use Rattle.jffs_tree.proofs.Live.{newest_is_live, origin_is_live}
-use Rattle.jffs_tree.proofs.Copies.{cleaning_copies_are_true}
+use Rattle.jffs_tree.proofs.Copies.{no_more, cleaning_copies_are_true}
 use Rattle.jffs_tree.proofs.TrueCopy.{true_copy_keeps_state}
 use Rattle.jffs_tree.proofs.Steps.{its_inode, not_unmount, entry-other, entry-written, newest-other, newest-deleted, newest-written, origin-other, origin-deleted, origin-written, origin-moved, origin-padding, where_is}
 use Rattle.jffs_tree.proofs.Entries.{fits_parts, each_fits_from}
@@ -332,9 +332,6 @@ module _ (past : List Node) (h : is_history past ≡ true) (c : Node) (e : Entry
         here i con = and_from (not (is_unmount c.kind)) (eqb c.inode i) (ap not stands_parts.0) (eq-eqb c.inode i (inode ∙ its_inode i n con))
 
 -- What the copy that cleaning makes covers, and how long it is. `o` is its offset, `b` its bytes.
-copied_len : (d o : ℕ) (bytes : List ℕ) → length (take d (drop o bytes)) ≤ d
-copied_len d o bytes = let t = length-take d (drop o bytes) in omega arith
-
 copied_covers : (p d o : ℕ) (bytes : List ℕ) → o ≤ p → p < o + d → p < length bytes → p < min o (length bytes) + length (take d (drop (min o (length bytes)) bytes))
 copied_covers p d o bytes low high there =
     let t = length-take d (drop (min o (length bytes)) bytes) in
@@ -353,7 +350,7 @@ copies_take_over past n h a live =
     let len : dsize c ≡ length (take (dsize n) (drop (min n.offset (length e.bytes)) e.bytes)) = ap (λ (x : List ℕ). length x) bytes in
     let size : size_in past n.inode ≡ length e.bytes = ap (λ o. length (bytes_of o)) there.1 in
     record {
-      shorter = longer (dsize c) (dsize n) (let l = copied_len (dsize n) (min n.offset (length e.bytes)) e.bytes in omega arith);
+      shorter = longer (dsize c) (dsize n) (let l = no_more (dsize n) (drop (min n.offset (length e.bytes)) e.bytes) in omega arith);
       obsolete = source_dead past h c e true_copy refl n a refl (λ p w l.
           let parts = and_parts (leb n.offset p) (ltb p (n.offset + dsize n)) w in
           let low = leb-true n.offset p parts.0 in

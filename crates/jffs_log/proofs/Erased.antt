@@ -1,8 +1,8 @@
 -- What the book of a log owes where the oldest sector is erased.
-use Rattle.std.proofs.Common.{◌≡◌, ◌≢◌, ◌⊎◌, inl, inr, ℕ, suc, ◌+◌, ◌-◌, ◌*◌, ◌<◌, ◌≤◌, true, cond, List, [], ◌∷◌, ◌++◌, length, drop, map, flat_map, replicate, set, get_or, refl, sym, ap, subst, ◌∙◌, arith, append_assoc, length-append, length-drop, Option, None}
+use Rattle.std.proofs.Common.{◌≡◌, ◌≢◌, ◌⊎◌, inl, inr, ℕ, ◌+◌, ◌-◌, ◌*◌, ◌<◌, ◌≤◌, true, cond, List, [], ◌∷◌, ◌++◌, length, drop, map, flat_map, replicate, set, get_or, refl, sym, ap, subst, ◌∙◌, arith, append_assoc, length-append, Option, None}
 use Rattle.std.specs.List.{last_or, enumerate_from, AllByRecursion}
 use Rattle.std.proofs.Math.Seq.{drop-length}
-use Rattle.std.proofs.lemmas.List.{append-nil, length-replicate, length-take-le, map-set, map-append, get_or-set_other}
+use Rattle.std.proofs.lemmas.List.{append-nil, length-replicate, map-set, map-append, get_or-set_other}
 use Rattle.jffs_node.specs.declared.read.Read.TheVariants.{Free, Torn}
 use Rattle.jffs_flash.specs.Image.{replaced, erased}
 use Rattle.jffs_log.specs.declared.book.Kept.{Kept}
@@ -18,10 +18,9 @@ use Rattle.jffs_node.proofs.Found.{all_same}
 use Rattle.std.proofs.lemmas.Bool.{eq-eqb, ne_eqb}
 use Rattle.jffs_log.proofs.SectorSpellings.{reading_open, erased_open}
 use Rattle.jffs_log.proofs.Ring.{Numbered, ring_log, ring_erase, ring_lengths, place_in_ring, at_once}
-use Rattle.jffs_log.proofs.Volume.{length-replaced, split_replaced}
+use Rattle.jffs_log.proofs.Volume.{sector_fits, length-sector, length-replaced, split_replaced}
 use Rattle.jffs_log.proofs.Open.{length-sectors_in, get_or-split}
 use Rattle.jffs_log.proofs.Live.{sound_set}
-use Rattle.std.proofs.Math.Nat.{mul-le-mul_right}
 
 -- a sector of erased bytes
 blank_sector : (len : ℕ) → sector_of (replicate len 255) ≡ record { erased = true; reading = record { nodes = []; ending = Free } }
@@ -30,20 +29,11 @@ blank_sector len =
     let r = reading_open (replicate len 255) [] (replicate len 255) holds (erased_open len) ∙ ap (λ b. record { nodes = []; ending = cond b Free Torn }) (all_same len 255) in
     λ i. record { erased = all_same len 255 i; reading = r i }
 
-pub sector_fits : (count len k : ℕ) → k < count → k * len + len ≤ count * len
-sector_fits count len k below = let more : suc k ≤ count = below in omega (arith, mul-le-mul_right len more)
-
-bytes_long : (count len k : ℕ) (image : List ℕ) → length image ≡ count * len → k < count → length (sector_bytes len k image) ≡ len
-bytes_long count len k image whole below =
-    let fits = sector_fits count len k below in
-    let e = length-drop (k * len) image in
-    length-take-le len (drop (k * len) image) (omega arith)
-
 split_erased : (count len k : ℕ) (image : List ℕ) → length image ≡ count * len → k < count → split count len (erased len k image) ≡ set (split count len image) k (replicate len 255)
 split_erased count len k image whole below =
     let ones : length {A = ℕ} (replicate len 255) ≡ len = length-replicate len 255 in
     let bytes = sector_bytes len k image in
-    let long = bytes_long count len k image whole below in
+    let long = length-sector count len k image whole below in
     let at : k * len ≡ k * len + 0 = omega arith in
     let all : 0 + length {A = ℕ} (replicate len 255) ≡ length bytes = omega arith in
     ap (λ (j : ℕ). split count len (replaced j (replicate len 255) image)) at

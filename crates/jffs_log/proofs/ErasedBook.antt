@@ -11,8 +11,9 @@ use Rattle.jffs_log.specs.Cleaning.{layout_of, erase_oldest}
 use Rattle.jffs_log.specs.Book.{IsKept, from_other}
 use Rattle.jffs_log.proofs.Ring.{Numbered, ring_log}
 use Rattle.jffs_log.proofs.Appended.{kept_inside, image_small}
-use Rattle.jffs_log.proofs.Erased.{IsErasedOldest, oldest_erased, placed_go, sector_fits}
+use Rattle.jffs_log.proofs.Erased.{IsErasedOldest, oldest_erased, placed_go}
 use Rattle.jffs_log.proofs.Layouts.{layout_erased}
+use Rattle.jffs_log.proofs.Volume.{sector_fits}
 
 next_is : (first count next : ℕ) → first < count → IsAt first count 1 next → IsNext first count next
 next_is first count next inside (inl at) = let e = at.0 in inl (omega arith, at.1)

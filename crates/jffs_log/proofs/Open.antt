@@ -1,7 +1,6 @@
 -- A record is written into the free part of a sector: what the image's sectors are then.
-use Rattle.std.proofs.Common.{◌≡◌, ◌≢◌, ℕ, zero, suc, ◌+◌, ◌-◌, ◌*◌, ◌/◌, ◌<◌, ◌≤◌, Bool, true, false, cond, List, [], ◌∷◌, ◌++◌, length, take, drop, replicate, set, get_or, sum_by, sym, ap, subst, ◌∙◌, arith, length-append, length-drop}
-use Rattle.std.proofs.Math.Nat.{mul-le-mul_right}
-use Rattle.std.proofs.lemmas.List.{length-map, length-take-le, length-replicate, drop-drop, get_or-set_same, get_or_default}
+use Rattle.std.proofs.Common.{◌≡◌, ◌≢◌, ℕ, zero, suc, ◌+◌, ◌-◌, ◌*◌, ◌/◌, ◌<◌, ◌≤◌, Bool, true, false, cond, List, [], ◌∷◌, ◌++◌, length, take, drop, replicate, set, get_or, sum_by, sym, ap, subst, ◌∙◌, arith, length-append}
+use Rattle.std.proofs.lemmas.List.{length-map, length-replicate, drop-drop, get_or-set_same, get_or_default}
 use Rattle.std.proofs.Math.ListN.{get_or-map}
 use Rattle.jffs_node.specs.declared.node.Node.{Node}
 use Rattle.jffs_node.specs.declared.read.Read.TheVariants.{Free, Torn}
@@ -14,7 +13,7 @@ use Rattle.jffs_log.specs.Sector.{spellings, HoldsNodes}
 use Rattle.jffs_log.specs.Volume.{split, sector_bytes, sectors_in}
 use Rattle.jffs_log.specs.Live.{IsSound, IsOpenSector}
 use Rattle.jffs_log.proofs.SectorSpellings.{length_spellings, in_place_fits, reading_open, erased_open, not_erased, whole_written, part_written, part_open}
-use Rattle.jffs_log.proofs.Volume.{length-split, length-replaced, split_replaced, sectors_replaced}
+use Rattle.jffs_log.proofs.Volume.{sector_fits, length-sector, length-split, length-replaced, split_replaced, sectors_replaced}
 
 pub length-sectors_in : (count len : ℕ) (image : List ℕ) → length (sectors_in count len image) ≡ count
 length-sectors_in count len image = length-map (split count len image) sector_of ∙ length-split count len image
@@ -44,14 +43,10 @@ module _ (count len : ℕ) (image : List ℕ) (k : ℕ) (nodes : List Node) (fre
   image_after part = replaced (k * len + place) part image
 
   pub inside : k * len + len ≤ count * len
-  inside = let below : suc k ≤ count = h.below in omega (arith, mul-le-mul_right len below)
+  inside = sector_fits count len k h.below
 
   pub sector_long : length (sector_bytes len k image) ≡ len
-  sector_long =
-      let i = inside in
-      let w = h.whole in
-      let e = length-drop (k * len) image in
-      length-take-le len (drop (k * len) image) (omega arith)
+  sector_long = length-sector count len k image h.whole h.below
 
   pub room_is : place + free ≡ len
   room_is =

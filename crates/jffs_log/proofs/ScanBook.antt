@@ -1,9 +1,8 @@
 -- The book of an image whose sectors were read.
-use Rattle.std.proofs.Common.{◌≡◌, ◌⊎◌, inl, inr, ⊎_elim, ℕ, suc, ◌+◌, ◌-◌, ◌*◌, ◌/◌, ◌<◌, ◌≤◌, Bool, true, false, cond, not, ◌||◌, ltb, eqb, List, [], ◌∷◌, ◌++◌, length, drop, map, filter, flat_map, replicate, get_or, Option, Some, None, Result, Ok, Err, refl, sym, ap, subst, ◌∙◌, arith, length-drop}
+use Rattle.std.proofs.Common.{◌≡◌, ◌⊎◌, inl, inr, ⊎_elim, ℕ, ◌+◌, ◌-◌, ◌*◌, ◌/◌, ◌<◌, Bool, true, false, cond, not, ◌||◌, ltb, eqb, List, [], ◌∷◌, ◌++◌, length, map, filter, flat_map, replicate, get_or, Option, Some, None, Result, Ok, Err, refl, sym, ap, subst, ◌∙◌, arith, length-drop}
 use Rattle.std.specs.List.{list_any, last_or, enumerate_from}
 use Rattle.std.proofs.lemmas.Bool.{cases_Bool}
-use Rattle.std.proofs.lemmas.List.{append_assoc, map-append, length-take-le}
-use Rattle.std.proofs.Math.Nat.{mul-le-mul_right}
+use Rattle.std.proofs.lemmas.List.{append_assoc, map-append}
 use Rattle.jffs_node.specs.declared.node.Node.{Node}
 use Rattle.jffs_node.specs.declared.read.Why.{Why}
 use Rattle.jffs_node.specs.declared.read.Read.{Read}
@@ -25,6 +24,7 @@ use Rattle.jffs_log.proofs.MountedLog.{placed_nodes}
 use Rattle.jffs_log.proofs.RingFound.{ring_of}
 use Rattle.jffs_log.proofs.Open.{length-sectors_in, get_or-sectors_in}
 use Rattle.jffs_log.proofs.ScanSectors.{all_sound}
+use Rattle.jffs_log.proofs.Volume.{length-sector}
 
 abbrev pub is_held : Numbered → Bool
 is_held s = not s.1.erased
@@ -124,7 +124,7 @@ module _ (count len : ℕ) (image : List ℕ) (list : List Numbered) (first : �
       let below : t.0 < count = let e = length-sectors_in count len image in let b = at.0 in omega arith in
       let bytes = sector_bytes len t.0 image in
       let same : t.1 ≡ sector_of bytes = at.1 ∙ get_or-sectors_in count len t.0 image t.1 below in
-      let long : length bytes ≡ len = sector_len t.0 below in
+      let long : length bytes ≡ len = length-sector count len t.0 image whole below in
       let h = free_holds bytes (read.spelled t.0 below) (ap (λ (s : Sector). is_free s.reading.ending) (sym same) ∙ free) in
       let here = subst (λ (r : Reading). HoldsNodes bytes r.nodes (replicate (length bytes - reading_len r) 255)) (ap (λ (s : Sector). s.reading) (sym same)) h in
       record {
@@ -136,13 +136,6 @@ module _ (count len : ℕ) (image : List ℕ) (list : List Numbered) (first : �
         opened = record { whole = whole; below = below; holds = subst (λ k. HoldsNodes bytes t.1.reading.nodes (replicate (k - reading_len t.1.reading) 255)) long here };
         filled = refl;
       }
-    where
-      sector_len : (k : ℕ) → k < count → length (sector_bytes len k image) ≡ len
-      sector_len k below =
-          let more : suc k ≤ count = omega arith in
-          let inside : k * len + len ≤ count * len = omega (arith, mul-le-mul_right len more) in
-          let e = length-drop (k * len) image in
-          length-take-le len (drop (k * len) image) (omega arith)
 
   room_by : (o : Option Numbered) → last_or None held ≡ o → (free_of_tail len o ≡ 0) ⊎ HasTail count len image held (number_of_tail o) (used_of_tail o) (free_of_tail len o)
   room_by None last = inl refl

@@ -11,6 +11,15 @@ pub length-split : (count len : ℕ) (image : List ℕ) → length (split count 
 length-split zero len image = refl
 length-split (suc count) len image = let more = length-split count len (drop len image) in omega arith
 
+pub sector_fits : (count len k : ℕ) → k < count → k * len + len ≤ count * len
+sector_fits count len k below = let more : suc k ≤ count = below in omega (arith, mul-le-mul_right len more)
+
+pub length-sector : (count len k : ℕ) (image : List ℕ) → length image ≡ count * len → k < count → length (sector_bytes len k image) ≡ len
+length-sector count len k image whole below =
+    let fits = sector_fits count len k below in
+    let e = length-drop (k * len) image in
+    length-take-le len (drop (k * len) image) (omega arith)
+
 pub length-replaced : (at : ℕ) (part image : List ℕ) → at + length part ≤ length image → length (replaced at part image) ≡ length image
 length-replaced at part image h =
     let e = length-append (take at image ++ part) (drop (at + length part) image) in
@@ -70,8 +79,7 @@ split_replaced (suc count) len zero p part image h fits long =
     ∙ ap (λ (xs : List ℕ). replaced p part (take len image) ∷ split count len xs) both.1
     ∙ ap (λ j. replaced p part (take len (drop j image)) ∷ split count len (drop len image)) there
 split_replaced (suc count) len (suc k) p part image h fits long =
-    let below : suc k ≤ count = omega arith in
-    let room : k * len + len ≤ count * len = omega (arith, mul-le-mul_right len below) in
+    let room = sector_fits count len k (omega arith) in
     let both = inside_later len (k * len + p) part image (omega arith) in
     let at : suc k * len + p ≡ len + (k * len + p) = omega arith in
     let rest = length-drop len image in

@@ -14,7 +14,7 @@ use Rattle.jffs_tree.specs.State.{Entry, bytes_of, sized, written}
 use Rattle.jffs_tree.specs.Origin.{concerns, entry, size_in}
 use Rattle.jffs_tree.specs.Check.{keeps_kind, keeps_places, keeps_form, each_fits}
 use Rattle.jffs_tree.proofs.Applied.{small}
-use Rattle.jffs_tree.proofs.Bytes.{spliced, length-spliced, length-sized}
+use Rattle.jffs_tree.proofs.Places.{spliced, length-spliced, length-sized}
 use Rattle.jffs_tree.proofs.Steps.{not_unmount, its_inode, entry-other, entry-deleted, entry-written, rewritten, where_is, byte_inside, byte_outside}
 use Rattle.jffs_node.proofs.Lawfulness.{fields_of, rules_of, file_numbers, directory_numbers, which_kind, has_name, each_small}
 
@@ -42,13 +42,13 @@ same_byte Unmount Unmount h = refl
 -- no file grows too long
 not_longer : (size : Option ℕ) (c b : List ℕ) (o r : ℕ) → o + length b ≤ file_max → length c ≤ file_max → (length b ≡ r) ⊎ (length c ≤ o + r) → unwrap_or size 0 ≤ file_max
     → length (sized size (spliced c o r b)) ≤ file_max
-not_longer None c b o r range was places stated = let e = length-spliced c o r b in ⊎_elim (λ same. omega arith) (λ last. omega arith) places
-not_longer (Some k) c b o r range was places stated = let e = length-sized k (spliced c o r b) in omega arith
+not_longer None c b o r range was places stated = let e = length-spliced 0 c o r b in ⊎_elim (λ same. omega arith) (λ last. omega arith) places
+not_longer (Some k) c b o r range was places stated = let e = length-sized 0 k (spliced c o r b) in omega arith
 
 -- nothing is put into nothing
 still_empty : (size : Option ℕ) (c b : List ℕ) (o r : ℕ) → size ≡ None → c ≡ [] → o ≡ 0 → length b ≡ 0 → sized size (spliced c o r b) ≡ []
 still_empty None c b o r none was start nothing =
-    let e = length-spliced c o r b in
+    let e = length-spliced 0 c o r b in
     let l : length c ≡ 0 = ap (λ (x : List ℕ). length x) was in
     nil_from_length (spliced c o r b) (omega arith)
 still_empty (Some k) c b o r none was start nothing = cc

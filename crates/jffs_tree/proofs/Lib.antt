@@ -1,4 +1,3 @@
-pub mod Bytes
 pub mod Pointwise
 pub mod TrueCopy
 pub mod Steps

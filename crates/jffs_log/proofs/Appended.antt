@@ -11,6 +11,7 @@ use Rattle.std.proofs.lemmas.List.{take-take, drop-take, drop-drop, take-replica
 use Rattle.jffs_node.specs.declared.node.Node.{Node}
 use Rattle.jffs_node.specs.Record.{spelling, record_len, dsize, is_lawful, is_unmount, has_place, len_of_data}
 use Rattle.jffs_node.proofs.Found.{length_spelled}
+use Rattle.jffs_node.proofs.Rules.{place_parts}
 use Rattle.jffs_flash.specs.Image.{window, replaced}
 use Rattle.jffs_flash.specs.Sizes.{is_sector_size, is_geometry}
 use Rattle.jffs_log.specs.declared.book.Kept.{Kept}
@@ -54,8 +55,7 @@ image_small count len image h whole =
 
 pub record_small : (k : _) (amount len free : ℕ) → has_place k amount (len / 4) free ≡ true → len ≤ 16384 → len_of_data amount ≤ 4096
 record_small k amount len free h small =
-    let two = and_parts _ (is_unmount k || _) h in
-    let fits = leb-true (len_of_data amount) (len / 4) (and_parts _ _ two.0).0 in
+    let fits = (place_parts k amount (len / 4) free h).0 in
     omega arith
 
 -- what a write of a record needs

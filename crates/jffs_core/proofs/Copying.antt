@@ -7,6 +7,7 @@ use Rattle.std.proofs.lemmas.List.{take-append-drop}
 use Rattle.std.proofs.lemmas.Bool.{and_parts, both_ways, false_from_ne_true}
 use Rattle.jffs_node.specs.declared.node.Node.{Node}
 use Rattle.jffs_node.specs.Record.{record_len, dsize, has_place}
+use Rattle.jffs_node.proofs.Each.{each_at}
 use Rattle.jffs_tree.specs.declared.wish.Cause.{Cause}
 use Rattle.jffs_tree.specs.declared.wish.Cause.TheVariants as causes
 use Rattle.jffs_tree.specs.Laws.{NoneLive}
@@ -14,7 +15,7 @@ use Rattle.jffs_log.specs.Image.{nodes_of}
 use Rattle.jffs_log.specs.Book.{HasSizes, layout_in, oldest_in, lives_in}
 use Rattle.jffs_log.specs.Cleaning.{Session, handled, handled_each, copy_has_room, copies_have_room, oldest_records, erase_oldest, stands_from}
 use Rattle.jffs_log.specs.RoomLaws.{Among}
-use Rattle.jffs_log.proofs.Sectors.{each_among, stands_among}
+use Rattle.jffs_log.proofs.Sectors.{stands_among}
 use Rattle.jffs_log.proofs.SectorSpellings.{in_place_fits, record_long}
 use Rattle.jffs_log.proofs.Histories.{dead_as}
 use Rattle.jffs_log.proofs.Copied.{copies_take_over, unmounts_are_dead}
@@ -57,11 +58,6 @@ copying_begins nodes c works = record {
   );
 }
 
-at_among : (xs : List Node) (i : ℕ) (d : Node) → i < length xs → Among (get_or xs i d) xs
-at_among [] i d below = absurd (omega arith)
-at_among (x ∷ xs) zero d below = inl refl
-at_among (x ∷ xs) (suc i) d below = inr (at_among xs i d (omega arith))
-
 pub among_more : (n : Node) (copies past after : List Node) → after ≡ copies ++ past → Among n past → Among n after
 among_more n copies past after is a = subst (Among n) (sym is) (behind copies)
   where
@@ -82,10 +78,10 @@ module _ (nodes past : List Node) (c : Standing) (known : Knows past c) (oldest 
   its_stand = ap (stands_from c.book.sector_size 0) oldest ∙ oldest_stands (layout_in c.image c.book).sectors known.sound.stands
 
   pub one_known : (i : ℕ) (d : Node) → i < length nodes → Among (get_or nodes i d) past
-  one_known i d l = each_among (λ n. Among n past) nodes (get_or nodes i d) all_known (at_among nodes i d l)
+  one_known i d l = each_at (λ n. Among n past) nodes i d l all_known
 
   pub one_short : (i : ℕ) (d : Node) → i < length nodes → record_len (get_or nodes i d) ≤ c.book.sector_size / 4
-  one_short i d l = each_among (λ n. record_len n ≤ c.book.sector_size / 4) nodes (get_or nodes i d) (stands_among c.book.sector_size 0 nodes its_stand) (at_among nodes i d l)
+  one_short i d l = each_at (λ n. record_len n ≤ c.book.sector_size / 4) nodes i d l (stands_among c.book.sector_size 0 nodes its_stand)
 
   count : (z place : ℕ) (ns : List Node) → stands_from z place ns ≡ true → length ns ≤ z - place
   count z place [] h = omega arith
@@ -126,6 +122,11 @@ copying_goes_on nodes past after k copies more node is_copied old middle new bel
     one_if : (b : Bool) → cond b 1 0 ≡ from_bool b
     one_if true = refl
     one_if false = refl
+
+at_among : (xs : List Node) (i : ℕ) (d : Node) → i < length xs → Among (get_or xs i d) xs
+at_among [] i d below = absurd (omega arith)
+at_among (x ∷ xs) zero d below = inl refl
+at_among (x ∷ xs) (suc i) d below = inr (at_among xs i d (omega arith))
 
 -- memory that was refused, or a device that failed, has nothing to do with a copy
 pub not_for_copy : (cause : Cause) → (cause ≡ causes.Memory) ⊎ (cause ≡ causes.Device) → (cause ≡ causes.NoSpace → ⊥) × (cause ≡ causes.VersionsSpent → ⊥)

@@ -11,7 +11,7 @@ use Rattle.jffs_log.specs.declared.book.Book.{Book}
 use Rattle.jffs_log.specs.Book.{IsBook, HasSizes, layout_in, lives_in, oldest_in}
 use Rattle.jffs_log.specs.Cleaning.{Layout, without_oldest, oldest_records, erase_oldest}
 use Rattle.jffs_log.specs.RoomLaws.{Among}
-use Rattle.jffs_log.proofs.MountedLog.{each_append}
+use Rattle.jffs_node.proofs.Each.{each_append}
 use Rattle.jffs_log.proofs.Histories.{dead_as}
 use Rattle.jffs_core.specs.Standing.{Standing, SameAnswers}
 use Rattle.jffs_core.specs.Past.{IsPast, Knows}

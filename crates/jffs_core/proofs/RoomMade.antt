@@ -13,7 +13,7 @@ use Rattle.jffs_log.proofs.Puts.{map_all}
 use Rattle.jffs_log.proofs.Copied.{copies_take_over, unmounts_are_dead, live_present}
 use Rattle.jffs_log.proofs.Cleanings.{IsTurn, turn_cleaned}
 use Rattle.jffs_log.proofs.Bound.{start, no_room, one_kept, full_logs_are_heavy}
-use Rattle.jffs_log.proofs.MountedLog.{each_front}
+use Rattle.jffs_node.proofs.Each.{each_front}
 use Rattle.jffs_log.proofs.Parts.{versions_follow, logs_weigh_less}
 use Rattle.jffs_core.specs.History.{AreOwnCopies}
 use Rattle.jffs_core.specs.Run.{OnlyCopies}

@@ -8,13 +8,14 @@ use Rattle.jffs_node.specs.Record.{is_lawful}
 use Rattle.jffs_node.specs.Reading.{found, reading_of}
 use Rattle.jffs_node.proofs.Sound.{found_are_records}
 use Rattle.jffs_flash.specs.Sizes.{is_geometry}
+use Rattle.jffs_node.proofs.Each.{each_append}
 use Rattle.jffs_log.specs.Image.{Placed, sector_of, records_in, starts, oldest_of, turned, log_sectors, nodes_of, past_of}
 use Rattle.jffs_log.specs.Volume.{split, sectors_in}
 use Rattle.jffs_log.specs.Live.{live_log}
 use Rattle.jffs_log.specs.History.{IsLawfulHistory, MountsAreHistories}
 use Rattle.jffs_log.proofs.Ring.{Numbered}
 use Rattle.jffs_log.proofs.Volume.{length-split}
-use Rattle.jffs_log.proofs.MountedLog.{Bytes, after_found, dropped_bytes, placed_nodes, nodes_mapped, scan_parts, falls_backwards, each_numbered, each_append, each_turned, each_filtered}
+use Rattle.jffs_log.proofs.MountedLog.{Bytes, after_found, dropped_bytes, placed_nodes, nodes_mapped, scan_parts, falls_backwards, each_numbered, each_turned, each_filtered}
 use Rattle.jffs_log.proofs.ScanSectors.{all_sound}
 use Rattle.jffs_log.proofs.Histories.{all_turned}
 

@@ -17,7 +17,7 @@ use Rattle.jffs_log.specs.declared.scanning.ScanWhy.{ScanWhy}
 use Rattle.jffs_log.specs.declared.scanning.ScanWhy.TheVariants as why
 use Rattle.jffs_log.specs.Image.{Sector, Placed, sector_of, placed_from, records_in, turned, starts, oldest_of, is_one_run, log_sectors, log_of, nodes_of, past_of, erased_count, is_free, is_clean, free_of_tail}
 use Rattle.jffs_node.proofs.Sound.{found_are_records}
-pub use Rattle.jffs_node.proofs.Each.{each_append, each_front}
+use Rattle.jffs_node.proofs.Each.{each_append, each_front}
 use Rattle.jffs_node.proofs.Lawfulness.{as_long}
 use Rattle.jffs_node.proofs.Rules.{place_parts}
 pub use Rattle.jffs_node.proofs.Rules.{ok_same}

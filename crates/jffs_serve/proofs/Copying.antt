@@ -1,6 +1,6 @@
 -- Copies that are handed in.
 use Rattle.std.proofs.Common.{◌≡◌, ℕ, ◌+◌, ◌≤◌, List, ◌++◌, length, sym, ap, ◌∙◌, append_assoc, length-append, arith}
-use Rattle.jffs_log.proofs.MountedLog.{each_append}
+use Rattle.jffs_node.proofs.Each.{each_append}
 use Rattle.jffs_line.specs.declared.request.Request.{Request}
 use Rattle.jffs_serve.specs.Copies.{IsCopy, HandsInCopies}
 

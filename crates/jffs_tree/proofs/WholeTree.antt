@@ -1,6 +1,6 @@
 -- Where a version is of one inode's nodes alone, it is live in the tree where it is live in that inode.
-use Rattle.std.proofs.Common.{◌≡◌, ℕ, zero, suc, ◌+◌, ◌<◌, ◌⊎◌, ◌++◌, arith, Bool, true, false, cond, not, eqb, ltb, List, [], ◌∷◌, map, flat_map, option_map, option_to_list, ⊎_elim, Option, Some, None, refl, sym, ap, subst, ◌∙◌}
-use Rattle.std.specs.List.{AllByRecursion, list_any, find, range_with_len}
+use Rattle.std.proofs.Common.{◌≡◌, ℕ, zero, suc, ◌+◌, ◌<◌, ◌⊎◌, ◌++◌, arith, Bool, true, false, cond, eqb, List, [], ◌∷◌, map, flat_map, option_map, option_to_list, ⊎_elim, Option, Some, None, refl, sym, ap, ◌∙◌}
+use Rattle.std.specs.List.{list_any, find, range_with_len}
 use Rattle.std.specs.Option.{option_map_or}
 use Rattle.std.specs.Cmp.{both_ways}
 use Rattle.std.proofs.Math.Bool.{or-false}
@@ -8,42 +8,13 @@ use Rattle.std.proofs.lemmas.Bool.{eqb-true, cases_Bool, or_cases}
 use Rattle.std.proofs.lemmas.List.Folds.{list_any-append}
 use Rattle.jffs_node.specs.declared.node.Node.{Node}
 use Rattle.jffs_tree.specs.State.{Entry, state_of_past}
-use Rattle.jffs_tree.specs.Origin.{Held, Tree, concerns, entry, size_in, writes, place_before, origin, newest, held, versions_held, version_of, writers_of, tree_of, is_live}
+use Rattle.jffs_tree.specs.Origin.{Held, Tree, entry, size_in, origin, newest, held, versions_held, version_of, writers_of, tree_of, is_live}
 use Rattle.jffs_tree.specs.Look.{holds_version, IsVersionOf}
 use Rattle.jffs_tree.proofs.Pointwise.{at-state, sorted-state}
 use Rattle.jffs_tree.proofs.Copies.{found_there}
 use Rattle.jffs_tree.proofs.Grown.{at-tree, held_at}
 use Rattle.jffs_tree.proofs.Live.{live_by}
-use Rattle.jffs_tree.proofs.Steps.{its_inode, newest-other, newest-deleted, newest-written, origin-other}
-
--- the newest node and each origin of an inode are nodes of it, in the list
-module _ (Q : Node → Type 0) (i : ℕ) where
-  this_one : (n m : Node) → concerns i n ≡ true → Q n → n ≡ m → (m.inode ≡ i) × Q m
-  this_one n m c q same = (ap (λ x. x.inode) (sym same) ∙ its_inode i n c, subst Q same q)
-
-  of_newest : (past : List Node) (m : Node) → AllByRecursion Q past → newest past i ≡ Some m → (m.inode ≡ i) × Q m
-  of_newest [] m q is = cc
-  of_newest (n ∷ past) m q is = ⊎_elim
-      (λ c. ⊎_elim
-      (λ d. let none = newest-deleted i n past c d in cc)
-      (λ d. let some = newest-written i n past c d in let same : n ≡ m = cc in this_one n m c q.0 same)
-      (cases_Bool n.deleted))
-      (λ c. of_newest past m q.1 (sym (newest-other i n past c) ∙ is))
-      (cases_Bool (concerns i n))
-
-  of_origin : (past : List Node) (p : ℕ) (m : Node) → AllByRecursion Q past → origin past i p ≡ Some m → (m.inode ≡ i) × Q m
-  of_origin [] p m q is = cc
-  of_origin (n ∷ past) p m q is = ⊎_elim
-      (λ c. by_parts (λ e. of_origin past (place_before n p) m q.1 e) c n.deleted (writes n p) (ltb (place_before n p) (size_in past i))
-      (sym (ap (λ t. cond (not t) (origin past i p) (cond n.deleted None (cond (writes n p) (Some n) (cond (ltb (place_before n p) (size_in past i)) (origin past i (place_before n p)) None)))) c) ∙ is))
-      (λ c. of_origin past p m q.1 (sym (origin-other i n past p c) ∙ is))
-      (cases_Bool (concerns i n))
-    where
-      by_parts : (origin past i (place_before n p) ≡ Some m → (m.inode ≡ i) × Q m) → concerns i n ≡ true → (d w l : Bool) → cond d None (cond w (Some n) (cond l (origin past i (place_before n p)) None)) ≡ Some m → (m.inode ≡ i) × Q m
-      by_parts back c true w l is = cc
-      by_parts back c false true l is = let same : n ≡ m = cc in this_one n m c q.0 same
-      by_parts back c false false true is = back is
-      by_parts back c false false false is = cc
+use Rattle.jffs_tree.proofs.Steps.{its_inode, of_newest, of_origin}
 
 pub the_version : (v : ℕ) (o : Option ℕ) → list_any (λ w. eqb w v) (option_to_list o) ≡ true → o ≡ Some v
 the_version v None h = cc
@@ -70,12 +41,12 @@ held_of_inode past v i j e own h = ⊎_elim
     (λ top.
     let m = named (newest past j) v (the_version v (version_of (newest past j)) top) in
     let of = of_newest (λ n. n.version ≡ v → n.inode ≡ i) j past m.0 own m.1 in
-    sym of.0 ∙ of.1 m.2)
+    sym (its_inode j m.0 of.0) ∙ of.1 m.2)
     (λ place.
     let p = from_range (λ q. version_of (origin past j q)) v (size_in past j) 0 place in
     let m = named (origin past j p.0) v p.2 in
     let of = of_origin (λ n. n.version ≡ v → n.inode ≡ i) j past p.0 m.0 own m.1 in
-    sym of.0 ∙ of.1 m.2)
+    sym (its_inode j m.0 of.0) ∙ of.1 m.2)
     (any_of (λ w. eqb w v) (option_to_list (version_of (newest past j))) (flat_map option_to_list (writers_of past j)) h)
 
 -- the first element whose list has it

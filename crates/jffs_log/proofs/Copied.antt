@@ -17,10 +17,11 @@ use Rattle.jffs_tree.proofs.WholeTree.{the_version, any_of, from_range, named}
 use Rattle.jffs_tree.proofs.Live.{newest_is_live, origin_is_live}
 use Rattle.jffs_tree.proofs.Copies.{no_more, cleaning_copies_are_true}
 use Rattle.jffs_tree.proofs.TrueCopy.{true_copy_keeps_state}
-use Rattle.jffs_tree.proofs.Steps.{its_inode, not_unmount, entry-other, entry-written, newest-other, newest-deleted, newest-written, origin-other, origin-deleted, origin-written, origin-moved, origin-padding, where_is}
+use Rattle.jffs_tree.proofs.Steps.{of_newest, its_inode, not_unmount, entry-other, entry-written, newest-other, newest-written, origin-other, origin-deleted, origin-written, origin-moved, origin-padding, where_is}
 use Rattle.jffs_tree.proofs.Entries.{fits_parts, each_fits_from}
 use Rattle.jffs_log.specs.Cleaning.{copied, version_after, versions_fall, keeps_length, is_history}
 use Rattle.jffs_log.specs.RoomLaws.{Among, CopiesTakeOver, UnmountNodesAreDead}
+use Rattle.jffs_log.proofs.Sectors.{all_among}
 
 -- Where a live version comes from.
 abbrev pub IsNewest : List Node → ℕ → ℕ → Type 0
@@ -74,14 +75,7 @@ is_origin_live past v i h =
 
 -- The newest node, and an origin, is one of the nodes and speaks of the inode; and bytes stay where they were written.
 newest_among : (past : List Node) (i : ℕ) (m : Node) → newest past i ≡ Some m → Among m past × (concerns i m ≡ true)
-newest_among [] i m h = absurd (none-some m h)
-newest_among (n ∷ past) i m h = ⊎_elim
-    (λ c. ⊎_elim
-    (λ d. absurd (none-some m (sym (newest-deleted i n past c d) ∙ h)))
-    (λ d. let same = same_Some m n (sym h ∙ newest-written i n past c d) in (inl same, ap (concerns i) same ∙ c))
-    (cases_Bool n.deleted))
-    (λ c. let later = newest_among past i m (sym (newest-other i n past c) ∙ h) in (inr later.0, later.1))
-    (cases_Bool (concerns i n))
+newest_among past i m h = let k = of_newest (λ n. Among n past) i past m (all_among (λ n. Among n past) past (λ n a. a)) h in (k.1, k.0)
 
 record HistoryParts (n : Node) (past : List Node) : Type 0 where
   before : is_history past ≡ true

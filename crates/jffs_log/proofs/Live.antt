@@ -69,12 +69,21 @@ answer_on sectors = unless (
     ∷ [])
     (record { log = log_of sectors; tree = tree_of (past_of (log_of sectors)); clean = is_clean sectors })
 
+abbrev pub rest_of_causes : List Sector → Result Scanned ScanWhy
+rest_of_causes sectors = cond (not (list_any (λ s. s.erased) sectors)) (Err NoErased) (cond (not (is_one_run sectors)) (Err Scattered) (answer_on sectors))
+
+pub geometry_passed : (count len : ℕ) (image : List ℕ) → is_geometry count len ≡ true → scan len (split count len image) ≡ scan_sectors (sectors_in count len image)
+geometry_passed count len image sizes =
+    ap (λ k. cond (is_geometry k len) (scan_sectors (sectors_in count len image)) (Err Geometry)) (length-split count len image)
+    ∙ ap (λ t. cond t (scan_sectors (sectors_in count len image)) (Err Geometry)) sizes
+
+pub bad_passed : (count len : ℕ) (image : List ℕ) → is_geometry count len ≡ true → first_bad 0 (sectors_in count len image) ≡ None → scan len (split count len image) ≡ rest_of_causes (sectors_in count len image)
+bad_passed count len image sizes none = geometry_passed count len image sizes ∙ ap (λ o. or_refuse o (rest_of_causes (sectors_in count len image))) none
+
 pub scan_reads : (count len : ℕ) (image : List ℕ) → is_geometry count len ≡ true → IsReadable (sectors_in count len image) → scan len (split count len image) ≡ answer_on (sectors_in count len image)
 scan_reads count len image sizes h =
     let sectors = sectors_in count len image in
     let a = answer_on sectors in
-    ap (λ k. cond (is_geometry k len) (scan_sectors sectors) (Err Geometry)) (length-split count len image)
-    ∙ ap (λ t. cond t (scan_sectors sectors) (Err Geometry)) sizes
-    ∙ ap (λ o. or_refuse o (cond (not (list_any (λ s. s.erased) sectors)) (Err NoErased) (cond (not (is_one_run sectors)) (Err Scattered) a))) (first_none 0 sectors h.sound)
+    bad_passed count len image sizes (first_none 0 sectors h.sound)
     ∙ ap (λ t. cond (not t) (Err NoErased) (cond (not (is_one_run sectors)) (Err Scattered) a)) h.erased
     ∙ ap (λ t. cond (not t) (Err Scattered) a) h.run

@@ -10,7 +10,7 @@ use Rattle.jffs_tree.specs.Check.{makes_tree}
 use Rattle.jffs_log.specs.declared.book.Book.{Book}
 use Rattle.jffs_log.specs.declared.scanning.ScanWhy.{ScanWhy}
 use Rattle.jffs_log.specs.declared.scanning.ScanWhy.TheVariants.{Geometry, Device, BadRecord, NoErased, Scattered, BadOrder, BadTree, Memory}
-use Rattle.jffs_log.specs.Image.{Sector, records_in, starts, oldest_of, is_one_run, turned, log_of, nodes_of, past_of, is_clean_tail, is_clean}
+use Rattle.jffs_log.specs.Image.{records_in, starts, oldest_of, is_one_run, turned, log_of, nodes_of, past_of, is_clean_tail, is_clean}
 use Rattle.jffs_log.specs.Volume.{split, sectors_in}
 use Rattle.jffs_log.specs.Scan.{Scanned, first_bad, versions_rise, or_refuse, unless, scan_sectors, scan}
 use Rattle.jffs_log.specs.ScanRead.{oldest_sector, AreRead, IsReadFault}
@@ -18,7 +18,7 @@ use Rattle.jffs_log.specs.Room.{following, limits as limits_after}
 use Rattle.jffs_log.specs.ScanFound.{greatest_inode, last_version, IsCause, IsFound}
 use Rattle.jffs_log.proofs.Ring.{Numbered, sectors_of, sectors_numbered, ring_lengths}
 use Rattle.jffs_log.proofs.Volume.{length-split}
-use Rattle.jffs_log.proofs.Live.{answer_on, scan_reads}
+use Rattle.jffs_log.proofs.Live.{geometry_passed, bad_passed, rest_of_causes, answer_on, scan_reads}
 use Rattle.jffs_log.proofs.ScanNumbers.{greatest_first, version_first}
 use Rattle.jffs_log.proofs.ScanSectors.{all_sound}
 use Rattle.jffs_log.proofs.ScanBook.{IsLocated, is_held, located, nodes_in}
@@ -40,14 +40,6 @@ geometry_cause count len image h =
 pub geometry_refused : (count len : ℕ) (image : List ℕ) (before after : ℕ) → is_geometry count len ≡ false → after ≡ before → IsCause Geometry before after (answer count len image)
 geometry_refused count len image before after h same = (geometry_cause count len image h, same)
 
-geometry_passed : (count len : ℕ) (image : List ℕ) → is_geometry count len ≡ true → answer count len image ≡ scan_sectors (sectors_in count len image)
-geometry_passed count len image h =
-    ap (λ k. cond (is_geometry k len) (scan_sectors (sectors_in count len image)) (Err Geometry)) (length-split count len image)
-    ∙ ap (λ t. cond t (scan_sectors (sectors_in count len image)) (Err Geometry)) h
-
-abbrev rest_of_causes : List Sector → Result Scanned ScanWhy
-rest_of_causes sectors = cond (not (list_any (λ s. s.erased) sectors)) (Err NoErased) (cond (not (is_one_run sectors)) (Err Scattered) (answer_on sectors))
-
 bad_cause : (count len : ℕ) (image : List ℕ) (why : ScanWhy) → is_geometry count len ≡ true → first_bad 0 (sectors_in count len image) ≡ Some why → answer count len image ≡ Err why
 bad_cause count len image why sizes bad = geometry_passed count len image sizes ∙ ap (λ o. or_refuse o (rest_of_causes (sectors_in count len image))) bad
 
@@ -60,9 +52,6 @@ read_refused NoErased count len image before after sizes h = (bad_cause count le
 read_refused Scattered count len image before after sizes h = (bad_cause count len image Scattered sizes h.0, h.1)
 read_refused BadOrder count len image before after sizes h = (bad_cause count len image BadOrder sizes h.0, h.1)
 read_refused BadTree count len image before after sizes h = (bad_cause count len image BadTree sizes h.0, h.1)
-
-none_bad : (count len : ℕ) (image : List ℕ) → is_geometry count len ≡ true → first_bad 0 (sectors_in count len image) ≡ None → answer count len image ≡ rest_of_causes (sectors_in count len image)
-none_bad count len image sizes none = geometry_passed count len image sizes ∙ ap (λ o. or_refuse o (rest_of_causes (sectors_in count len image))) none
 
 oldest_cause : (some run : Bool) (k : ℕ) (why : ScanWhy) (later found : Result Scanned ScanWhy) (before after : ℕ)
     → ◌≡◌ {A = Result ℕ ScanWhy} (cond (not some) (Err NoErased) (cond (not run) (Err Scattered) (Ok k))) (Err why)
@@ -77,7 +66,7 @@ oldest_refused why count len image list before after sizes read h same =
     let sectors = sectors_in count len image in
     oldest_cause (list_any (λ s. s.erased) sectors) (is_one_run sectors) (oldest_of (starts sectors)) why (answer_on sectors) (answer count len image) before after
     (sym (ap oldest_sector (plain count len image list read)) ∙ h)
-    (none_bad count len image sizes read.none)
+    (bad_passed count len image sizes read.none)
     same
 
 -- What a scan has found of the sectors.

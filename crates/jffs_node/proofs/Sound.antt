@@ -61,9 +61,6 @@ flags_suit (suc (suc zero)) false h k = (refl, refl)
 flags_suit (suc (suc (suc f))) u h k = absurd (omega arith)
 
 -- the bytes of a list, one by one
-small : List ℕ → Type 0
-small xs = (i : ℕ) → get_or xs i 0 < 256
-
 small_part : (rest : List ℕ) (at k : ℕ) → ((i : ℕ) → get_or rest i 0 < 256) → (i : ℕ) → get_or (take k (drop at rest)) i 0 < 256
 small_part rest at k h i = ⊎_elim
     (λ l. let e = get_or-take k (drop at rest) i 0 l in let f = get_or-drop at rest i 0 in let g = h (at + i) in omega arith)

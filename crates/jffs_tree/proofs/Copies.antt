@@ -8,6 +8,7 @@ use Rattle.std.proofs.lemmas.Bool.{leb-true, le-leb, and_parts, and_from, not_fr
 use Rattle.std.proofs.lemmas.List.{length-take, length-drop}
 use Rattle.std.proofs.Math.Nat.{min-le_right}
 use Rattle.std.proofs.lemmas.Slice.Eq.{bytes_eq-Decides}
+use Rattle.std.proofs.lemmas.Option.{same_Some}
 use Rattle.jffs_node.specs.declared.node.Node.{Node}
 use Rattle.jffs_node.specs.Record.{dsize, is_unmount}
 use Rattle.jffs_tree.specs.declared.wish.Cause.{Cause}
@@ -52,8 +53,7 @@ found_there past p [] h sorted is = cc
 found_there past p (x ∷ s) h sorted is =
     ⊎_elim
     (λ passes.
-    let found : Some (held past x) ≡ Some h = sym (ap (λ t. cond t (Some (held past x)) (find p (map (held past) s))) passes) ∙ is in
-    let same : held past x ≡ h = cc in
+    let same = same_Some (held past x) h (sym (ap (λ t. cond t (Some (held past x)) (find p (map (held past) s))) passes) ∙ is) in
     subst (λ (g : ℕ × Held). (e : Entry) × (g ≡ held past (g.0, e)) × (at (x ∷ s) g.0 ≡ Some e)) same
     (x.1, refl, at_first x s))
     (λ fails.

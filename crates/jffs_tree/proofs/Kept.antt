@@ -12,6 +12,7 @@ use Rattle.jffs_tree.proofs.States.{all_at, all_from, none_at, none_from, at_cas
 use Rattle.jffs_tree.proofs.Maps.{tail_sorted, at_first, behind, at_later}
 use Rattle.jffs_tree.proofs.Copies.{same_bytes}
 use Rattle.std.proofs.lemmas.Slice.Eq.{bytes_eq-Decides}
+use Rattle.std.proofs.lemmas.Option.{same_Some}
 
 -- The rules of a state, inode by inode, with so many names at most from the root to an inode.
 pub record IsOrderly (most : ℕ) (s : State) : Type 0 where
@@ -89,7 +90,7 @@ module _ (k : ℕ) (s t : State) (i : ℕ) (e : Entry) (old : IsOrderly (suc k) 
       let there = ap (at s) same ∙ is in
       let kind : is_directory f.kind ≡ true = ⊎_elim
       (λ top. absurd (p.low (same ∙ top)))
-      (λ under. let again : Some under.0 ≡ Some f = sym under.1 ∙ is in let this : under.0 ≡ f = cc in ap (λ x. is_directory x.kind) (sym this) ∙ under.2)
+      (λ under. let this = same_Some under.0 f (sym under.1 ∙ is) in ap (λ x. is_directory x.kind) (sym this) ∙ under.2)
       (which_directory s j d) in
       ((e, sym (ap (at t) same) ∙ p.here, (p.was f there kind).1), old.parents j f is))
       (λ apart. ((f, p.other j apart ∙ is, refl), old.parents j f is))
@@ -97,7 +98,7 @@ module _ (k : ℕ) (s t : State) (i : ℕ) (e : Entry) (old : IsOrderly (suc k) 
 
   which : (j : ℕ) (f : Entry) → at t j ≡ Some f → ((i ≡ j) × (e ≡ f)) ⊎ (at s j ≡ Some f)
   which j f is = ⊎_elim
-      (λ same. let again : Some e ≡ Some f = sym p.here ∙ ap (at t) same ∙ is in let this : e ≡ f = cc in inl (same, this))
+      (λ same. let this = same_Some e f (sym p.here ∙ ap (at t) same ∙ is) in inl (same, this))
       (λ apart. inr (sym (p.other j apart) ∙ is))
       (cases_eq i j)
 

@@ -5,6 +5,7 @@ use Rattle.std.specs.Ordering.{nat_cmp, eq_by_cmp}
 use Rattle.std.specs.Cmp.{unsigned_tied}
 use Rattle.std.proofs.lemmas.Bool.{eqb-true, eq-eqb, or_left, or_right, cases_Bool, cases_eq}
 use Rattle.std.proofs.lemmas.List.Folds.{list_any-append}
+use Rattle.std.proofs.lemmas.Option.{same_Some}
 use Rattle.jffs_node.specs.declared.node.Node.{Node}
 use Rattle.jffs_tree.specs.State.{Entry, State, at, state_of_past}
 use Rattle.jffs_tree.specs.Origin.{entry, size_in, origin, newest, held, versions_held, version_of, writers_of, is_live}
@@ -21,8 +22,7 @@ held_in past v (x ∷ s) i e is h =
     ∙ ⊎_elim
     (λ tied.
     let here : i ≡ x.0 = eqb-true i x.0 (sym (unsigned_tied i x.0) ∙ tied) in
-    let found : Some x.1 ≡ Some e = sym (ap (λ t. cond t (Some x.1) (at s i)) tied) ∙ is in
-    let same : x.1 ≡ e = cc in
+    let same = same_Some x.1 e (sym (ap (λ t. cond t (Some x.1) (at s i)) tied) ∙ is) in
     or_left _ _ (ap (λ (y : ℕ × Entry). list_any (λ w. eqb w v) (versions_held (held past y))) (λ j. (sym here j, same j)) ∙ h))
     (λ apart. or_right _ _ (held_in past v s i e (sym (ap (λ t. cond t (Some x.1) (at s i)) apart) ∙ is) h))
     (cases_Bool (eq_by_cmp nat_cmp i x.0))

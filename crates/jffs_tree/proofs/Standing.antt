@@ -7,6 +7,7 @@ use Rattle.std.specs.Cmp.{unsigned_tied}
 use Rattle.std.specs.FinMap.Entries as entries
 use Rattle.std.proofs.lemmas.Bool.{cases_Bool, and_parts, and_from, eqb-true, or_cases, or_left, or_right}
 use Rattle.std.proofs.lemmas.Slice.Eq.{bytes_eq-Decides}
+use Rattle.std.proofs.lemmas.Option.{same_Some}
 use Rattle.jffs_tree.specs.State.{child, is_child}
 use Rattle.jffs_tree.specs.Origin.{Held, Tree, state_in}
 use Rattle.jffs_tree.specs.After.{held_in}
@@ -32,8 +33,7 @@ module _ (p : ℕ) (name : List ℕ) where
   child_stands [] sorted c is = cc
   child_stands (z ∷ tree) sorted c is = ⊎_elim
       (λ here.
-      let first : Some z.0 ≡ Some c = sym (found true z tree here) ∙ is in
-      let same : z.0 ≡ c = cc in
+      let same = same_Some z.0 c (sym (found true z tree here) ∙ is) in
       ap (λ k. stands (z ∷ tree) k) (sym same) ∙ ap (λ o. option_map_or test o false) (at_first z tree) ∙ here)
       (λ not_here.
       let later = some_of test (held_in tree c) (child_stands tree (tail_sorted z tree sorted) c (sym (found false z tree not_here) ∙ is)) in
@@ -46,15 +46,14 @@ module _ (p : ℕ) (name : List ℕ) where
       (λ tied.
       let same : j ≡ z.0 = eqb-true j z.0 (sym (unsigned_tied j z.0) ∙ tied) in
       let here : test z.1 ≡ true = sym (ap (λ t. option_map_or test (cond t (Some z.1) (held_in tree j)) false) tied) ∙ at in
-      let first : Some z.0 ≡ Some c = sym (found true z tree here) ∙ is in
-      let low : z.0 ≡ c = cc in
+      let low = same_Some z.0 c (sym (found true z tree here) ∙ is) in
       omega arith)
       (λ apart.
       let there : stands tree j ≡ true = sym (ap (λ t. option_map_or test (cond t (Some z.1) (held_in tree j)) false) apart) ∙ at in
       let h = some_of test (held_in tree j) there in
       let low = behind z tree j h.0 sorted h.1 in
       ⊎_elim
-      (λ here. let first : Some z.0 ≡ Some c = sym (found true z tree here) ∙ is in let same : z.0 ≡ c = cc in omega arith)
+      (λ here. let same = same_Some z.0 c (sym (found true z tree here) ∙ is) in omega arith)
       (λ not_here. child_least tree (tail_sorted z tree sorted) c (sym (found false z tree not_here) ∙ is) j there)
       (cases_Bool (test z.1)))
       (cases_Bool (eq_by_cmp nat_cmp j z.0))
@@ -94,8 +93,7 @@ any_of_held : (p : ℕ) (tree : Tree) (i : ℕ) (h : Held) → held_in tree i �
 any_of_held p [] i h is at = cc
 any_of_held p (z ∷ tree) i h is at = ⊎_elim
     (λ tied.
-    let first : Some z.1 ≡ Some h = sym (ap (λ t. cond t (Some z.1) (held_in tree i)) tied) ∙ is in
-    let same : z.1 ≡ h = cc in
+    let same = same_Some z.1 h (sym (ap (λ t. cond t (Some z.1) (held_in tree i)) tied) ∙ is) in
     or_left (eqb z.1.entry.parent p) _ (ap (λ x. eqb x.entry.parent p) same ∙ at))
     (λ apart. or_right (eqb z.1.entry.parent p) _ (any_of_held p tree i h (sym (ap (λ t. cond t (Some z.1) (held_in tree i)) apart) ∙ is) at))
     (cases_Bool (eq_by_cmp nat_cmp i z.0))

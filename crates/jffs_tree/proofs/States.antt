@@ -5,14 +5,14 @@ use Rattle.std.specs.Ordering.{eq_by_cmp}
 use Rattle.std.specs.Cmp.{unsigned_tied}
 use Rattle.std.specs.FinMap.Entries as entries
 use Rattle.std.proofs.lemmas.Bool.{eqb-true, and_parts, and_from, or_left, or_right, or_from, cases_Bool}
+use Rattle.std.proofs.lemmas.Option.{same_Some}
 use Rattle.jffs_tree.specs.State.{Entry, State, at}
 use Rattle.jffs_tree.proofs.Maps.{tail_sorted, at_first, at_later}
 
 pub at_cases : (x : ℕ × Entry) (s : State) (i : ℕ) (e : Entry) → at (x ∷ s) i ≡ Some e → ((i ≡ x.0) × (x.1 ≡ e)) ⊎ (at s i ≡ Some e)
 at_cases x s i e is = ⊎_elim
     (λ tied.
-    let found : Some x.1 ≡ Some e = sym (ap (λ t. cond t (Some x.1) (at s i)) tied) ∙ is in
-    let same : x.1 ≡ e = cc in
+    let same = same_Some x.1 e (sym (ap (λ t. cond t (Some x.1) (at s i)) tied) ∙ is) in
     inl (eqb-true i x.0 (sym (unsigned_tied i x.0) ∙ tied), same))
     (λ apart. inr (sym (ap (λ t. cond t (Some x.1) (at s i)) apart) ∙ is))
     (cases_Bool (eq_by_cmp nat_cmp i x.0))
@@ -53,8 +53,7 @@ module _ (test : (ℕ × Entry) → Bool) where
   found_at [] x h is = cc
   found_at (y ∷ s) x h is = ⊎_elim
       (λ passes.
-      let found : Some y ≡ Some x = sym (ap (λ t. cond t (Some y) (find test s)) passes) ∙ is in
-      let same : y ≡ x = cc in
+      let same = same_Some y x (sym (ap (λ t. cond t (Some y) (find test s)) passes) ∙ is) in
       subst (λ (z : ℕ × Entry). (at (y ∷ s) z.0 ≡ Some z.1) × (test z ≡ true)) same (at_first y s, passes))
       (λ fails.
       let later = found_at s x (tail_sorted y s h) (sym (ap (λ t. cond t (Some y) (find test s)) fails) ∙ is) in

@@ -5,6 +5,7 @@ use Rattle.std.specs.Option.{unwrap_or}
 use Rattle.std.specs.Ordering.{eq_by_cmp}
 use Rattle.std.specs.Cmp.{unsigned_tied}
 use Rattle.std.proofs.lemmas.Bool.{cases_Bool, eq-eqb}
+use Rattle.std.proofs.lemmas.Option.{same_Some}
 use Rattle.jffs_tree.specs.State.{Entry, State, at, child, is_child, resolve_from, resolve, is_directory_in}
 use Rattle.jffs_tree.specs.Origin.{Held, Tree, state_in}
 use Rattle.jffs_tree.specs.After.{held_in}
@@ -15,8 +16,7 @@ child_there : (s : State) (parent : ℕ) (name : List ℕ) (i : ℕ) → child s
 child_there [] parent name i is = cc
 child_there (x ∷ s) parent name i is = ⊎_elim
     (λ here.
-    let found : Some x.0 ≡ Some i = sym (ap (λ b. option_map (λ e. e.0) (cond b (Some x) (lists.find (is_child parent name) s))) here) ∙ is in
-    let same : x.0 ≡ i = cc in
+    let same = same_Some x.0 i (sym (ap (λ b. option_map (λ e. e.0) (cond b (Some x) (lists.find (is_child parent name) s))) here) ∙ is) in
     ap (λ b. is_some (cond b (Some x.1) (at s i))) (unsigned_tied i x.0 ∙ eq-eqb i x.0 (sym same)))
     (λ later.
     let found = child_there s parent name i (sym (ap (λ b. option_map (λ e. e.0) (cond b (Some x) (lists.find (is_child parent name) s))) later) ∙ is) in

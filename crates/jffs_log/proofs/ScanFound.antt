@@ -128,10 +128,6 @@ pub found_at : (count many len size : ℕ) (image : List ℕ) (book : Book) (tre
 found_at count many len size image book tree clean limits same_count same_len h =
     subst (λ k. IsFound many k image book tree clean limits) same_len (subst (λ k. IsFound k len image book tree clean limits) same_count h)
 
-pub not_so : (b : Bool) → (b ≡ true → false ≡ true) → b ≡ false
-not_so true h = sym (h refl)
-not_so false h = refl
-
 -- where the log begins, and what of it is kept
 pub located_in : (count len : ℕ) (image : List ℕ) (list : List Numbered) (first : ℕ) (held : List Numbered) → AreRead count len image list → Ok first ≡ oldest_sector (map (λ s. s.1) list)
     → held ≡ filter is_held (turned first list) → IsLocated (sectors_in count len image) first held

@@ -2,6 +2,7 @@
 use Rattle.std.proofs.Common.{◌≡◌, ◌⊎◌, ◌*◌, false, ℕ, ◌<◌, get_or, List, length, map, flat_map, reverse, Ok, Err, refl, sym, ap, subst, ◌∙◌, arith}
 use Rattle.std.specs.List.{last_or}
 use Rattle.std.specs.Prelude.{None}
+use Rattle.std.proofs.lemmas.Bool.{false_from_ne_true, false≢true}
 use Rattle.jffs_node.specs.declared.node.Node.{Node}
 use Rattle.jffs_tree.specs.Origin.{tree_of}
 use Rattle.jffs_tree.specs.Check.{makes_tree}
@@ -18,7 +19,7 @@ use Rattle.jffs_log.proofs.Appended.{sizes_small}
 use Rattle.jffs_log.proofs.Results.{err_from}
 use Rattle.jffs_log.proofs.ScanSectors.{all_split}
 use Rattle.jffs_log.proofs.ScanBook.{kept_is}
-use Rattle.jffs_log.proofs.ScanFound.{answer, cause_at, found_at, not_so, geometry_refused, read_refused, oldest_refused, order_refused, tree_refused, scan_is, IsAll, log_nodes, located_in, kept_in, first_below, held_below, limits_are}
+use Rattle.jffs_log.proofs.ScanFound.{answer, cause_at, found_at, geometry_refused, read_refused, oldest_refused, order_refused, tree_refused, scan_is, IsAll, log_nodes, located_in, kept_in, first_below, held_below, limits_are}
 use Rattle.jffs_log.proofs.scanning.find.Goals as goal
 
 pub returns-then-not-is_geometry-clause-refused : goal.returns-then-not-is_geometry-clause-refused
@@ -26,7 +27,7 @@ returns-then-not-is_geometry-clause-refused g c =
     let image = g.F.Flash.image c.args.flash.now in
     let faults = g.F.Flash.fault_count c.args.flash.now in
     cause_at Geometry faults faults c.sectors-sectors.result _ c.sector_size-sector_size.result _ image c.sectors-sectors.ensures.count c.sector_size-sector_size.ensures
-    (geometry_refused c.sectors-sectors.result c.sector_size-sector_size.result image faults faults (not_so _ c.if-not-is_geometry.ensures.1) refl)
+    (geometry_refused c.sectors-sectors.result c.sector_size-sector_size.result image faults faults (false_from_ne_true _ (λ t. false≢true (c.if-not-is_geometry.ensures.1 t))) refl)
 
 pub returns-in_err-held-clause-refused : goal.returns-in_err-held-clause-refused
 returns-in_err-held-clause-refused g c =

@@ -4,10 +4,12 @@ use Rattle.std.specs.Prelude.{bytes_eq}
 use Rattle.std.specs.List.{list_all, AllByRecursion}
 use Rattle.std.specs.Option.{option_map_or}
 use Rattle.std.proofs.lemmas.Bool.{and_parts, and_from, cases_Bool, ltb-true, lt-ltb, eqb-true}
+use Rattle.std.proofs.lemmas.Option.{none-some, same_Some, cond_some}
 use Rattle.jffs_node.specs.declared.node.Node.{Node}
 use Rattle.jffs_node.specs.declared.node.Kind.TheVariants.{File, Directory}
-use Rattle.jffs_node.specs.Record.{record_len, len_of_data, dsize, file_max, is_directory, is_fresh, is_unmount, is_lawful, fits_fields, suits_kind, numbers_hold, is_file}
+use Rattle.jffs_node.specs.Record.{record_len, len_of_data, file_max, is_directory, is_fresh, is_unmount, is_lawful}
 use Rattle.jffs_node.specs.Name.{is_name}
+use Rattle.jffs_node.proofs.Lawfulness.{rules_of}
 use Rattle.jffs_flash.specs.Sizes.{is_geometry, is_sector_size}
 use Rattle.jffs_tree.specs.declared.wish.Wish.{Wish}
 use Rattle.jffs_tree.specs.declared.wish.Wish.TheVariants.{MakeDir, Create, Write, Truncate, Rename, Remove, Copy, Unmount}
@@ -132,11 +134,7 @@ named s holds limits Unmount c u = cc
 -- a lawful node with a name that is no copy is fresh
 fresh_node : (n : Node) → n.copy ≡ false → is_some n.name ≡ true → is_lawful n ≡ true → is_fresh n ≡ true
 fresh_node n copy name lawful =
-    let a = and_parts (fits_fields n && suits_kind n) (numbers_hold n (dsize n)) lawful in
-    let b = (and_parts (fits_fields n) (suits_kind n) a.0).1 in
-    let c = and_parts (not (n.deleted && n.copy) && (not (is_unmount n.kind) || (not n.deleted && not n.copy)) && option_map_or (λ x. not (is_unmount n.kind) && is_name x) n.name (is_unmount n.kind)) (is_none n.size || (is_file n.kind && not n.deleted)) b in
-    let d = (and_parts (not (n.deleted && n.copy) && (not (is_unmount n.kind) || (not n.deleted && not n.copy))) (option_map_or (λ x. not (is_unmount n.kind) && is_name x) n.name (is_unmount n.kind)) c.0).1 in
-    and_from (not n.copy) (not (is_unmount n.kind)) (ap not copy) (no_unmount (is_unmount n.kind) n.name name d)
+    and_from (not n.copy) (not (is_unmount n.kind)) (ap not copy) (no_unmount (is_unmount n.kind) n.name name (let rules = rules_of n lawful in rules.name))
   where
     no_unmount : (u : Bool) (name : Option (List ℕ)) → is_some name ≡ true → option_map_or (λ x. not u && is_name x) name u ≡ true → not u ≡ true
     no_unmount u None some h = cc
@@ -144,16 +142,10 @@ fresh_node n copy name lawful =
 
 -- The numbers that come next.
 pub following_is : (k v : ℕ) → following k ≡ Some v → (v ≡ k + 1) × (v < 2 ^ 32)
-following_is k v is = ⊎_elim
-    (λ fits. let e : Some (k + 1) ≡ Some v = ap (λ t. cond t (Some (k + 1)) None) (sym fits) ∙ is in let same = the_same e in let l = ltb-true (k + 1) (2 ^ 32) fits in (sym same, omega arith))
-    (λ spent. absurd (none_some (ap (λ t. cond t (Some (k + 1)) None) (sym spent) ∙ is)))
-    (cases_Bool (ltb (k + 1) (2 ^ 32)))
-  where
-    the_same : {a b : ℕ} → ◌≡◌ {A = Option ℕ} (Some a) (Some b) → a ≡ b
-    the_same e = cc
-
-    none_some : {b : ℕ} → ◌≡◌ {A = Option ℕ} None (Some b) → ⊥
-    none_some e = cc
+following_is k v is =
+    let some = cond_some (ltb (k + 1) (2 ^ 32)) (k + 1) v is in
+    let below = ltb-true (k + 1) (2 ^ 32) some.0 in
+    (sym some.1, omega arith)
 
 older_below : (w v : ℕ) (past : List Node) → w ≤ v → list_all (λ m. ltb m.version w) past ≡ true → list_all (λ m. ltb m.version v) past ≡ true
 older_below w v [] l h = refl
@@ -163,10 +155,7 @@ older_below w v (n ∷ past) l h =
     and_from (ltb n.version v) (list_all (λ m. ltb m.version v) past) (lt-ltb n.version v (omega arith)) (older_below w v past l a.1)
 
 pub next_is_newest : (past : List Node) (v : ℕ) → versions_fall past ≡ true → next_version past ≡ Some v → (list_all (λ m. ltb m.version v) past ≡ true) × (1 ≤ v) × (v < 2 ^ 32)
-next_is_newest [] v h is = let same = the_same is in (refl, omega arith, omega arith)
-  where
-    the_same : {a b : ℕ} → ◌≡◌ {A = Option ℕ} (Some a) (Some b) → a ≡ b
-    the_same e = cc
+next_is_newest [] v h is = let same = same_Some 1 v is in (refl, omega arith, omega arith)
 next_is_newest (n ∷ past) v h is =
     let f = following_is n.version v is in
     let same = f.0 in
@@ -194,10 +183,7 @@ limits_given z past inode is =
     record { low = omega arith; high = f.1; above = all_below inode past (omega arith) }
 
 present_below : (past : List Node) (i v : ℕ) (e : Entry) → entry past i ≡ Some e → AllByRecursion (λ n. n.inode < v) past → i < v
-present_below [] i v e is h = absurd (none_some is)
-  where
-    none_some : {b : Entry} → ◌≡◌ {A = Option Entry} None (Some b) → ⊥
-    none_some e = cc
+present_below [] i v e is h = absurd (none-some e is)
 present_below (n ∷ past) i v e is h = ⊎_elim
     (λ here. let same = eqb-true n.inode i (and_parts (not (is_unmount n.kind)) (eqb n.inode i) here).1 in let low = h.0 in omega arith)
     (λ other. present_below past i v e (ap (λ t. cond t (cond n.deleted None (Some (written n (entry past i)))) (entry past i)) (sym other) ∙ is) h.1)

@@ -5,9 +5,10 @@ use Rattle.std.proofs.lemmas.Bool.{and_parts, and_from}
 use Rattle.jffs_node.specs.declared.node.Node.{Node}
 use Rattle.jffs_node.specs.Record.{record_len, is_lawful}
 use Rattle.jffs_tree.specs.Origin.{Tree, tree_of}
-use Rattle.jffs_tree.specs.Check.{each_fits, keeps_kind, keeps_places, keeps_form, check}
+use Rattle.jffs_tree.specs.Check.{each_fits, check}
 use Rattle.jffs_tree.specs.After.{keeps_places_in}
 use Rattle.jffs_tree.specs.declared.wish.Limits.{Limits}
+use Rattle.jffs_tree.proofs.Entries.{fits_parts}
 use Rattle.jffs_tree.proofs.Tested.{trees_test_as_nodes}
 use Rattle.jffs_log.specs.declared.book.Book.{Book}
 use Rattle.jffs_log.specs.declared.room.Room.{Room}
@@ -39,10 +40,8 @@ rules_history past h =
 -- The tree takes the node.
 pub places_kept : (past : List Node) (n : Node) (tree : Tree) → tree ≡ tree_of past → KeepsRules (n ∷ past) → keeps_places_in tree n ≡ true
 places_kept past n tree is h =
-    let fits = (and_parts (each_fits (n ∷ past)) (check (tree_of (n ∷ past))) h.lawful.tree).0 in
-    let a = and_parts (each_fits past && keeps_kind past n && keeps_places past n) (keeps_form past n) fits in
-    let b = and_parts (each_fits past && keeps_kind past n) (keeps_places past n) a.0 in
-    ap (λ t. keeps_places_in t n) is ∙ (trees_test_as_nodes past n h.lawful.each.0).1 ∙ b.1
+    let fits = fits_parts n past (and_parts (each_fits (n ∷ past)) (check (tree_of (n ∷ past))) h.lawful.tree).0 in
+    ap (λ t. keeps_places_in t n) is ∙ (trees_test_as_nodes past n h.lawful.each.0).1 ∙ fits.2
 
 -- The numbers that come next.
 pub fold_max : (a b : ℕ) (past : List Node) → fold (λ most n. max most n.inode) (max a b) past ≡ max (fold (λ most n. max most n.inode) a past) b

@@ -1,6 +1,7 @@
 -- Each answer is a lawful step.
 use Rattle.std.proofs.Common.{◌≡◌, ◌⊎◌, inl, inr, ℕ, ◌≤◌, Bool, true, false, ◌&&◌, List, [], ◌∷◌, ◌++◌, leb, ltb, Option, Some, None, Result, Err, refl, sym, ap, subst, ◌∙◌}
 use Rattle.std.proofs.lemmas.Bool.{lt-ltb, le-leb, or_right, both_ways}
+use Rattle.std.proofs.lemmas.Option.{none-some}
 use Rattle.jffs_node.specs.declared.node.Node.{Node}
 use Rattle.jffs_node.specs.Record.{record_len, is_fresh}
 use Rattle.jffs_tree.specs.declared.wish.Cause.{Cause}
@@ -187,10 +188,7 @@ module _ (past : List Node) (old new : Standing) (q : Request) (works : old.fail
       has_next = ap (λ (l : Limits). l.next_version) (sym known.limits_are) ∙ of.next
 
       no_next : next_version past ≡ None → ⊥
-      no_next e = none_some (sym e ∙ has_next)
-        where
-          none_some : {k : ℕ} → ◌≡◌ {A = Option ℕ} None (Some k) → ⊥
-          none_some e = cc
+      no_next e = none-some node.version (sym e ∙ has_next)
 
       full : has_room_for old room (record_len node) ≡ false → had_room (turn_of past old new) of.new ≡ false
       full e =

@@ -9,12 +9,13 @@ use Rattle.jffs_node.specs.declared.node.Node.{Node}
 use Rattle.jffs_node.specs.Record.{dsize, kind_byte, is_lawful, is_unmount}
 use Rattle.jffs_tree.specs.State.{Entry, State, at, bytes_of, written, apply, state_of_past}
 use Rattle.jffs_tree.specs.Origin.{Held, Tree, state_in, tree_of}
-use Rattle.jffs_tree.specs.Check.{each_fits, keeps_kind, keeps_places, keeps_form, check}
+use Rattle.jffs_tree.specs.Check.{each_fits, check}
 use Rattle.jffs_tree.specs.After.{held_in, held_after, tree_after, can_apply, keeps_kind_in, keeps_places_in}
 use Rattle.jffs_tree.specs.declared.wish.Cause.{Cause}
 use Rattle.jffs_tree.specs.declared.wish.Cause.TheVariants as causes
 use Rattle.jffs_tree.specs.declared.wish.Outcome.{Outcome}
 use Rattle.jffs_tree.specs.declared.wish.Outcome.TheVariants.{Appended, Copied, Closed, Refused}
+use Rattle.jffs_tree.proofs.Entries.{fits_parts}
 use Rattle.jffs_tree.proofs.Tested.{trees_test_as_nodes}
 use Rattle.jffs_tree.proofs.Copies.{state_of_tree}
 use Rattle.jffs_line.specs.declared.request.Request.{Request}
@@ -122,10 +123,7 @@ state_after tree n =
 -- the newest node of a history that keeps the rules may be applied to the tree of those before
 newest_fits : (past : List Node) (n : Node) → KeepsRules (n ∷ past) → can_apply (tree_of past) n ≡ true
 newest_fits past n h =
-    let fits = (and_parts (each_fits (n ∷ past)) (check (tree_of (n ∷ past))) h.lawful.tree).0 in
-    let a = and_parts (each_fits past && keeps_kind past n && keeps_places past n) (keeps_form past n) fits in
-    let b = and_parts (each_fits past && keeps_kind past n) (keeps_places past n) a.0 in
-    let kind = (and_parts (each_fits past) (keeps_kind past n) b.0).1 in
+    let kind = (fits_parts n past (and_parts (each_fits (n ∷ past)) (check (tree_of (n ∷ past))) h.lawful.tree).0).1 in
     and_from (is_lawful n && keeps_kind_in (tree_of past) n) (keeps_places_in (tree_of past) n)
     (and_from (is_lawful n) (keeps_kind_in (tree_of past) n) h.lawful.each.0 ((trees_test_as_nodes past n h.lawful.each.0).0 ∙ kind))
     (places_kept past n (tree_of past) refl h)

@@ -9,9 +9,8 @@ use Rattle.std.proofs.lemmas.Bool.{and_parts, leb-true, eqb-true}
 use Rattle.std.proofs.lemmas.List.Sums.{sum_by-cons, sum_by-append}
 use Rattle.std.proofs.lemmas.List.{take-take, drop-take, drop-drop, take-replicate, map-append}
 use Rattle.jffs_node.specs.declared.node.Node.{Node}
-use Rattle.jffs_node.specs.Record.{spelling, record_len, dsize, is_lawful, is_unmount, has_place, len_of_data}
+use Rattle.jffs_node.specs.Record.{spelling, record_len, dsize, is_lawful, is_unmount, has_place}
 use Rattle.jffs_node.proofs.Found.{length_spelled}
-use Rattle.jffs_node.proofs.Rules.{place_parts}
 use Rattle.jffs_flash.specs.Image.{window, replaced}
 use Rattle.jffs_flash.specs.Sizes.{is_sector_size, is_geometry}
 use Rattle.jffs_log.specs.declared.book.Kept.{Kept}
@@ -52,11 +51,6 @@ image_small count len image h whole =
     let small = sizes_small count len h in
     let a = mul-le-mul_right len small.0 in
     omega (arith, small.1, a)
-
-pub record_small : (k : _) (amount len free : ℕ) → has_place k amount (len / 4) free ≡ true → len ≤ 16384 → len_of_data amount ≤ 4096
-record_small k amount len free h small =
-    let fits = (place_parts k amount (len / 4) free h).0 in
-    omega arith
 
 -- what a write of a record needs
 module _ (count len : ℕ) (image : List ℕ) (k : ℕ) (nodes : List Node) (free : ℕ) (h : IsOpenSector count len image k nodes free) where

@@ -91,10 +91,7 @@ first_at len k image sectors ys is none =
     ∙ ap (λ j. first_bad j (s ∷ ys)) at
     ∙ first_parts k s ys
 
--- Before the first sector, after one more, and where one is bad.
-pub none_read : (len : ℕ) (image : List ℕ) (found : List Numbered) → found ≡ [] → AreRead 0 len image found
-none_read len image found is = record { read = is; none = refl; spelled = λ k h. absurd (omega arith) }
-
+-- After one more sector, and where one is bad.
 pub one_read : (k len : ℕ) (image : List ℕ) (found next : List Numbered) (s : Numbered) → AreRead k len image found → s ≡ (k, sector_of (sector_bytes len k image)) → bad_in s ≡ None
     → IsSpelled (sector_bytes len k image) → next ≡ found ++ s ∷ [] → AreRead (k + 1) len image next
 one_read k len image found next s h is sound spelled pushed =

@@ -1,4 +1,4 @@
-use Rattle.std.proofs.Common.{◌≡◌, inl, inr, ℕ, ◌<◌, true, false, List, ◌∷◌, refl, sym, ap, subst, ◌∙◌}
+use Rattle.std.proofs.Common.{◌≡◌, inl, inr, ℕ, ◌<◌, true, false, true≢false, List, ◌∷◌, refl, sym, ap, subst, ◌∙◌}
 use Rattle.jffs_node.specs.declared.node.Node.{Node}
 use Rattle.jffs_node.specs.Record.{record_len}
 use Rattle.jffs_log.specs.Book.{layout_in}
@@ -102,9 +102,6 @@ returns-in-Err-clause-refused g c =
       left = λ intact. elim found [ inl same ↦ inl same | inr more ↦ inr (n, refl, more) ];
     })
 
-true_false : true ≡ false → ⊥
-true_false e = cc
-
 pub invariant_of-self-in-Err : goal.invariant_of-self-in-Err
 invariant_of-self-in-Err g c =
     let e = c.in-Err.ensures in
@@ -114,6 +111,6 @@ invariant_of-self-in-Err g c =
         e.sectors ∙ ap g.F.Flash.sector_count c.reserve.ensures.flash ∙ c.self.invariant.sizes.0 ∙ sym same.sectors ∙ e.book_sizes.0,
         e.size ∙ ap g.F.Flash.sector_len c.reserve.ensures.flash ∙ c.self.invariant.sizes.1 ∙ sym same.sector_size ∙ e.book_sizes.1,
       );
-      book = λ w. absurd (true_false w);
-      past = λ w. absurd (true_false w);
+      book = λ w. absurd (true≢false w);
+      past = λ w. absurd (true≢false w);
     }

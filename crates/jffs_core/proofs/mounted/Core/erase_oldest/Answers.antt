@@ -1,4 +1,5 @@
-use Rattle.std.proofs.Common.{◌≡◌, ◌∙◌, ◌<◌, ◌≤◌, List, length, inl, true, false, refl, sym, ap, subst, arith}
+use Rattle.std.proofs.Common.{◌∙◌, ◌<◌, ◌≤◌, List, length, inl, refl, sym, ap, subst, arith}
+use Rattle.std.proofs.lemmas.Bool.{both_ways}
 use Rattle.jffs_log.specs.Book.{layout_in}
 use Rattle.jffs_log.specs.Cleaning.{Layout, erase_oldest}
 use Rattle.jffs_node.specs.declared.node.Node.{Node}
@@ -60,12 +61,9 @@ returns-in-Err-clause-refused g c = λ past known.
       left = record {
         clean = λ is. clean_ends past old b c.self.inside.tree c.self.inside.limits c.self.inside.clean h is;
         tree = inl h.tree_is;
-        left = λ intact. absurd (true_false (sym e.erase_failed ∙ intact));
+        left = λ intact. absurd (both_ways _ intact e.erase_failed);
       };
     })
-  where
-    true_false : true ≡ false → ⊥
-    true_false e = cc
 
 pub returns-in-Ok-clause-log : goal.returns-in-Ok-clause-log
 returns-in-Ok-clause-log g c =

@@ -1,4 +1,5 @@
-use Rattle.std.proofs.Common.{◌≡◌, ◌∙◌, true, false, length, sym, ap, arith}
+use Rattle.std.proofs.Common.{true, false, length, ap, arith}
+use Rattle.std.proofs.lemmas.Bool.{both_ways}
 use Rattle.std.proofs.lemmas.Result.{err_from_is_err_and}
 use Rattle.jffs_log.specs.Book.{layout_in}
 use Rattle.jffs_log.specs.Cleaning.{Layout}
@@ -25,10 +26,7 @@ loop-self-preserved g c =
 pub returns-clause-erased : goal.returns-clause-erased
 returns-clause-erased g c = λ past known.
     let v = c.loop-self.invariant in
-    record { stands = v.done past known; log = v.log; dead = v.dead past known; last = λ dead. true_false (sym (c.is_dead_oldest.ensures.1 dead) ∙ c.loop-self-test.false) }
-  where
-    true_false : true ≡ false → ⊥
-    true_false e = cc
+    record { stands = v.done past known; log = v.log; dead = v.dead past known; last = λ dead. both_ways _ c.loop-self-test.false (c.is_dead_oldest.ensures.1 dead) }
 
 pub returns-in_err-erase_oldest-clause-stopped : goal.returns-in_err-erase_oldest-clause-stopped
 returns-in_err-erase_oldest-clause-stopped g c = let p = err_from_is_err_and c.from_residual.result c.from_residual.ensures.1 in rw (p.1, p.2) λ past known.

@@ -1,7 +1,6 @@
 -- Trees of the same state take the same nodes, and have the same state after them.
 use Rattle.std.proofs.Common.{◌≡◌, ℕ, ◌+◌, Bool, true, false, cond, not, ◌&&◌, ◌||◌, eqb, leb, List, [], ◌∷◌, ◌++◌, length, option_map, Option, Some, None, Result, Ok, Err, IfOk, IfErr, refl, sym, ap, subst, ◌∙◌, nat_cmp}
-use Rattle.std.specs.Option.{option_map_or, unwrap_or}
-use Rattle.std.specs.Ordering.{eq_by_cmp}
+use Rattle.std.specs.Option.{option_map_or}
 use Rattle.std.specs.declared.cmp.Ordering.TheVariants.{Less, Equal, Greater}
 use Rattle.std.specs.FinMap.Entries as entries
 use Rattle.std.proofs.lemmas.Bool.{and_parts, and_from, both_ways}
@@ -17,6 +16,7 @@ use Rattle.jffs_tree.specs.declared.wish.Outcome.{Outcome}
 use Rattle.jffs_tree.specs.declared.wish.Outcome.TheVariants.{Appended, Copied, Closed, Refused}
 use Rattle.jffs_tree.proofs.Entries.{fits_parts}
 use Rattle.jffs_tree.proofs.Tested.{trees_test_as_nodes}
+use Rattle.jffs_tree.proofs.Looked.{entry_in as held_entry, bytes_told}
 use Rattle.jffs_tree.proofs.Copies.{state_of_tree}
 use Rattle.jffs_line.specs.declared.request.Request.{Request}
 use Rattle.jffs_log.specs.History.{KeepsRules}
@@ -37,30 +37,17 @@ use Rattle.jffs_core.proofs.Told.{node_told}
 abbrev entry_in : (ℕ × Held) → ℕ × Entry
 entry_in h = (h.0, h.1.entry)
 
--- what a tree holds has the entry that its state has
-held_entry : (tree : Tree) (i : ℕ) → option_map (λ h. h.entry) (held_in tree i) ≡ at (state_in tree) i
-held_entry [] i = refl
-held_entry (x ∷ tree) i =
-    elim (eq_by_cmp nat_cmp i x.0) as (λ b. option_map (λ (h : Held). h.entry) (cond b (Some x.1) (held_in tree i)) ≡ cond b (Some x.1.entry) (at (state_in tree) i)) [
-      | true ↦ refl
-      | false ↦ held_entry tree i
-    ]
-
 -- a test of the entry that is held
 entry_test : {A : Type 0} (f : Entry → A) (d : A) (o : Option Held) → option_map_or (λ h. f h.entry) o d ≡ option_map_or f (option_map (λ h. h.entry) o) d
 entry_test f d None = refl
 entry_test f d (Some h) = refl
-
-held_bytes : (o : Option Held) → unwrap_or (option_map (λ h. h.entry.bytes) o) [] ≡ bytes_of (option_map (λ h. h.entry) o)
-held_bytes None = refl
-held_bytes (Some h) = refl
 
 -- Trees of the same state test a node alike.
 pub test_by_state : (one other : Tree) (n : Node) → state_in one ≡ state_in other → can_apply one n ≡ can_apply other n
 test_by_state one other n same = λ j. is_lawful n && kinds j && places j
   where
     there : option_map (λ h. h.entry) (held_in one n.inode) ≡ option_map (λ h. h.entry) (held_in other n.inode)
-    there = held_entry one n.inode ∙ (ap (λ s. at s n.inode) same ∙ sym (held_entry other n.inode))
+    there = sym (held_entry one n.inode) ∙ ap (λ s. at s n.inode) same ∙ held_entry other n.inode
 
     has_kind : Entry → Bool
     has_kind e = eqb (kind_byte e.kind) (kind_byte n.kind)
@@ -71,7 +58,7 @@ test_by_state one other n same = λ j. is_lawful n && kinds j && places j
 
     places : keeps_places_in one n ≡ keeps_places_in other n
     places = ap (λ bytes. eqb (dsize n) n.rsize || leb (length bytes) (n.offset + n.rsize))
-        (held_bytes (held_in one n.inode) ∙ (ap bytes_of there ∙ sym (held_bytes (held_in other n.inode))))
+        (bytes_told one n.inode ∙ ap (λ s. bytes_of (at s n.inode)) same ∙ sym (bytes_told other n.inode))
 
 -- the state of a tree without an inode
 state_without : (p : ℕ → Bool) (tree : Tree) → state_in (entries.where_key nat_cmp p tree) ≡ entries.where_key nat_cmp p (state_in tree)
@@ -104,7 +91,7 @@ state_after tree n =
             | true ↦ state_without (λ i. not (eqb n.inode i)) tree
             | false ↦
                 state_put n.inode (held_after n (held_in tree n.inode)) tree
-                ∙ ap (λ o. entries.put nat_cmp n.inode (written n o) (state_in tree)) (held_entry tree n.inode)
+                ∙ ap (λ o. entries.put nat_cmp n.inode (written n o) (state_in tree)) (sym (held_entry tree n.inode))
           ]
     ]
   where

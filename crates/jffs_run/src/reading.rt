@@ -1,6 +1,6 @@
 //! The input, read whole.
 
-use std::alloc::{AllocError, Global};
+use std::alloc::Global;
 use std::io::{ErrorKind, Read};
 
 /// The most calls of `read`; a reader that gives little at a time and never ends is given up.
@@ -22,10 +22,9 @@ pub(crate) fn read_whole<R: Read>(alloc: Global, input: &mut R) -> Result<Vec<u8
     for _ in 0..READS_MAX {
         match input.read(&mut chunk) {
             Ok(0) => return Ok(text),
-            Ok(count) => match text.extend_from_slice(&chunk[..count]) {
-                Ok(()) => {}
-                Err(AllocError) => return Err(InputFault::Memory),
-            },
+            Ok(count) => text
+                .extend_from_slice(&chunk[..count])
+                .map_err(|_| InputFault::Memory)?,
             Err(fault) if fault.kind() == ErrorKind::Interrupted => {}
             Err(_) => return Err(InputFault::Read),
         }

@@ -14,20 +14,13 @@ use Rattle.jffs_tree.specs.State.{State, at, bytes_of, root, is_directory_in}
 use Rattle.jffs_tree.specs.Origin.{Held, Tree, state_in}
 use Rattle.jffs_tree.specs.After.{held_in}
 use Rattle.jffs_tree.specs.Look.{bytes_in, size_of, names_in, children, name_cmp}
-use Rattle.jffs_tree.proofs.Looked.{entry_in}
+use Rattle.jffs_tree.proofs.Looked.{bytes_told}
 use Rattle.jffs_text.specs.Added.{IsBegun}
 use Rattle.jffs_text.specs.Dump.{hex, hex_digit, shown_bytes, size_text, directory_line, file_line, path_of, name_text, by_name, below}
 use Rattle.jffs_text.proofs.Adding.{begun_then, begun_more, begun_as, added_as}
 use Rattle.jffs_text.proofs.InOrder.{in_order}
 
 module _ (tree : Tree) (i : ℕ) where
-  pub bytes_told : bytes_in tree i ≡ bytes_of (at (state_in tree) i)
-  bytes_told = by_held (held_in tree i) ∙ ap bytes_of (sym (entry_in tree i))
-    where
-      by_held : (o : Option Held) → unwrap_or (option_map (λ h. h.entry.bytes) o) [] ≡ bytes_of (option_map (λ h. h.entry) o)
-      by_held None = refl
-      by_held (Some h) = refl
-
   pub size_told : is_directory_in (state_in tree) i ≡ false → unwrap_or (size_of tree i) 0 ≡ length (bytes_in tree i)
   size_told file = ap (λ b. unwrap_or (cond b (Some 0) (option_map (λ h. length h.entry.bytes) (held_in tree i))) 0) (or_parts (eqb i root) _ file).0 ∙ by_held (held_in tree i)
     where
@@ -36,7 +29,7 @@ module _ (tree : Tree) (i : ℕ) where
       by_held (Some h) = refl
 
   pub size_text_told : is_directory_in (state_in tree) i ≡ false → size_text (unwrap_or (size_of tree i) 0) ≡ size_text (length (bytes_of (at (state_in tree) i)))
-  size_text_told file = ap size_text (size_told file ∙ ap length bytes_told)
+  size_text_told file = ap size_text (size_told file ∙ ap length (bytes_told tree i))
 
   pub names_told : (names : List (List ℕ × ℕ)) → is_directory_in (state_in tree) i ≡ true → IsPermutation (names_in tree i) names → IsSorted name_cmp names → names ≡ by_name (children i (state_in tree))
   names_told names here shuffled sorted =

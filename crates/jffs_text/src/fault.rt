@@ -1,5 +1,6 @@
 //! Why a script is refused.
 
+use jffs_node::NoMemory;
 use std::alloc::{AllocError, AllocFailed};
 use thiserror::Error;
 
@@ -45,6 +46,12 @@ pub enum ScriptWhy {
 
 impl From<AllocError> for ScriptWhy {
     fn from(_: AllocError) -> ScriptWhy {
+        ScriptWhy::Memory
+    }
+}
+
+impl From<NoMemory> for ScriptWhy {
+    fn from(_: NoMemory) -> ScriptWhy {
         ScriptWhy::Memory
     }
 }

@@ -2,7 +2,7 @@
 
 use jffs_flash::{Fail, Fused};
 use jffs_line::Request;
-use jffs_node::{Bytes, Name, NoMemory};
+use jffs_node::{Bytes, Name};
 use jffs_text::{Command, ScriptWhy, Words};
 use jffs_tree::Wish;
 use std::alloc::Global;
@@ -115,10 +115,7 @@ fn read_wish(alloc: Global, words: Words<'_>) -> Result<Wish, ScriptWhy> {
     match (behind.take(), count) {
         ("unmount", 1) => Ok(Wish::Unmount),
         ("copy", 6) => read_copy(alloc, behind),
-        _ => match Command::of_words(alloc, words)?.wish(alloc) {
-            Ok(wish) => Ok(wish),
-            Err(NoMemory) => Err(ScriptWhy::Memory),
-        },
+        _ => Ok(Command::of_words(alloc, words)?.wish(alloc)?),
     }
 }
 

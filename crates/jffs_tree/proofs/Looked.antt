@@ -7,11 +7,11 @@ use Rattle.jffs_node.specs.declared.node.Kind.TheVariants.{Directory}
 use Rattle.jffs_node.specs.Record.{is_directory}
 use Rattle.std.proofs.lemmas.List.{get_or_past}
 use Rattle.jffs_node.specs.declared.node.Node.{Node}
-use Rattle.jffs_tree.specs.State.{Entry, State, at, has_kind, is_directory_in}
+use Rattle.jffs_tree.specs.State.{Entry, State, at, bytes_of, has_kind, is_directory_in}
 use Rattle.jffs_tree.specs.Origin.{Held, Tree, state_in, concerns, tree_of, entry, size_in, origin, newest, version_of, writers_of}
 use Rattle.jffs_tree.specs.After.{held_in}
 use Rattle.jffs_tree.specs.Check.{is_within}
-use Rattle.jffs_tree.specs.Look.{writers_in, kind_in}
+use Rattle.jffs_tree.specs.Look.{writers_in, kind_in, bytes_in}
 use Rattle.std.proofs.Math.Bool.{or-false}
 use Rattle.std.proofs.lemmas.Bool.{cases_Bool, ne_eqb}
 use Rattle.jffs_tree.proofs.Steps.{entry-other, entry-written, newest-other, newest-deleted}
@@ -63,6 +63,13 @@ entry_in (h ∷ tree) i = ⊎_elim
     (λ t. ap (λ b. cond b (Some h.1.entry) (at (state_in tree) i)) t ∙ ap (λ b. option_map (λ x. x.entry) (cond b (Some h.1) (held_in tree i))) (sym t))
     (λ t. ap (λ b. cond b (Some h.1.entry) (at (state_in tree) i)) t ∙ entry_in tree i ∙ ap (λ b. option_map (λ x. x.entry) (cond b (Some h.1) (held_in tree i))) (sym t))
     (cases_Bool (eq_by_cmp nat_cmp i h.0))
+
+pub bytes_told : (tree : Tree) (i : ℕ) → bytes_in tree i ≡ bytes_of (at (state_in tree) i)
+bytes_told tree i = by_held (held_in tree i) ∙ ap bytes_of (sym (entry_in tree i))
+  where
+    by_held : (o : Option Held) → unwrap_or (option_map (λ h. h.entry.bytes) o) [] ≡ bytes_of (option_map (λ h. h.entry) o)
+    by_held None = refl
+    by_held (Some h) = refl
 
 pub directory_in : (tree : Tree) (i : ℕ) → option_map_or is_directory (kind_in tree i) false ≡ is_directory_in (state_in tree) i
 directory_in tree i = ⊎_elim

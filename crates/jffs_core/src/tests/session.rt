@@ -4,6 +4,7 @@ use crate::mounted::Core;
 use crate::tests::wishes::wish_of;
 use jffs_flash::{ERASED_BYTE, Flash, MemoryFlash};
 use jffs_line::Request;
+use jffs_log::ScanWhy;
 use jffs_tree::{Cause, Outcome, Wish};
 use std::alloc::Global;
 use std::process::Abort;
@@ -24,7 +25,8 @@ impl<F: Flash + Drop> Session<F> {
     pub(super) fn over(alloc: Global, flash: F) -> Result<Session<F>, Fail> {
         let flash = match Core::mount(alloc, flash) {
             Ok(core) => return Ok(Session::of(alloc, core)),
-            Err(fault) => fault.flash,
+            Err(fault) if fault.why == ScanWhy::Memory => fault.flash,
+            Err(_) => return Err("it doesn't mount".into()),
         };
         let Ok(core) = Core::mount(alloc, flash) else {
             return Err("it doesn't mount".into());

@@ -32,3 +32,5 @@ pub mod Putting
 pub mod Changing
 pub mod Decided
 pub mod Wishes
+pub mod Fragments
+pub mod Splitting

@@ -10,3 +10,5 @@ pub mod Look
 pub mod Laws
 pub mod Examples
 pub mod Deciding
+pub mod Marks
+pub mod Fragments

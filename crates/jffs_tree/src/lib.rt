@@ -15,9 +15,11 @@ mod copy;
 mod decide;
 mod deciding;
 mod fits;
+mod fragment;
 mod inode;
 mod laws;
 mod look;
+mod marks;
 mod names;
 #[cfg(test)]
 mod tests;

@@ -1,0 +1,65 @@
+-- A file as its fragments: ranges of offsets, each written by one node. What no node wrote (a hole, padding) is in none.
+use Rattle.std.specs.Prelude.{◌≡◌, ◌<◌, ◌≤◌, ◌⊎◌, ℕ, ◌+◌, ◌-◌, not, ◌&&◌, ◌==◌, nat_le, nat_lt, List, [], ◌∷◌, ◌++◌, length, map, replicate, sum_by, Option, Some, None, if◌then◌else◌}
+use Rattle.std.specs.List.{AllByRecursion, filter}
+use Rattle.std.specs.Map.{values_of}
+use Rattle.jffs_tree.specs.declared.fragment.Fragment.{Fragment}
+
+-- fragments, each under its first offset
+abbrev pub Fragments : Type 0
+Fragments = List (ℕ × Fragment)
+
+-- the byte at an offset and the version that wrote it; none where no node did
+abbrev pub Cell : Type 0
+Cell = Option (ℕ × ℕ)
+
+abbrev pub byte_of : Cell → ℕ
+byte_of None = 0
+byte_of (Some c) = c.0
+
+abbrev pub writer_of : Cell → Option ℕ
+writer_of None = None
+writer_of (Some c) = Some c.1
+
+abbrev pub cells_of : Fragment → List Cell
+cells_of f = map (λ b. Some (b, f.writer)) f.bytes
+
+abbrev pub end_of : (ℕ × Fragment) → ℕ
+end_of e = e.0 + length e.1.bytes
+
+-- the cells from an offset on, up to the size
+abbrev pub laid : ℕ → ℕ → Fragments → List Cell
+laid at size [] = replicate (size - at) None
+laid at size (e ∷ es) = replicate (e.0 - at) None ++ (cells_of e.1 ++ laid (end_of e) size es)
+
+-- None is empty, none reaches into the next, and none past the size.
+abbrev pub AreLaid : ℕ → ℕ → Fragments → Type 0
+AreLaid at size [] = at ≤ size
+AreLaid at size (e ∷ es) = (at ≤ e.0) × (0 < length e.1.bytes) × AreLaid (end_of e) size es
+
+-- no fragment reaches across the offset
+abbrev pub AreCut : ℕ → Fragments → Type 0
+AreCut p es = AllByRecursion (λ e. (end_of e ≤ p) ⊎ (p ≤ e.0)) es
+
+-- those that begin before an offset, from one on, and outside a range
+abbrev pub before : ℕ → Fragments → Fragments
+before p es = filter (λ e. nat_lt e.0 p) es
+
+abbrev pub from : ℕ → Fragments → Fragments
+from p es = filter (λ e. nat_le p e.0) es
+
+abbrev pub outside : ℕ → ℕ → Fragments → Fragments
+outside p q es = filter (λ e. not (nat_le p e.0 && nat_lt e.0 q)) es
+
+-- how many of a fragment's bytes a version wrote
+abbrev pub part_by : ℕ → Fragment → ℕ
+part_by v f = if f.writer == v then length f.bytes else 0
+
+abbrev pub amount_by : ℕ → Fragments → ℕ
+amount_by v es = sum_by (part_by v) (values_of es)
+
+-- The same cells, and cut wherever they were.
+pub record SameCells (old new : Fragments) : Type 0 where
+  pub stay : (size : ℕ) → AreLaid 0 size old → AreLaid 0 size new
+  pub cells : (size : ℕ) → AreLaid 0 size old → laid 0 size new ≡ laid 0 size old
+  pub amounts : (v : ℕ) → amount_by v new ≡ amount_by v old
+  pub cuts : (q : ℕ) → AreCut q old → AreCut q new

@@ -8,7 +8,7 @@ use crate::fault::Fault;
 use crate::measure::Measure;
 use crate::volume::{WRITE_LEN, create, write};
 use jffs_index::{Publisher, Reader, Step, publish_index};
-use jffs_node::{Bytes, Node, Path};
+use jffs_node::{Node, Path, copied};
 use jffs_tree::{Cause, Limits, Outcome, Tree, Wish};
 use std::alloc::Global;
 use std::io::Write;
@@ -186,7 +186,7 @@ fn measure_publishes<R: Wait + Clock, W: Write + Drop>(
     let wish = Wish::Write {
         path: Path::parse(alloc, "/g")?,
         offset: 0,
-        bytes: Bytes::from_slice(alloc, b"g")?,
+        bytes: copied(alloc, b"g")?,
     };
     let start = Instant::now(rt)?;
     for step in 0..steps {

@@ -4,7 +4,7 @@ use crate::fault::Fault;
 use jffs_core::Core;
 use jffs_flash::MemoryFlash;
 use jffs_line::Request;
-use jffs_node::{Bytes, Path};
+use jffs_node::{Path, copied};
 use jffs_tree::{Outcome, Wish};
 use std::alloc::Global;
 
@@ -101,6 +101,6 @@ pub(crate) fn write(alloc: Global, offset: u32) -> Result<Wish, Fault> {
     Ok(Wish::Write {
         path: Path::parse(alloc, "/f")?,
         offset,
-        bytes: Bytes::from_slice(alloc, &[b'a'; WRITE_LEN as usize])?,
+        bytes: copied(alloc, &[b'a'; WRITE_LEN as usize])?,
     })
 }

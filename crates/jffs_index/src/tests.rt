@@ -10,7 +10,7 @@ use crate::open::{IndexFault, publish_index};
 use crate::reader::Reader;
 use crate::tests::follower::{Seen, follow};
 use crate::tests::source::Source;
-use jffs_node::{Bytes, Kind, Path};
+use jffs_node::{Kind, Path, copied};
 use jffs_tree::{Outcome, Tree, Wish};
 use std::alloc::Global;
 use std::process::Abort;
@@ -140,7 +140,7 @@ fn move_about<W: Wait + Drop>(alloc: Global, source: &mut Source<W>) -> Result<(
     source.request(&Wish::Write {
         path: path(alloc, "/c/f")?,
         offset: 0,
-        bytes: Bytes::from_slice(alloc, b"hello")?,
+        bytes: copied(alloc, b"hello")?,
     })?;
     source.request(&Wish::Remove(path(alloc, "/b")?))?;
     source.publish()

@@ -2,7 +2,7 @@
 
 use super::*;
 use jffs_flash::{Fail, FuseFlash, Fused, MemoryFlash};
-use jffs_node::{Bytes, Kind, Name, Node, Why, encode_into, record_len};
+use jffs_node::{Bytes, Kind, Name, Node, Why, copied, encode_into, record_len};
 use jffs_tree::Tree;
 use std::alloc::{AllocError, Global};
 use std::process::Abort;
@@ -67,7 +67,7 @@ fn file(alloc: Global, version: u32, inode: u32) -> Node {
         seq: version,
         size: None,
         name: Name::from_bytes(b"f"),
-        bytes: Bytes::none(alloc),
+        bytes: Bytes::new(),
     }
 }
 
@@ -166,7 +166,7 @@ fn scan_refusals(rt: HostRuntime) -> Result<(), TestFail> {
     let mut hole = erased(alloc)?;
     let mut node = file(alloc, 1, 2);
     node.offset = 4;
-    node.bytes = Bytes::from_slice(alloc, b"a")?;
+    node.bytes = copied(alloc, b"a")?;
     put(&rt, &mut hole, 0, &node);
     assert_eq!(rt; look_at(&rt, hole), Seen::Refused(ScanWhy::BadTree));
 
@@ -223,7 +223,7 @@ fn forms_are_not_mixed(rt: HostRuntime) -> Result<(), TestFail> {
     let mut node = file(alloc, 1, 2);
     node.offset = 4;
     node.size = Some(5);
-    node.bytes = Bytes::from_slice(alloc, b"a")?;
+    node.bytes = copied(alloc, b"a")?;
     let mut hole = erased(alloc)?;
     put(&rt, &mut hole, 0, &node);
     let sized = Seen::Mounted {

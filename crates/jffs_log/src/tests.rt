@@ -27,7 +27,7 @@ fn written(alloc: Global, version: u32, amount: u32) -> Result<Node, AllocError>
         seq: version,
         size: Some(1000),
         name: Name::from_bytes(b"f"),
-        bytes: Bytes::from_vec(bytes),
+        bytes: Bytes::from_vec(bytes)?,
     })
 }
 

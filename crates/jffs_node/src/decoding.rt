@@ -6,7 +6,7 @@ ghost use Rattle.jffs_node.specs.Reading.{byte_at, data_len, data_at, node_at, p
 ghost use Rattle.jffs_node.specs.Header.{checked, head_at, head_or_why, HasData};
 ghost use Rattle.jffs_node.specs.Laws.{IsClosedExactly};
 
-use crate::bytes::Bytes;
+use crate::data::copied;
 use crate::header::{Head, labels_of, node_of};
 use crate::layout::*;
 use crate::numbers::{check_numbers, len_with_data};
@@ -27,7 +27,7 @@ pub fn decode(alloc: Global, rest: &[u8], record_max: u32) -> Result<Read, NoMem
     if !is_closed(rest) {
         return Ok(without_record(rest));
     }
-    match head_of(alloc, rest, record_max) {
+    match head_of(rest, record_max) {
         Ok(head) => with_data(alloc, rest, head),
         Err(why) => Ok(Read::Bad(why)),
     }
@@ -61,18 +61,18 @@ fn with_data(alloc: Global, rest: &[u8], head: Head) -> Result<Read, NoMemory>
 {
     let Head { mut node, amount } = head;
     let end = HEADER_LEN + amount as usize;
-    node.bytes = Bytes::from_slice(alloc, &rest[HEADER_LEN..end])?;
+    node.bytes = copied(alloc, &rest[HEADER_LEN..end])?;
     Ok(Read::Closed(node, len_with_data(amount) as u32))
 }
 
 /// The head of a closed record, or the first rule that the record breaks.
 #[tactic(none)]
-fn head_of(alloc: Global, rest: &[u8], record_max: u32) -> Result<Head, Why>
+fn head_of(rest: &[u8], record_max: u32) -> Result<Head, Why>
     requires { 64 ≤ length rest.now }
     ensures { result ≡ head_or_why rest.now (broken_rule record_max rest.now) }
 {
     let labels = labels_of(rest)?;
-    let node = node_of(alloc, rest, labels);
+    let node = node_of(rest, labels);
     let amount = word_at(rest, DATA_LEN_AT);
     check_numbers(&node, amount, record_max, rest.len())?;
     check_padding(rest, amount)?;

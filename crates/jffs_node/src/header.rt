@@ -5,13 +5,12 @@ ghost use Rattle.jffs_node.specs.Record.{magic, is_unmount};
 ghost use Rattle.jffs_node.specs.Reading.{kind_at, flags_hold, name_holds, form_holds, form_at, spare_holds, node_at, first_broken};
 ghost use Rattle.jffs_node.specs.Header.{checked, flags_at, labels_at, label_rules, labels_or_why, head_at};
 
-use crate::bytes::Bytes;
 use crate::layout::*;
 use crate::name::{NAME_MAX, Name};
 use crate::node::{Kind, Node};
 use crate::read::Why;
 use crate::words::{half_at, is_all, word_at};
-use std::alloc::Global;
+use bytes::Bytes;
 
 /// What the header of a closed record says: its node, still without the data, and how many bytes of data follow.
 #[derive(Drop)]
@@ -50,7 +49,7 @@ pub(crate) fn labels_of(rest: &[u8]) -> Result<Labels, Why>
 }
 
 /// The node of a header, still without its data.
-pub(crate) fn node_of(alloc: Global, rest: &[u8], labels: Labels) -> Node
+pub(crate) fn node_of(rest: &[u8], labels: Labels) -> Node
     requires long { 64 ≤ length rest.now }
     requires labels { labels ≡ labels_at rest.now }
     ensures { result ≡ (head_at rest.now).node }
@@ -68,7 +67,7 @@ pub(crate) fn node_of(alloc: Global, rest: &[u8], labels: Labels) -> Node
         seq: word_at(rest, SEQ_AT),
         size: labels.size,
         name: labels.name,
-        bytes: Bytes::none(alloc),
+        bytes: Bytes::new(),
     }
 }
 

@@ -4,7 +4,7 @@
 //! `decode`: a node is read exactly where its record stands, and else the answer says why there is none.
 #![tactic(auto)]
 
-mod bytes;
+mod data;
 mod decoding;
 mod header;
 mod lawful;
@@ -21,6 +21,7 @@ ghost use Rattle.jffs_node.specs.Rows.{Spellings, Readings, SizeReadings, Paths}
 ghost use Rattle.jffs_node.specs.Laws.{RecordsAreFound, FoundAreRecords};
 
 pub use bytes::Bytes;
+pub use data::{copied, shared};
 pub use decoding::decode;
 pub use lawful::is_lawful;
 pub use layout::{ERASED, GATE_AT, GATE_CLOSED, GATE_OPEN, HEADER_LEN, RECORD_ALIGN};

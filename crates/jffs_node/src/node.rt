@@ -3,8 +3,8 @@
 ghost use Rattle.std.specs.Prelude.{◌≡◌};
 ghost use Rattle.jffs_node.specs.Record.{is_file as kind_is_file, is_unmount as kind_is_unmount};
 
-use crate::bytes::Bytes;
 use crate::name::Name;
+use bytes::Bytes;
 
 /// The greatest size of a file, in bytes.
 pub const FILE_MAX: u32 = 1_048_576;
@@ -75,6 +75,6 @@ pub struct Node {
     pub size: Option<u32>,
     /// The name in the parent. An unmount node has none, every other node has one.
     pub name: Option<Name>,
-    /// The data.
+    /// The data, of which a clone copies no byte.
     pub bytes: Bytes,
 }

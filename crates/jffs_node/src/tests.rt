@@ -74,7 +74,7 @@ fn empty_volume(rt: HostRuntime) -> Result<(), Fail> {
         seq: 1,
         size: None,
         name: None,
-        bytes: Bytes::none(rt.alloc()),
+        bytes: Bytes::new(),
     };
     assert_eq!(rt; record_len(&node), 64);
     let mut record = [0; 64];
@@ -174,11 +174,13 @@ fn names_are_ordered_by_their_bytes(rt: HostRuntime) -> Result<(), Fail> {
 }
 
 #[test]
-fn bytes_are_held_and_given_back(rt: HostRuntime) -> Result<(), Fail> {
-    let bytes = Bytes::from_vec(vec![in rt.alloc(); 1, 2, 3]?);
-    assert_eq!(rt; (bytes.len(), bytes.is_empty()), (3, false));
-    let again = bytes.clone()?;
-    assert_eq!(rt; again.into_vec().as_slice(), [1, 2, 3].as_slice());
-    assert!(rt; Bytes::none(rt.alloc()).is_empty());
+fn data_are_copied_once_and_then_shared(rt: HostRuntime) -> Result<(), Fail> {
+    let data = copied(rt.alloc(), &[1, 2, 3])?;
+    assert!(rt; data.is_unique());
+    let again = shared(&data)?;
+    assert!(rt; !data.is_unique());
+    drop(data);
+    assert_eq!(rt; again.as_slice(), [1, 2, 3].as_slice());
+    assert!(rt; shared(&copied(rt.alloc(), &[])?)?.is_empty());
     Ok(())
 }

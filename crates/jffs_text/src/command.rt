@@ -64,7 +64,7 @@ impl Command {
             Edit::Remove => Command::Remove(path),
             Edit::Write => {
                 let offset = words.take_number(0, u32::MAX)?;
-                let bytes = Bytes::from_vec(words.take_bytes(alloc)?);
+                let bytes = Bytes::from_vec(words.take_bytes(alloc)?)?;
                 Command::Write {
                     path,
                     offset,
@@ -119,7 +119,7 @@ impl Command {
             } => Wish::Write {
                 path: path.clone()?,
                 offset: *offset,
-                bytes: Bytes::from_vec(vec![in alloc; *byte; *count as usize]?),
+                bytes: Bytes::from_vec(vec![in alloc; *byte; *count as usize]?)?,
             },
             Command::Truncate { path, size } => Wish::Truncate {
                 path: path.clone()?,

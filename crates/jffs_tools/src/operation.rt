@@ -124,7 +124,7 @@ fn read_copy(alloc: Global, mut words: Words<'_>) -> Result<Wish, ScriptWhy> {
     let parent = words.take_number(0, u32::MAX)?;
     let name = Name::from_bytes(words.take().as_bytes()).ok_or(ScriptWhy::Path)?;
     let offset = words.take_number(0, u32::MAX)?;
-    let bytes = Bytes::from_vec(words.take_bytes(alloc)?);
+    let bytes = Bytes::from_vec(words.take_bytes(alloc)?)?;
     Ok(Wish::Copy {
         source,
         parent,

@@ -26,11 +26,11 @@ impl Tree {
             .min((found.size() - offset) as usize);
         let mut bytes = vec![in self.alloc; 0u8; len]?;
         found.read(offset as usize, &mut bytes);
-        let mut node = found.plain(self.alloc, source.inode);
+        let mut node = found.plain(source.inode);
         node.copy = true;
         node.offset = offset;
         node.rsize = len as u32;
-        node.bytes = Bytes::from_vec(bytes);
+        node.bytes = Bytes::from_vec(bytes)?;
         Ok(node)
     }
 }

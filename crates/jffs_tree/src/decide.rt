@@ -14,12 +14,11 @@ use crate::children::any_named;
 use crate::inode::Inode;
 use crate::tree::Tree;
 use crate::wish::{Cause, Limits, NewNode, Wish};
-use jffs_node::{Bytes, FILE_MAX, Kind, Name, Path};
-use std::alloc::Global;
+use jffs_node::{Bytes, FILE_MAX, Kind, Name, Path, shared};
 
 impl Inode {
     /// A node that only says what the inode is.
-    pub(crate) fn plain(&self, alloc: Global, inode: u32) -> NewNode
+    pub(crate) fn plain(&self, inode: u32) -> NewNode
         ensures { result ≡ plain inode self.now.entry }
     {
         NewNode {
@@ -36,7 +35,7 @@ impl Inode {
                 None
             },
             name: Some(self.name),
-            bytes: Bytes::none(alloc),
+            bytes: Bytes::new(),
         }
     }
 }
@@ -97,7 +96,7 @@ impl Tree {
             rsize: 0,
             size: if kind == Kind::File { Some(0) } else { None },
             name: Some(*name),
-            bytes: Bytes::none(self.alloc),
+            bytes: Bytes::new(),
         })
     }
 
@@ -130,23 +129,24 @@ impl Tree {
         limits: Limits,
         path: &Path,
         offset: u32,
-        bytes: &[u8],
+        bytes: &Bytes,
     ) -> Result<NewNode, Cause>
         ensures decided { result ≢ Err Memory → result ≡ decide_on self.now limits (Write path.now offset bytes.now) }
         ensures bare { length bytes.now ≡ 0 → result ≡ decide_on self.now limits (Write path.now offset bytes.now) }
         ensures last { result ≡ Err Memory → IsOk (decide_on self.now limits (Write path.now offset bytes.now)) }
         ensures small { (k : ℕ) → slice_index bytes.now k < 256 }
     {
+        let data = bytes.as_slice();
         let Some(inode) = self.resolve(path) else {
             return Err(Cause::NotFound);
         };
         if self.is_directory(inode) {
             return Err(Cause::IsDirectory);
         }
-        if (limits.data_max as usize) < bytes.len() {
+        if (limits.data_max as usize) < data.len() {
             return Err(Cause::DataLong);
         }
-        if (FILE_MAX as usize) < offset as usize + bytes.len() {
+        if (FILE_MAX as usize) < offset as usize + data.len() {
             return Err(Cause::FileLong);
         }
         if limits.next_version.is_none() {
@@ -154,8 +154,8 @@ impl Tree {
         }
         let found = self.present(inode);
         let old = found.size();
-        let mut node = found.plain(self.alloc, inode);
-        let length = bytes.len() as u32;
+        let mut node = found.plain(inode);
+        let length = data.len() as u32;
         if length == 0 {
             node.offset = offset.min(old);
             return Ok(node);
@@ -163,7 +163,7 @@ impl Tree {
         node.offset = offset;
         node.rsize = length.min(old.saturating_sub(offset));
         node.size = Some(old.max(offset + length));
-        node.bytes = Bytes::from_slice(self.alloc, bytes)?;
+        node.bytes = shared(bytes)?;
         Ok(node)
     }
 
@@ -184,7 +184,7 @@ impl Tree {
         }
         let found = self.present(inode);
         let old = found.size();
-        let mut node = found.plain(self.alloc, inode);
+        let mut node = found.plain(inode);
         node.offset = size.min(old);
         node.rsize = old - size.min(old);
         node.size = Some(size);
@@ -220,7 +220,7 @@ impl Tree {
         if limits.next_version.is_none() {
             return Err(Cause::VersionsSpent);
         }
-        let mut node = found.plain(self.alloc, inode);
+        let mut node = found.plain(inode);
         node.parent = parent;
         node.name = Some(*name);
         Ok(node)
@@ -241,7 +241,7 @@ impl Tree {
         if limits.next_version.is_none() {
             return Err(Cause::VersionsSpent);
         }
-        let mut node = self.present(inode).plain(self.alloc, inode);
+        let mut node = self.present(inode).plain(inode);
         node.deleted = true;
         node.size = None;
         Ok(node)
@@ -254,7 +254,7 @@ impl Tree {
         parent: u32,
         name: &Name,
         offset: u32,
-        bytes: &[u8],
+        bytes: &Bytes,
     ) -> Result<NewNode, Cause>
         ensures decided { result ≢ Err Memory → result ≡ decide_on self.now limits (Copy source parent name.now offset bytes.now) }
         ensures bare { length bytes.now ≡ 0 → result ≡ decide_on self.now limits (Copy source parent name.now offset bytes.now) }
@@ -266,25 +266,23 @@ impl Tree {
         let Some((inode, found)) = self.holder(source) else {
             return Err(Cause::NotNeeded);
         };
-        if !found.is_child(parent, name) || !found.is_current(offset, bytes) {
+        if !found.is_child(parent, name) || !found.is_current(offset, bytes.as_slice()) {
             return Err(Cause::Stale);
         }
         if limits.next_version.is_none() {
             return Err(Cause::VersionsSpent);
         }
-        let mut node = found.plain(self.alloc, inode);
+        let mut node = found.plain(inode);
         node.copy = true;
         node.offset = offset;
         node.rsize = bytes.len() as u32;
-        if !bytes.is_empty() {
-            node.bytes = Bytes::from_slice(self.alloc, bytes)?;
-        }
+        node.bytes = shared(bytes)?;
         Ok(node)
     }
 
     /// The node of a wish, or the first cause against it, of the first twelve. `Memory` comes
-    /// only where the node carries bytes, for which a growth was refused, and nothing stands
-    /// against the wish. Of every wish it is true that a new path is a path and that data are
+    /// only where the node carries bytes, which could not be shared, and nothing stands against
+    /// the wish. Of every wish it is true that a new path is a path and that data are
     /// bytes, as `decided_nodes_keep_rules` asks.
     pub fn decide(&self, limits: Limits, wish: &Wish) -> Result<NewNode, Cause>
         ensures decided { result ≢ Err Memory → result ≡ decide_on self.now limits wish.now }
@@ -299,7 +297,7 @@ impl Tree {
                 path,
                 offset,
                 bytes,
-            } => self.decide_write(limits, path, *offset, bytes.as_slice()),
+            } => self.decide_write(limits, path, *offset, bytes),
             Wish::Truncate { path, size } => self.decide_truncate(limits, path, *size),
             Wish::Rename { from, to } => self.decide_rename(limits, from, to),
             Wish::Remove(path) => self.decide_remove(limits, path),
@@ -309,7 +307,7 @@ impl Tree {
                 name,
                 offset,
                 bytes,
-            } => self.decide_copy(limits, *source, *parent, name, *offset, bytes.as_slice()),
+            } => self.decide_copy(limits, *source, *parent, name, *offset, bytes),
             Wish::Unmount => self.decide_unmount(limits),
         }
     }
@@ -330,7 +328,7 @@ impl Tree {
             rsize: 0,
             size: None,
             name: None,
-            bytes: Bytes::none(self.alloc),
+            bytes: Bytes::new(),
         })
     }
 }

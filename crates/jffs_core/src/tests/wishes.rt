@@ -1,6 +1,6 @@
 //! Wishes in words.
 
-use jffs_node::{Bytes, Name, Path, PathFault};
+use jffs_node::{Bytes, Name, Path, PathFault, copied};
 use jffs_tree::Wish;
 use std::alloc::Global;
 use std::test::Fail;
@@ -37,7 +37,7 @@ impl<'a> Words<'a> {
         let word = self.take();
         match word.split_once('*') {
             Some((times, byte)) => many(self.alloc, times.parse::<usize>()?, byte.as_bytes()),
-            None if word == "-" => Ok(Bytes::none(self.alloc)),
+            None if word == "-" => Ok(Bytes::new()),
             None => bytes(self.alloc, word.as_bytes()),
         }
     }
@@ -106,10 +106,10 @@ fn path(alloc: Global, text: &str) -> Result<Path, Fail> {
 
 /// Bytes; where a growth is refused they are copied again.
 fn bytes(alloc: Global, bytes: &[u8]) -> Result<Bytes, Fail> {
-    if let Ok(copied) = Bytes::from_slice(alloc, bytes) {
-        return Ok(copied);
+    if let Ok(bytes) = copied(alloc, bytes) {
+        return Ok(bytes);
     }
-    Ok(Bytes::from_slice(alloc, bytes)?)
+    Ok(copied(alloc, bytes)?)
 }
 
 /// The same byte so many times, at most 256.

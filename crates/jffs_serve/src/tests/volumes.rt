@@ -3,7 +3,7 @@
 use jffs_core::Core;
 use jffs_flash::MemoryFlash;
 use jffs_line::Request;
-use jffs_node::{Bytes, Path};
+use jffs_node::{Path, copied};
 use jffs_tree::{Outcome, Wish};
 use std::alloc::Global;
 use std::test::Fail;
@@ -32,7 +32,7 @@ pub(super) fn write(alloc: Global, path: &str, offset: u32, bytes: &[u8]) -> Res
     Ok(Wish::Write {
         path: Path::parse(alloc, path)?,
         offset,
-        bytes: Bytes::from_slice(alloc, bytes)?,
+        bytes: copied(alloc, bytes)?,
     })
 }
 

@@ -2,6 +2,9 @@
 use Rattle.std.specs.Prelude.{◌≡◌, ◌<◌, ◌≤◌, ◌⊎◌, ℕ, ◌+◌, ◌-◌, not, ◌&&◌, ◌==◌, nat_le, nat_lt, List, [], ◌∷◌, ◌++◌, length, map, replicate, sum_by, Option, Some, None, if◌then◌else◌}
 use Rattle.std.specs.List.{AllByRecursion, filter}
 use Rattle.std.specs.Map.{values_of}
+use Rattle.jffs_node.specs.declared.node.Node.{Node}
+use Rattle.jffs_node.specs.Record.{dsize, file_max}
+use Rattle.jffs_tree.specs.Marks.{Counts, mark_of}
 use Rattle.jffs_tree.specs.declared.fragment.Fragment.{Fragment}
 
 -- fragments, each under its first offset
@@ -56,6 +59,26 @@ part_by v f = if f.writer == v then length f.bytes else 0
 
 abbrev pub amount_by : ℕ → Fragments → ℕ
 amount_by v es = sum_by (part_by v) (values_of es)
+
+-- no fragment is longer than a file
+abbrev pub AreShort : Fragments → Type 0
+AreShort es = AllByRecursion (λ e. length e.1.bytes ≤ file_max) es
+
+-- the fragment of a node's data, if it has any
+abbrev pub fragment_of : Node → Fragments
+fragment_of n = if dsize n == 0 then [] else (n.offset, record { bytes = n.bytes; writer = n.version }) ∷ []
+
+-- with a node's data in place of what stands from its offset to an end
+abbrev pub overwritten : ℕ → Node → Fragments → Fragments
+overwritten end n es = before n.offset es ++ (fragment_of n ++ from end es)
+
+-- There are marks for all of an inode's fragments.
+abbrev pub HasAmounts : Counts → ℕ → Fragments → Type 0
+HasAmounts counts i es = (v : ℕ) → amount_by v es ≤ mark_of counts v i
+
+-- In an inode the marks for some fragments have become those for others.
+abbrev pub MovesAmounts : Counts → Counts → ℕ → Fragments → Fragments → Type 0
+MovesAmounts old new inode was now = (v i : ℕ) → mark_of new v i + (if i == inode then amount_by v was else 0) ≡ mark_of old v i + (if i == inode then amount_by v now else 0)
 
 -- The same cells, and cut wherever they were.
 pub record SameCells (old new : Fragments) : Type 0 where

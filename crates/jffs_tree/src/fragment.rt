@@ -1,12 +1,14 @@
 //! Fragments: the ranges of a file's bytes that nodes wrote.
 
-ghost use Rattle.std.specs.Prelude.{◌≡◌, ◌≤◌, ◌<◌, ◌+◌, ◌==◌, ℕ, length, Some, None, OnOk, OnErr, IfSome, IfNone, IfOk, drop};
-ghost use Rattle.std.specs.BTreeMap.{get};
+ghost use Rattle.std.specs.Prelude.{◌≡◌, ◌≤◌, ◌<◌, ◌+◌, ◌==◌, ℕ, length, Some, OnOk, OnErr, IfSome, IfNone, if◌then◌else◌};
+ghost use Rattle.std.specs.BTreeMap.{get, insert_entry};
 ghost use Rattle.std.specs.Ordering.{nat_cmp};
 ghost use Rattle.jffs_node.specs.Record.{file_max};
-ghost use Rattle.jffs_tree.specs.Fragments.{AreLaid, AreCut, SameCells, end_of};
+ghost use Rattle.jffs_tree.specs.Marks.{mark_of, brought_by};
+ghost use Rattle.jffs_tree.specs.Fragments.{AreLaid, AreCut, AreShort, SameCells, HasAmounts, MovesAmounts, end_of, outside, overwritten, amount_by, part_by};
 
-use bytes::Bytes;
+use crate::marks::Marks;
+use jffs_node::{Bytes, Node, shared};
 use std::alloc::AllocError;
 use std::collections::BTreeMap;
 
@@ -89,5 +91,80 @@ pub(crate) fn split_at(fragments: &mut Fragments, at: u32) -> Result<(), AllocEr
             writer,
         };
     }
+    Ok(())
+}
+
+/// The first offset, from one on and before another, at which a fragment begins.
+fn first_between(fragments: &Fragments, from: u32, to: u32) -> Option<u32>
+    ensures there { IfSome result (λ first. (f : Fragment) × (get nat_cmp fragments.now first ≡ Some f) × (from ≤ first) × (first < to)) }
+    ensures none { IfNone result (outside from to fragments.now.entries ≡ fragments.now.entries) }
+{
+    let mut later = fragments.range(from..);
+    let Some((first, _)) = later.next() else {
+        return None;
+    };
+    if *first < to { Some(*first) } else { None }
+}
+
+/// Takes the fragments out that begin from an offset on and before another, and their marks.
+pub(crate) fn take_out(fragments: &mut Fragments, from: u32, to: u32, inode: u32, marks: &mut Marks)
+    requires short { AreShort fragments.old.entries }
+    requires marked { HasAmounts marks.old inode fragments.old.entries }
+    ensures left { fragments.new.entries ≡ outside from to fragments.old.entries }
+    ensures moved { MovesAmounts marks.old marks.new inode fragments.old.entries fragments.new.entries }
+{
+    while let Some(first) = first_between(fragments, from, to) {
+        if let Some(gone) = fragments.remove(&first) {
+            marks.lower(gone.writer, inode, gone.len());
+        }
+    }
+}
+
+/// Puts a fragment in at an offset. One that began there goes, and its marks. Where an allocation
+/// failed, nothing is changed.
+fn put(
+    fragments: &mut Fragments,
+    offset: u32,
+    fragment: Fragment,
+    inode: u32,
+    marks: &mut Marks,
+) -> Result<(), AllocError>
+    requires short { AreShort fragments.old.entries }
+    requires marked { HasAmounts marks.old inode fragments.old.entries }
+    ensures ok { OnOk result (fragments.new.entries ≡ insert_entry nat_cmp fragments.old.entries offset fragment) }
+    ensures moved { OnOk result ((v i : ℕ) → mark_of marks.new v i + (if i == inode then amount_by v fragments.old.entries + part_by v fragment else 0) ≡ mark_of marks.old v i + (if i == inode then amount_by v fragments.new.entries else 0)) }
+    ensures err { OnErr result ((fragments.new.entries ≡ fragments.old.entries) × (marks.new ≡ marks.old)) }
+{
+    if let Some(gone) = fragments.insert(offset, fragment)? {
+        marks.lower(gone.writer, inode, gone.len());
+    }
+    Ok(())
+}
+
+/// Writes a node's data over the fragments from its offset to an end, across neither of which one
+/// reaches. Where an allocation failed, nothing is changed.
+pub(crate) fn overwrite(
+    fragments: &mut Fragments,
+    node: &Node,
+    end: u32,
+    marks: &mut Marks,
+) -> Result<(), AllocError>
+    requires laid { AreLaid 0 file_max fragments.old.entries }
+    requires range { (node.now.offset + length node.now.bytes ≤ end) × (end ≤ file_max) }
+    requires marked { HasAmounts marks.old node.now.inode fragments.old.entries }
+    ensures ok { OnOk result (fragments.new.entries ≡ overwritten end node.now fragments.old.entries) }
+    ensures moved { OnOk result ((v i : ℕ) → mark_of marks.new v i + (if i == node.now.inode then amount_by v fragments.old.entries + brought_by v node.now else 0) ≡ mark_of marks.old v i + (if i == node.now.inode then amount_by v fragments.new.entries else 0)) }
+    ensures err { OnErr result ((fragments.new.entries ≡ fragments.old.entries) × (marks.new ≡ marks.old)) }
+{
+    if node.bytes.is_empty() {
+        take_out(fragments, node.offset, end, node.inode, marks);
+        return Ok(());
+    }
+    let fragment = Fragment {
+        bytes: shared(&node.bytes)?,
+        writer: node.version,
+    };
+    put(fragments, node.offset, fragment, node.inode, marks)?;
+    take_out(fragments, node.offset + 1, end, node.inode, marks);
     Ok(())
 }

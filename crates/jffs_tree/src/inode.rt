@@ -5,10 +5,12 @@ ghost use Rattle.std.specs.List.{list_any, list_all};
 ghost use Rattle.jffs_node.specs.Record.{dsize};
 ghost use Rattle.jffs_tree.specs.Origin.{versions_held};
 ghost use Rattle.jffs_tree.specs.After.{held_after, IsSmall};
+ghost use Rattle.jffs_tree.specs.Marks.{HasMarks, MovesMarks, SameMarks, HasPlaces, LosesPlaces};
 ghost use Rattle.jffs_tree.specs.Check.{bytes_are_written};
 ghost use Rattle.jffs_tree.specs.Decide.{is_current};
 
 use crate::cells::{open_range, overwrite, reserve_length, set_length, sign};
+use crate::marks::Marks;
 use jffs_node::{Kind, Name, Node};
 use std::alloc::{AllocError, Global};
 use std::marker::Model;
@@ -54,13 +56,21 @@ impl Inode {
         }
     }
 
-    /// Writes a node over the inode. All room is made before the first change.
-    pub(crate) fn write(&mut self, node: &Node, name: Name) -> Result<(), AllocError>
+    /// Writes a node over the inode, and moves the marks of places with them. All room is made
+    /// before the first change.
+    pub(crate) fn write(
+        &mut self,
+        node: &Node,
+        name: Name,
+        marks: &mut Marks,
+    ) -> Result<(), AllocError>
         requires named { node.now.name ≡ Some name }
         requires small { IsSmall node.now }
         requires places { dsize node.now ≢ node.now.rsize → length self.old.entry.bytes ≤ node.now.offset + node.now.rsize }
+        requires marked { HasMarks marks.old node.now self.old }
         ensures ok { OnOk result (self.new ≡ held_after node.now (Some self.old)) }
-        ensures err { OnErr result (self.new ≡ self.old) }
+        ensures marks { OnOk result (MovesMarks marks.old marks.new node.now self.old self.new) }
+        ensures err { OnErr result ((self.new ≡ self.old) × SameMarks marks.old marks.new) }
     {
         let offset = node.offset as usize;
         let removed = node.rsize as usize;
@@ -83,6 +93,18 @@ impl Inode {
         self.newest = node.version;
         self.states_size = node.size.is_some();
         Ok(())
+    }
+
+    /// Takes the marks of all places of this inode away, before it goes.
+    pub(crate) fn release(&self, inode: u32, marks: &mut Marks)
+        requires { HasPlaces marks.old inode self.now }
+        ensures { LosesPlaces marks.old marks.new inode self.now }
+    {
+        for writer in &self.writers {
+            if let Some(version) = writer {
+                marks.lower(*version, inode, 1);
+            }
+        }
     }
 
     /// How many bytes.

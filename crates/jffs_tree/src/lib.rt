@@ -18,6 +18,7 @@ mod fits;
 mod inode;
 mod laws;
 mod look;
+mod marks;
 mod names;
 #[cfg(test)]
 mod tests;

@@ -1,0 +1,69 @@
+-- How often each version is live, kept beside the inodes.
+use Rattle.std.specs.Prelude.{◌≡◌, ◌≢◌, ◌≤◌, ◌+◌, ℕ, ◌==◌, ◌&&◌, List, Some, count_by, flat_map, unwrap_or, if◌then◌else◌}
+use Rattle.std.specs.List.Sorted.{IsStrictlySortedBy}
+use Rattle.std.specs.Option.{option_map_or, option_to_list}
+use Rattle.std.specs.Ordering.{nat_cmp, ordering_then}
+use Rattle.std.specs.declared.cmp.Ordering.{Ordering}
+use Rattle.std.specs.Map.{lookup, keys_of}
+use Rattle.std.specs.BTreeMap.{is_at}
+use Rattle.jffs_node.specs.declared.node.Node.{Node}
+use Rattle.jffs_node.specs.Record.{dsize}
+use Rattle.jffs_tree.specs.Origin.{Held, Tree, versions_held}
+use Rattle.jffs_tree.specs.After.{held_in}
+
+-- a version and an inode, and how many marks the version has there
+abbrev pub Counts : Type 0
+Counts = List ((ℕ × ℕ) × ℕ)
+
+-- by version, then by inode
+abbrev pub mark_cmp : (ℕ × ℕ) → (ℕ × ℕ) → Ordering
+mark_cmp a b = ordering_then (nat_cmp a.0 b.0) (nat_cmp a.1 b.1)
+
+-- the marks of a version in an inode
+abbrev pub mark_of : Counts → ℕ → ℕ → ℕ
+mark_of counts v i = unwrap_or (lookup (is_at (mark_cmp (v, i))) counts) 0
+
+-- They stand in order, and only what is above zero is kept.
+pub record AreKept (counts : Counts) : Type 0 where
+  pub ordered : IsStrictlySortedBy mark_cmp (keys_of counts)
+  pub some : (v i : ℕ) → lookup (is_at (mark_cmp (v, i))) counts ≢ Some 0
+
+-- the same marks everywhere
+abbrev pub SameMarks : Counts → Counts → Type 0
+SameMarks old new = (v i : ℕ) → mark_of new v i ≡ mark_of old v i
+
+-- the higher have so many more of one version in one inode, and the same elsewhere
+abbrev pub HaveMore : Counts → Counts → ℕ → ℕ → ℕ → Type 0
+HaveMore lower higher version inode count = (v i : ℕ) → mark_of lower v i + (if (v == version) && (i == inode) then count else 0) ≡ mark_of higher v i
+
+-- how many places of an inode the version wrote
+abbrev pub places_by : ℕ → Held → ℕ
+places_by v h = count_by (λ w. w == v) (flat_map option_to_list h.writers)
+
+-- how many places the node's data bring to its version
+abbrev pub brought_by : ℕ → Node → ℕ
+brought_by v n = if v == n.version then dsize n else 0
+
+-- There are marks for all places of an inode, and for the data of the node that is to be written over it.
+abbrev pub HasMarks : Counts → Node → Held → Type 0
+HasMarks counts n h = (v : ℕ) → places_by v h + brought_by v n ≤ mark_of counts v n.inode
+
+-- In the node's inode the marks for its places before and for the node's data have become those for its places after.
+abbrev pub MovesMarks : Counts → Counts → Node → Held → Held → Type 0
+MovesMarks old new n before after = (v i : ℕ) → mark_of new v i + (if i == n.inode then places_by v before + brought_by v n else 0) ≡ mark_of old v i + (if i == n.inode then places_by v after else 0)
+
+-- There are marks for all places of an inode.
+abbrev pub HasPlaces : Counts → ℕ → Held → Type 0
+HasPlaces counts inode h = (v : ℕ) → places_by v h ≤ mark_of counts v inode
+
+-- The marks for all places of an inode are gone.
+abbrev pub LosesPlaces : Counts → Counts → ℕ → Held → Type 0
+LosesPlaces old new inode h = (v i : ℕ) → mark_of new v i + (if i == inode then places_by v h else 0) ≡ mark_of old v i
+
+-- how often the tree holds the version in an inode: once as its newest, once for each place
+abbrev pub held_marks : Tree → ℕ → ℕ → ℕ
+held_marks tree v i = option_map_or (λ h. count_by (λ w. w == v) (versions_held (i, h))) (held_in tree i) 0
+
+-- the marks are those of the tree
+abbrev pub AreMarksOf : Tree → Counts → Type 0
+AreMarksOf tree counts = (v i : ℕ) → mark_of counts v i ≡ held_marks tree v i

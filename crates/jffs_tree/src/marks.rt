@@ -1,0 +1,125 @@
+//! How often each version is live, kept under the changes of a tree and never counted anew.
+
+ghost use Rattle.std.specs.Prelude.{◌≡◌, ◌+◌, ◌<◌, ◌≤◌, ◌^◌, ◌==◌, ◌&&◌, ℕ, [], true, false, min, sum_by, IfSome, IfNone, OnOk, OnErr};
+ghost use Rattle.std.specs.List.{filter};
+ghost use Rattle.jffs_tree.specs.Marks.{AreKept, HaveMore, mark_of};
+
+use std::alloc::{AllocError, Global};
+use std::collections::BTreeMap;
+use std::marker::Model;
+
+/// For a version and an inode how many places of the inode the version wrote, and one more where
+/// it is the inode's newest. Only what is above zero is kept.
+#[derive(Drop)]
+pub(crate) struct Marks {
+    counts: BTreeMap<(u32, u32), u32>,
+}
+
+impl Model for Marks {
+    ghost use Rattle.jffs_tree.specs.Marks.{Counts, AreKept};
+
+    ghost Value = { Counts };
+
+    ghost view = { λ m. m.counts.entries };
+
+    ghost invariant = { λ m. AreKept m.counts.entries };
+}
+
+impl Marks {
+    /// None. Takes no memory.
+    pub(crate) fn new(alloc: Global) -> Marks
+        ensures { result ≡ [] }
+    {
+        Marks {
+            counts: BTreeMap::new(alloc),
+        }
+    }
+
+    /// The marks of a version in an inode.
+    pub(crate) fn at(&self, version: u32, inode: u32) -> u32
+        ensures { result ≡ mark_of self.now version inode }
+    {
+        match self.counts.get(&(version, inode)) {
+            Some(count) => *count,
+            None => 0,
+        }
+    }
+
+    /// Adds marks of a version in an inode. Where the allocation failed, nothing is changed.
+    pub(crate) fn raise(&mut self, version: u32, inode: u32, count: u32) -> Result<(), AllocError>
+        requires { mark_of self.old version inode + count < 2 ^ 32 }
+        ensures ok { OnOk result (HaveMore self.old self.new version inode count) }
+        ensures err { OnErr result (self.new ≡ self.old) }
+    {
+        if count == 0 {
+            return Ok(());
+        }
+        let before = self.at(version, inode);
+        self.counts.insert((version, inode), before + count)?;
+        Ok(())
+    }
+
+    /// Takes marks of a version in an inode away. Takes no memory.
+    pub(crate) fn lower(&mut self, version: u32, inode: u32, count: u32)
+        requires { count ≤ mark_of self.old version inode }
+        ensures { HaveMore self.new self.old version inode count }
+    {
+        if let Some(kept) = self.counts.get_mut(&(version, inode)) {
+            if count < *kept {
+                *kept -= count;
+                return;
+            }
+        }
+        self.counts.remove(&(version, inode));
+    }
+
+    /// The smallest inode where the version has marks.
+    pub(crate) fn holder(&self, version: u32) -> Option<u32>
+        ensures there { IfSome result (λ i. 0 < mark_of self.now version i) }
+        ensures least { IfSome result (λ i. (j : ℕ) → 0 < mark_of self.now version j → i ≤ j) }
+        ensures none { IfNone result ((j : ℕ) → mark_of self.now version j ≡ 0) }
+    {
+        let mut rest = self.counts.range((version, 0)..);
+        match rest.next() {
+            Some(((found, inode), _)) if *found == version => Some(*inode),
+            _ => None,
+        }
+    }
+
+    /// Whether some version from `first` to `last`, both included, has marks.
+    pub(crate) fn any(&self, first: u32, last: u32) -> bool
+        ensures some { result ≡ true → (v : ℕ) × (i : ℕ) × (first ≤ v) × (v ≤ last) × (0 < mark_of self.now v i) }
+        ensures none { result ≡ false → (v i : ℕ) → first ≤ v → v ≤ last → mark_of self.now v i ≡ 0 }
+    {
+        let mut rest = self.counts.range((first, 0)..);
+        match rest.next() {
+            Some(((found, _), _)) => *found <= last,
+            None => false,
+        }
+    }
+
+    /// All marks of a version, or the greatest `u32` where there are more.
+    pub(crate) fn total(&self, version: u32) -> u32
+        ensures total { result ≡ min (sum_by (λ e. e.1) (filter (λ e. e.0.0 == version) self.now)) (2 ^ 32 - 1) }
+        ensures kept { AreKept self.now }
+    {
+        let mut total = 0u32;
+        for ((found, _), count) in self.counts.range((version, 0)..) {
+            if *found != version {
+                break;
+            }
+            total = total.saturating_add(*count);
+        }
+        total
+    }
+}
+
+impl Clone for Marks {
+    ghost is_clone = { λ old new. new ≡ old };
+
+    fn clone(&self) -> Result<Marks, AllocError> {
+        Ok(Marks {
+            counts: self.counts.clone()?,
+        })
+    }
+}

@@ -60,6 +60,17 @@ HasPlaces counts inode h = (v : ℕ) → places_by v h ≤ mark_of counts v inod
 abbrev pub LosesPlaces : Counts → Counts → ℕ → Held → Type 0
 LosesPlaces old new inode h = (v i : ℕ) → mark_of new v i + (if i == inode then places_by v h else 0) ≡ mark_of old v i
 
+-- how many places of an inode in a tree the version wrote
+abbrev pub places_in : Tree → ℕ → ℕ → ℕ
+places_in tree v i = option_map_or (λ h. places_by v h) (held_in tree i) 0
+
+-- `HasMarks` and `MovesMarks` of the node's inode in a tree, present or not
+abbrev pub HasMarksIn : Counts → Node → Tree → Type 0
+HasMarksIn counts n tree = (v : ℕ) → places_in tree v n.inode + brought_by v n ≤ mark_of counts v n.inode
+
+abbrev pub MovesMarksIn : Counts → Counts → Node → Tree → Tree → Type 0
+MovesMarksIn old new n before after = (v i : ℕ) → mark_of new v i + (if i == n.inode then places_in before v i + brought_by v n else 0) ≡ mark_of old v i + (if i == n.inode then places_in after v i else 0)
+
 -- how often the tree holds the version in an inode: once as its newest, once for each place
 abbrev pub held_marks : Tree → ℕ → ℕ → ℕ
 held_marks tree v i = option_map_or (λ h. count_by (λ w. w == v) (versions_held (i, h))) (held_in tree i) 0

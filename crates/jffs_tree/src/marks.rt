@@ -1,6 +1,6 @@
 //! How often each version is live, kept under the changes of a tree and never counted anew.
 
-ghost use Rattle.std.specs.Prelude.{◌≡◌, ◌+◌, ◌<◌, ◌≤◌, ◌^◌, ◌==◌, ◌&&◌, ℕ, [], true, false, min, sum_by, IfSome, IfNone, OnOk, OnErr};
+ghost use Rattle.std.specs.Prelude.{◌≡◌, ◌+◌, ◌-◌, ◌<◌, ◌≤◌, ◌^◌, ◌==◌, ◌&&◌, ℕ, [], true, false, min, sum_by, IfSome, IfNone, OnOk, OnErr};
 ghost use Rattle.std.specs.List.{filter};
 ghost use Rattle.jffs_tree.specs.Marks.{AreKept, HaveMore, mark_of};
 
@@ -64,13 +64,15 @@ impl Marks {
         requires { count ≤ mark_of self.old version inode }
         ensures { HaveMore self.new self.old version inode count }
     {
-        if let Some(kept) = self.counts.get_mut(&(version, inode)) {
-            if count < *kept {
-                *kept -= count;
-                return;
-            }
+        let kept = self.at(version, inode);
+        if kept == count {
+            self.counts.remove(&(version, inode));
+            return;
         }
-        self.counts.remove(&(version, inode));
+        match self.counts.get_mut(&(version, inode)) {
+            Some(place) => *place = kept - count,
+            None => unreachable!(),
+        }
     }
 
     /// The smallest inode where the version has marks.
@@ -80,10 +82,10 @@ impl Marks {
         ensures none { IfNone result ((j : ℕ) → mark_of self.now version j ≡ 0) }
     {
         let mut rest = self.counts.range((version, 0)..);
-        match rest.next() {
-            Some(((found, inode), _)) if *found == version => Some(*inode),
-            _ => None,
-        }
+        let Some((key, _)) = rest.next() else {
+            return None;
+        };
+        if key.0 == version { Some(key.1) } else { None }
     }
 
     /// Whether some version from `first` to `last`, both included, has marks.
@@ -93,7 +95,7 @@ impl Marks {
     {
         let mut rest = self.counts.range((first, 0)..);
         match rest.next() {
-            Some(((found, _), _)) => *found <= last,
+            Some((key, _)) => key.0 <= last,
             None => false,
         }
     }
@@ -104,8 +106,8 @@ impl Marks {
         ensures kept { AreKept self.now }
     {
         let mut total = 0u32;
-        for ((found, _), count) in self.counts.range((version, 0)..) {
-            if *found != version {
+        for (key, count) in self.counts.range((version, 0)..) {
+            if key.0 != version {
                 break;
             }
             total = total.saturating_add(*count);

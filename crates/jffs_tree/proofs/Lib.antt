@@ -8,6 +8,8 @@ pub mod Rules
 mod Places
 pub mod Grown
 pub mod Maps
+pub mod Marking
+pub mod Marked
 pub mod Written
 pub mod Applied
 pub mod Looked

@@ -19,7 +19,7 @@ head_total : IsTotalOrder head_cmp
 head_total = then_total (on_total (λ (t : Place). t.0) nat_cmp_total) (on_total (λ (t : Place). t.1) (options_total nat_list_cmp_total))
 
 -- parts of an answer of two steps
-then_low : (a b : Ordering) → is_gt (ordering_then a b) ≡ false → is_gt a ≡ false
+pub then_low : (a b : Ordering) → is_gt (ordering_then a b) ≡ false → is_gt a ≡ false
 then_low Less b h = refl
 then_low Equal b h = refl
 then_low Greater b h = cc
@@ -48,7 +48,7 @@ name_tied None (Some y) h = cc
 name_tied (Some x) None h = cc
 name_tied (Some x) (Some y) h = ap (λ n. Some n) ((bytes_eq-Decides x y).0 (texts_ties x y ∙ ap is_eq h))
 
-nat_low : (a b : ℕ) → is_gt (nat_cmp a b) ≡ false → a ≤ b
+pub nat_low : (a b : ℕ) → is_gt (nat_cmp a b) ≡ false → a ≤ b
 nat_low a b h = ⊎_elim
     (λ less. omega arith)
     (λ more. ⊎_elim
@@ -62,7 +62,7 @@ nat_low a b h = ⊎_elim
     is_above false true p q h = cc
     is_above false false p q h = cc
 
-zero_low : (b : ℕ) → is_gt (nat_cmp 0 b) ≡ false
+pub zero_low : (b : ℕ) → is_gt (nat_cmp 0 b) ≡ false
 zero_low zero = refl
 zero_low (suc b) = ap (λ t. is_gt (cond t Less (cond (eqb 0 (suc b)) Equal Greater))) (lt-ltb 0 (suc b) (omega arith))
 

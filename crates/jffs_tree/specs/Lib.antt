@@ -4,6 +4,7 @@ pub mod Decide
 pub mod Check
 pub mod After
 pub mod Index
+pub mod Marks
 pub mod Indexed
 pub mod Shown
 pub mod Look

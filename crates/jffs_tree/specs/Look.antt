@@ -1,5 +1,5 @@
 -- What a look into a tree finds.
-use Rattle.std.specs.Prelude.{◌≡◌, ℕ, Bool, false, ◌==◌, List, [], length, Option, Some, map, option_map, unwrap_or, if◌then◌else◌}
+use Rattle.std.specs.Prelude.{◌≡◌, ℕ, Bool, false, ◌&&◌, ◌==◌, nat_le, count_by, flat_map, List, [], length, Option, Some, map, option_map, unwrap_or, if◌then◌else◌}
 use Rattle.std.specs.List.{AllByRecursion, list_any, filter}
 use Rattle.std.specs.Ordering.{nat_cmp, ordering_then}
 use Rattle.std.specs.Cmp.Lexicographic.{slice_cmp}
@@ -28,6 +28,14 @@ parent_name_in tree i = option_map (λ h. (h.entry.parent, h.entry.name)) (held_
 
 abbrev pub holds_version : Tree → ℕ → ℕ → Bool
 holds_version tree i v = option_map_or (λ h. list_any (λ w. w == v) (versions_held (i, h))) (held_in tree i) false
+
+-- how often a version is live in a tree
+abbrev pub marks_in : Tree → ℕ → ℕ
+marks_in tree v = count_by (λ w. w == v) (flat_map versions_held tree)
+
+-- whether some version from the first to the last is live in a tree
+abbrev pub any_live_in : Tree → ℕ → ℕ → Bool
+any_live_in tree first last = list_any (λ w. nat_le first w && nat_le w last) (flat_map versions_held tree)
 
 -- each node of the version is of the inode, as it is where versions rise
 abbrev pub IsVersionOf : List Node → ℕ → ℕ → Type 0

@@ -103,6 +103,10 @@ marks past v = count_by (λ w. w == v) (live_versions past)
 abbrev pub is_live : List Node → ℕ → Bool
 is_live past v = list_any (λ w. w == v) (live_versions past)
 
+-- whether some version from the first to the last, both included, is live
+abbrev pub any_live : List Node → ℕ → ℕ → Bool
+any_live past first last = list_any (λ w. nat_le first w && nat_le w last) (live_versions past)
+
 -- the size that a node of this kind states
 abbrev pub stated_size : Entry → Option ℕ
 stated_size e = if is_file e.kind then Some (length e.bytes) else None

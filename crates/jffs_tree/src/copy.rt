@@ -14,6 +14,7 @@ impl Tree {
             alloc: self.alloc,
             inodes: self.inodes.clone()?,
             children: self.children.clone()?,
+            marks: self.marks.clone()?,
         })
     }
 }

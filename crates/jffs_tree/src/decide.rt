@@ -116,12 +116,8 @@ impl Tree {
     fn holder(&self, version: u32) -> Option<(u32, &Inode)>
         ensures { option_map (λ f. (f.0, f.1.now)) result ≡ holder self.now version }
     {
-        for (inode, found) in self.inodes.iter() {
-            if found.holds(version) {
-                return Some((*inode, found));
-            }
-        }
-        None
+        let inode = self.marks.holder(version)?;
+        Some((inode, self.present(inode)))
     }
 
     fn decide_write(

@@ -1,14 +1,15 @@
 //! One inode in the plain representation: its bytes beside the versions of their last writers.
 
 ghost use Rattle.std.specs.Prelude.{◌≡◌, ◌≢◌, ◌==◌, ◌&&◌, ◌+◌, ◌-◌, ◌≤◌, ◌++◌, [], Some, None, false, is_some, min, length, take, drop, OnOk, OnErr, bytes_eq, slice_index_or};
-ghost use Rattle.std.specs.List.{list_any, list_all};
+ghost use Rattle.std.specs.List.{list_all};
 ghost use Rattle.jffs_node.specs.Record.{dsize};
-ghost use Rattle.jffs_tree.specs.Origin.{versions_held};
 ghost use Rattle.jffs_tree.specs.After.{held_after, IsSmall};
+ghost use Rattle.jffs_tree.specs.Marks.{HasMarks, MovesMarks, SameMarks, HasPlaces, LosesPlaces};
 ghost use Rattle.jffs_tree.specs.Check.{bytes_are_written};
 ghost use Rattle.jffs_tree.specs.Decide.{is_current};
 
 use crate::cells::{open_range, overwrite, reserve_length, set_length, sign};
+use crate::marks::Marks;
 use jffs_node::{Kind, Name, Node};
 use std::alloc::{AllocError, Global};
 use std::marker::Model;
@@ -54,13 +55,21 @@ impl Inode {
         }
     }
 
-    /// Writes a node over the inode. All room is made before the first change.
-    pub(crate) fn write(&mut self, node: &Node, name: Name) -> Result<(), AllocError>
+    /// Writes a node over the inode, and moves the marks of places with them. All room is made
+    /// before the first change.
+    pub(crate) fn write(
+        &mut self,
+        node: &Node,
+        name: Name,
+        marks: &mut Marks,
+    ) -> Result<(), AllocError>
         requires named { node.now.name ≡ Some name }
         requires small { IsSmall node.now }
         requires places { dsize node.now ≢ node.now.rsize → length self.old.entry.bytes ≤ node.now.offset + node.now.rsize }
+        requires marked { HasMarks marks.old node.now self.old }
         ensures ok { OnOk result (self.new ≡ held_after node.now (Some self.old)) }
-        ensures err { OnErr result (self.new ≡ self.old) }
+        ensures marks { OnOk result (MovesMarks marks.old marks.new node.now self.old self.new) }
+        ensures err { OnErr result ((self.new ≡ self.old) × SameMarks marks.old marks.new) }
     {
         let offset = node.offset as usize;
         let removed = node.rsize as usize;
@@ -69,11 +78,15 @@ impl Inode {
         let longest = end.max(node.size.unwrap_or(0) as usize);
         reserve_length(&mut self.bytes, longest)?;
         reserve_length(&mut self.writers, longest)?;
+        let behind = self.writers.len().min(offset + removed);
+        lower_marks(&self.writers[behind.min(offset)..behind], node.inode, marks);
         open_range(&mut self.bytes, offset, removed, data.len(), 0);
         open_range(&mut self.writers, offset, removed, data.len(), None);
         overwrite(&mut self.bytes, offset, data);
         sign(&mut self.writers, offset, data.len(), node.version);
         if let Some(size) = node.size {
+            let cut = self.writers.len().min(size as usize);
+            lower_marks(&self.writers[cut..], node.inode, marks);
             set_length(&mut self.bytes, size as usize, 0);
             set_length(&mut self.writers, size as usize, None);
         }
@@ -83,6 +96,14 @@ impl Inode {
         self.newest = node.version;
         self.states_size = node.size.is_some();
         Ok(())
+    }
+
+    /// Takes the marks of all places of this inode away, before it goes.
+    pub(crate) fn release(&self, inode: u32, marks: &mut Marks)
+        requires { HasPlaces marks.old inode self.now }
+        ensures { LosesPlaces marks.old marks.new inode self.now }
+    {
+        lower_marks(&self.writers, inode, marks);
     }
 
     /// How many bytes.
@@ -114,13 +135,6 @@ impl Inode {
         }
     }
 
-    /// Whether the version is that of the newest node or of some place's last writer.
-    pub(crate) fn holds(&self, version: u32) -> bool
-        ensures { result ≡ list_any (λ w. w == version) (versions_held (0, self.now)) }
-    {
-        self.newest == version || self.writers.contains(&Some(version))
-    }
-
     /// Whether each byte has a last writer, or the newest node states the size.
     pub(crate) fn is_written(&self) -> bool
         ensures { result ≡ bytes_are_written self.now }
@@ -145,6 +159,15 @@ impl Inode {
         ensures { result ≡ ((self.now.entry.parent == parent) && bytes_eq self.now.entry.name name.now) }
     {
         self.parent == parent && self.name.bytes() == name.bytes()
+    }
+}
+
+/// Takes the mark of each of these places away.
+fn lower_marks(writers: &[Option<u32>], inode: u32, marks: &mut Marks) {
+    for writer in writers {
+        if let Some(version) = writer {
+            marks.lower(*version, inode, 1);
+        }
     }
 }
 

@@ -1,11 +1,11 @@
 //! Looks into a tree.
 
-ghost use Rattle.std.specs.Prelude.{◌≡◌, ◌==◌, ◌+◌, Some, ◌-◌, ◌++◌, ◌<◌, ◌≤◌, min, length, take, drop, List, None, option_map, option_copied, slice_index_or, unwrap_or};
+ghost use Rattle.std.specs.Prelude.{◌≡◌, ◌==◌, ◌+◌, Some, ◌-◌, ◌++◌, ◌^◌, ◌<◌, ◌≤◌, min, length, take, drop, List, None, option_map, option_copied, slice_index_or, unwrap_or};
 ghost use Rattle.jffs_node.specs.declared.node.Node.{Node};
 ghost use Rattle.jffs_tree.specs.State.{child, resolve};
-ghost use Rattle.jffs_tree.specs.Origin.{tree_of, state_in, size_in, origin, newest, version_of, is_live};
+ghost use Rattle.jffs_tree.specs.Origin.{tree_of, state_in, size_in, origin, newest, version_of, is_live, marks, any_live};
 ghost use Rattle.jffs_tree.specs.After.{held_in};
-ghost use Rattle.jffs_tree.specs.Look.{kind_in, size_of, bytes_in, writers_in, parent_name_in, holds_version, IsVersionOf};
+ghost use Rattle.jffs_tree.specs.Look.{kind_in, size_of, bytes_in, writers_in, parent_name_in, holds_version, marks_in, any_live_in, IsVersionOf};
 
 use crate::children::first_named;
 use crate::inode::Inode;
@@ -86,10 +86,25 @@ impl Tree {
         ensures held { result ≡ holds_version self.now inode version }
         ensures whole { (past : List Node) → self.now ≡ tree_of past → IsVersionOf past version inode → result ≡ is_live past version }
     {
-        match self.inode(inode) {
-            Some(found) => found.holds(version),
-            None => false,
-        }
+        0 < self.marks.at(version, inode)
+    }
+
+    /// How often a version is live: once for each place of a present inode that it wrote last,
+    /// and once as the newest of a present inode; the greatest `u32` where that is more. The
+    /// marks are kept by `apply`, and not counted anew. Takes no memory.
+    pub fn marks(&self, version: u32) -> u32
+        ensures held { result ≡ min (marks_in self.now version) (2 ^ 32 - 1) }
+        ensures of { (past : List Node) → self.now ≡ tree_of past → result ≡ min (marks past version) (2 ^ 32 - 1) }
+    {
+        self.marks.total(version)
+    }
+
+    /// Whether some version from `first` to `last`, both included, is live. Takes no memory.
+    pub fn any_live(&self, first: u32, last: u32) -> bool
+        ensures held { result ≡ any_live_in self.now first last }
+        ensures of { (past : List Node) → self.now ≡ tree_of past → result ≡ any_live past first last }
+    {
+        self.marks.any(first, last)
     }
 
     /// The inode of that parent and name, the smallest where there are several.

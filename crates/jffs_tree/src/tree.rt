@@ -1,26 +1,29 @@
 //! The tree.
 
-ghost use Rattle.std.specs.Prelude.{◌≡◌, ◌∷◌, [], List, Some, IsTrue, OnOk, OnErr, IfErr};
+ghost use Rattle.std.specs.Prelude.{◌≡◌, ◌∷◌, [], List, Some, IsSome, IsTrue, OnOk, OnErr, IfErr, option_map};
 ghost use Rattle.jffs_node.specs.declared.node.Node.{Node};
 ghost use Rattle.jffs_node.specs.Record.{is_lawful};
 ghost use Rattle.jffs_tree.specs.Origin.{tree_of};
-ghost use Rattle.jffs_tree.specs.After.{keeps_places_in, tree_after, without_inode, put_node, IsSmall, IsWritten};
+ghost use Rattle.jffs_tree.specs.After.{held_in, keeps_places_in, tree_after, without_inode, put_node, IsSmall, IsWritten};
+ghost use Rattle.jffs_tree.specs.Marks.{AreMarksOf, SameMarks, HasMarksIn, MovesMarksIn};
 
 use crate::children::{Place, bears};
 use crate::inode::Inode;
+use crate::marks::Marks;
 use crate::wish::Cause;
 use jffs_node::{Name, Node};
 use std::alloc::{AllocError, Global};
 use std::collections::{BTreeMap, BTreeSet};
 use std::marker::Model;
 
-/// The tree that nodes make: its inodes, and for each where it stands, so that a name is found
-/// without a walk.
+/// The tree that nodes make: its inodes, for each where it stands, so that a name is found
+/// without a walk, and how often each version is live, so that none is counted anew.
 #[derive(Drop)]
 pub struct Tree {
     pub(crate) alloc: Global,
     pub(crate) inodes: BTreeMap<u32, Inode>,
     pub(crate) children: BTreeSet<Place>,
+    pub(crate) marks: Marks,
 }
 
 impl Model for Tree {
@@ -45,6 +48,7 @@ impl Tree {
             alloc,
             inodes: BTreeMap::new(alloc),
             children: BTreeSet::new(alloc),
+            marks: Marks::new(alloc),
         }
     }
 
@@ -76,6 +80,8 @@ impl Tree {
     {
         if let Some(old) = self.inodes.remove(&inode) {
             self.children.remove(&(old.parent, Some(old.name), inode));
+            old.release(inode, &mut self.marks);
+            self.marks.lower(old.newest, inode, 1);
         }
     }
 
@@ -91,7 +97,9 @@ impl Tree {
         let old = self.parent_name(node.inode);
         let place = (node.parent, Some(name), node.inode);
         let is_new = self.children.insert(place)?;
-        if let Err(refused) = write_inode(self.alloc, &mut self.inodes, node, name) {
+        if let Err(refused) =
+            write_marked(self.alloc, &mut self.inodes, &mut self.marks, node, name)
+        {
             if is_new {
                 self.children.remove(&place);
             }
@@ -107,25 +115,85 @@ impl Tree {
     }
 }
 
-/// Writes a node over its inode in a map, present or not.
-fn write_inode(
+/// Writes a node over its inode in a map, present or not, and keeps the marks. Those that the
+/// node brings are added first, so that lowering is all that is left after the write.
+fn write_marked(
     alloc: Global,
     inodes: &mut BTreeMap<u32, Inode>,
+    marks: &mut Marks,
     node: &Node,
     name: Name,
 ) -> Result<(), AllocError>
     requires named { node.now.name ≡ Some name }
     requires small { IsSmall node.now }
     requires places { IsTrue (keeps_places_in inodes.old.entries node.now) }
-    ensures ok { OnOk result (IsWritten inodes.old.entries inodes.new.entries node.now) }
-    ensures err { OnErr result (inodes.new.entries ≡ inodes.old.entries) }
+    requires marked { AreMarksOf inodes.old.entries marks.old }
+    ensures ok { OnOk result (IsWritten inodes.old.entries inodes.new.entries node.now × AreMarksOf inodes.new.entries marks.new) }
+    ensures err { OnErr result ((inodes.new.entries ≡ inodes.old.entries) × SameMarks marks.old marks.new) }
 {
-    if let Some(inode) = inodes.get_mut(&node.inode) {
-        inode.write(node, name)?;
-        return Ok(());
+    let left = newest_of(inodes, node.inode);
+    let brought = node.bytes.as_slice().len() as u32 + 1;
+    marks.raise(node.version, node.inode, brought)?;
+    if let Err(refused) = write_inode(alloc, inodes, marks, node, name) {
+        marks.lower(node.version, node.inode, brought);
+        return Err(refused);
     }
-    let mut inode = Inode::empty(alloc, node, name);
-    inode.write(node, name)?;
-    inodes.insert(node.inode, inode)?;
+    if let Some(version) = left {
+        marks.lower(version, node.inode, 1);
+    }
     Ok(())
+}
+
+/// The newest version of an inode in a map.
+fn newest_of(inodes: &BTreeMap<u32, Inode>, inode: u32) -> Option<u32>
+    ensures { option_map (λ v. Some v) result ≡ option_map (λ h. h.newest) (held_in inodes.now.entries inode) }
+{
+    inodes.get(&inode).map(|found| found.newest)
+}
+
+/// Writes a node over its inode in a map, present or not, and moves the marks of places.
+fn write_inode(
+    alloc: Global,
+    inodes: &mut BTreeMap<u32, Inode>,
+    marks: &mut Marks,
+    node: &Node,
+    name: Name,
+) -> Result<(), AllocError>
+    requires named { node.now.name ≡ Some name }
+    requires small { IsSmall node.now }
+    requires places { IsTrue (keeps_places_in inodes.old.entries node.now) }
+    requires marked { HasMarksIn marks.old node.now inodes.old.entries }
+    ensures ok { OnOk result (IsWritten inodes.old.entries inodes.new.entries node.now × MovesMarksIn marks.old marks.new node.now inodes.old.entries inodes.new.entries) }
+    ensures err { OnErr result ((inodes.new.entries ≡ inodes.old.entries) × SameMarks marks.old marks.new) }
+{
+    if inodes.contains_key(&node.inode) {
+        return write_present(inodes, marks, node, name);
+    }
+    inodes.insert(node.inode, Inode::empty(alloc, node, name))?;
+    if let Err(refused) = write_present(inodes, marks, node, name) {
+        inodes.remove(&node.inode);
+        return Err(refused);
+    }
+    Ok(())
+}
+
+/// Writes a node over its inode in a map, where it is present, and moves the marks of places.
+fn write_present(
+    inodes: &mut BTreeMap<u32, Inode>,
+    marks: &mut Marks,
+    node: &Node,
+    name: Name,
+) -> Result<(), AllocError>
+    requires present { IsSome (held_in inodes.old.entries node.now.inode) }
+    requires named { node.now.name ≡ Some name }
+    requires small { IsSmall node.now }
+    requires places { IsTrue (keeps_places_in inodes.old.entries node.now) }
+    requires marked { HasMarksIn marks.old node.now inodes.old.entries }
+    ensures ok { OnOk result (IsWritten inodes.old.entries inodes.new.entries node.now × MovesMarksIn marks.old marks.new node.now inodes.old.entries inodes.new.entries) }
+    ensures err { OnErr result ((inodes.new.entries ≡ inodes.old.entries) × SameMarks marks.old marks.new) }
+{
+    match inodes.get_mut(&node.inode) {
+        Some(inode) => inode.write(node, name, marks),
+        None => unreachable!(),
+    }
 }

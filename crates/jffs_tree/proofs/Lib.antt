@@ -36,3 +36,5 @@ pub mod Decided
 pub mod Wishes
 pub mod Fragments
 pub mod Splitting
+pub mod Taking
+pub mod Overwriting

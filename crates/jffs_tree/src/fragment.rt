@@ -1,7 +1,8 @@
 //! Fragments: the ranges of a file's bytes that nodes wrote.
 
-ghost use Rattle.std.specs.Prelude.{◌≡◌, ◌≤◌, ◌<◌, ◌+◌, ◌==◌, ℕ, length, Some, OnOk, OnErr, IfSome, IfNone, if◌then◌else◌};
-ghost use Rattle.std.specs.BTreeMap.{get, insert_entry};
+ghost use Rattle.std.specs.Prelude.{◌≡◌, ◌≤◌, ◌<◌, ◌+◌, ◌==◌, ℕ, length, Some, OnOk, OnErr, IsSome, IfSome, IfNone, if◌then◌else◌};
+ghost use Rattle.std.specs.BTreeMap.{get, insert_entry, is_at};
+ghost use Rattle.std.specs.Map.{remove_entry};
 ghost use Rattle.std.specs.Ordering.{nat_cmp};
 ghost use Rattle.jffs_node.specs.Record.{file_max};
 ghost use Rattle.jffs_tree.specs.Marks.{mark_of, brought_by};
@@ -114,9 +115,21 @@ pub(crate) fn take_out(fragments: &mut Fragments, from: u32, to: u32, inode: u32
     ensures moved { MovesAmounts marks.old marks.new inode fragments.old.entries fragments.new.entries }
 {
     while let Some(first) = first_between(fragments, from, to) {
-        if let Some(gone) = fragments.remove(&first) {
-            marks.lower(gone.writer, inode, gone.len());
-        }
+        take_one(fragments, first, inode, marks);
+    }
+}
+
+/// Takes the fragment out that begins at an offset, and its marks.
+fn take_one(fragments: &mut Fragments, first: u32, inode: u32, marks: &mut Marks)
+    requires short { AreShort fragments.old.entries }
+    requires marked { HasAmounts marks.old inode fragments.old.entries }
+    requires there { IsSome (get nat_cmp fragments.old first) }
+    ensures left { fragments.new.entries ≡ remove_entry (is_at (nat_cmp first)) fragments.old.entries }
+    ensures fewer { length fragments.new.entries < length fragments.old.entries }
+    ensures moved { MovesAmounts marks.old marks.new inode fragments.old.entries fragments.new.entries }
+{
+    if let Some(gone) = fragments.remove(&first) {
+        marks.lower(gone.writer, inode, gone.len());
     }
 }
 
@@ -151,7 +164,7 @@ pub(crate) fn overwrite(
 ) -> Result<(), AllocError>
     requires laid { AreLaid 0 file_max fragments.old.entries }
     requires range { (node.now.offset + length node.now.bytes ≤ end) × (end ≤ file_max) }
-    requires marked { HasAmounts marks.old node.now.inode fragments.old.entries }
+    requires marked { (v : ℕ) → amount_by v fragments.old.entries + brought_by v node.now ≤ mark_of marks.old v node.now.inode }
     ensures ok { OnOk result (fragments.new.entries ≡ overwritten end node.now fragments.old.entries) }
     ensures moved { OnOk result ((v i : ℕ) → mark_of marks.new v i + (if i == node.now.inode then amount_by v fragments.old.entries + brought_by v node.now else 0) ≡ mark_of marks.old v i + (if i == node.now.inode then amount_by v fragments.new.entries else 0)) }
     ensures err { OnErr result ((fragments.new.entries ≡ fragments.old.entries) × (marks.new ≡ marks.old)) }

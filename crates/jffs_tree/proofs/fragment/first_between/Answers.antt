@@ -1,0 +1,9 @@
+use Rattle.std.proofs.Common.{◌∙◌, sym}
+use Rattle.jffs_tree.proofs.Taking.{none_from_here, first_too_late}
+use Rattle.jffs_tree.proofs.fragment.first_between.Goals as goal
+
+pub returns-in_default-clause-none : goal.returns-in_default-clause-none
+returns-in_default-clause-none c = none_from_here c.args.from c.args.to c.args.fragments.now.entries (sym (c.range-later.ensures.between tt) ∙ c.in_default.ensures.steps.0)
+
+pub returns-else-first-to-clause-none : goal.returns-else-first-to-clause-none
+returns-else-first-to-clause-none c = first_too_late c.args.from c.args.to c.args.fragments.now.entries _ _ _ c.range-later.ensures.ordered (sym (c.range-later.ensures.between tt) ∙ c.in-Some.ensures.steps) c.if-first-to.false

@@ -1,0 +1,55 @@
+use Rattle.std.proofs.Common.{◌≡◌, ◌≤◌, ◌+◌, ◌∙◌, ◌<◌, ℕ, List, length, cond, eqb, refl, sym, ap, subst, arith, nat_cmp}
+use Rattle.std.specs.BTreeMap.{insert_entry}
+use Rattle.std.proofs.lemmas.Bool.{eq-eqb, eqb-false}
+use Rattle.jffs_node.specs.Record.{file_max}
+use Rattle.jffs_tree.specs.declared.fragment.Fragment.{Fragment}
+use Rattle.jffs_tree.specs.Marks.{mark_of, brought_by}
+use Rattle.jffs_tree.specs.Fragments.{Fragments, AreShort, HasAmounts, outside, part_by, amount_by}
+use Rattle.jffs_tree.proofs.Overwriting.{short_from_laid, short_inserted, outside_parts, insert_outside, no_data, some_data, brought_part}
+use Rattle.jffs_tree.proofs.fragment.overwrite.Goals as goal
+
+pub take_out-requires-clause-short : goal.take_out-requires-clause-short
+take_out-requires-clause-short c = short_from_laid 0 file_max c.args.fragments.now.entries c.requires.laid (omega arith)
+
+pub returns-then-is_empty-clause-ok : goal.returns-then-is_empty-clause-ok
+returns-then-is_empty-clause-ok c =
+    c.take_out.ensures.left
+    ∙ outside_parts 0 file_max c.args.node.now.offset c.args.end c.args.fragments.now.entries c.requires.laid (omega arith)
+    ∙ sym (no_data c.args.end c.args.node.now c.args.fragments.now.entries (sym c.if-is_empty.ensures))
+
+pub put-requires-clause-short : goal.put-requires-clause-short
+put-requires-clause-short c = short_from_laid 0 file_max c.args.fragments.now.entries c.requires.laid (omega arith)
+
+pub take_out-requires-2-clause-short : goal.take_out-requires-2-clause-short
+take_out-requires-2-clause-short c =
+    let same : length c.in_ok-shared.field-0 ≡ length c.args.node.now.bytes = ap (λ (x : List ℕ). length x) c.in_ok-shared.ensures.same in
+    let range = c.requires.range in
+    subst AreShort (sym c.in_ok-put.ensures.ok)
+    (short_inserted c.args.node.now.offset (record { bytes = c.in_ok-shared.field-0; writer = c.args.node.now.version }) c.args.fragments.now.entries
+    (short_from_laid 0 file_max c.args.fragments.now.entries c.requires.laid (omega arith)) (omega arith))
+
+pub take_out-requires-2-clause-marked : goal.take_out-requires-2-clause-marked
+take_out-requires-2-clause-marked c = λ v.
+    let i = c.args.node.now.inode in
+    let part : Fragment = record { bytes = c.in_ok-shared.field-0; writer = c.args.node.now.version } in
+    let was = amount_by v c.args.fragments.now.entries in
+    let now = amount_by v c.put.new.fragments.entries in
+    let t = eq-eqb i i refl in
+    let moved = c.in_ok-put.ensures.moved v i in
+    let a : cond (eqb i i) (was + part_by v part) 0 ≡ was + part_by v part = ap (λ b. cond b (was + part_by v part) 0) t in
+    let b : cond (eqb i i) now 0 ≡ now = ap (λ b. cond b now 0) t in
+    let same : part_by v part ≡ brought_by v c.args.node.now =
+      ap (λ (x : List ℕ). part_by v (record { bytes = x; writer = c.args.node.now.version })) c.in_ok-shared.ensures.same ∙ brought_part v c.args.node.now in
+    let has = c.requires.marked v in
+    omega arith
+
+pub returns-clause-ok : goal.returns-clause-ok
+returns-clause-ok c =
+    let whole : Fragment = record { bytes = c.args.node.now.bytes; writer = c.args.node.now.version } in
+    let some = eqb-false (length c.args.node.now.bytes) 0 (sym c.if-is_empty.ensures) in
+    let range = c.requires.range in
+    let past : c.args.node.now.offset < c.args.end = omega arith in
+    c.take_out-2.ensures.left
+    ∙ ap (outside (c.args.node.now.offset + 1) c.args.end) (c.in_ok-put.ensures.ok ∙ ap (λ (b : List ℕ). insert_entry nat_cmp c.args.fragments.now.entries c.args.node.now.offset (record { bytes = b; writer = c.args.node.now.version })) c.in_ok-shared.ensures.same)
+    ∙ insert_outside 0 file_max c.args.node.now.offset c.args.end whole c.args.fragments.now.entries c.requires.laid past
+    ∙ sym (some_data c.args.end c.args.node.now c.args.fragments.now.entries (sym c.if-is_empty.ensures))

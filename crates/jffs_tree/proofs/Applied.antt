@@ -32,10 +32,15 @@ no_size : (n : Node) (o : Option ℕ) → option_map_or (λ size. leb size file_
 no_size n None h = omega arith
 no_size n (Some k) h = leb-true k file_max (and_parts _ _ h).0
 
+data_inside : (n : Node) (o : Option ℕ) → option_map_or (λ k. leb k file_max && leb (n.offset + dsize n) k) o true ≡ true → IfSome o (λ k. n.offset + dsize n ≤ k)
+data_inside n None h = tt
+data_inside n (Some k) h = leb-true (n.offset + dsize n) k (and_parts _ _ h).1
+
 pub small : (n : Node) → is_lawful n ≡ true → IsSmall n
 small n h = record {
   range = range n h;
   size = no_size n n.size (rules_of n h).size;
+  inside = data_inside n n.size (rules_of n h).size;
 }
 
 -- By what the node is, the tree after it.

@@ -38,3 +38,4 @@ pub mod Fragments
 pub mod Splitting
 pub mod Taking
 pub mod Overwriting
+pub mod SameCells

@@ -1,5 +1,5 @@
 -- What one more node makes of a tree.
-use Rattle.std.specs.Prelude.{◌≡◌, ◌≤◌, ℕ, Bool, IsTrue, true, not, ◌&&◌, ◌||◌, ◌==◌, nat_le, ◌+◌, ◌-◌, List, [], ◌++◌, length, take, drop, replicate, Option, Some, None, option_map, unwrap_or, is_some, if◌then◌else◌}
+use Rattle.std.specs.Prelude.{◌≡◌, ◌≤◌, ℕ, Bool, IsTrue, true, not, ◌&&◌, ◌||◌, ◌==◌, nat_le, ◌+◌, ◌-◌, List, [], ◌++◌, length, take, drop, replicate, Option, Some, None, IfSome, option_map, unwrap_or, is_some, if◌then◌else◌}
 use Rattle.std.specs.FinMap.Entries as entries
 use Rattle.std.specs.Ordering.{nat_cmp}
 use Rattle.jffs_node.specs.declared.node.Node.{Node}
@@ -64,7 +64,8 @@ pub record IsWritten (old new : Tree) (n : Node) : Type 0 where
   pub ordered : IsTrue (entries.is_sorted nat_cmp new)
   pub found : (i : ℕ) → held_in new i ≡ (if n.inode == i then Some (held_after n (held_in old i)) else held_in old i)
 
--- It makes no file too long.
+-- It makes no file too long, and the size that it states reaches its data.
 pub record IsSmall (n : Node) : Type 0 where
   pub range : n.offset + dsize n ≤ file_max
   pub size : unwrap_or n.size 0 ≤ file_max
+  pub inside : IfSome n.size (λ s. n.offset + dsize n ≤ s)

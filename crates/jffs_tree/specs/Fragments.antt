@@ -1,5 +1,5 @@
 -- A file as its fragments: ranges of offsets, each written by one node. What no node wrote (a hole, padding) is in none.
-use Rattle.std.specs.Prelude.{◌≡◌, ◌<◌, ◌≤◌, ◌⊎◌, ℕ, ◌+◌, ◌-◌, not, ◌&&◌, ◌==◌, nat_le, nat_lt, List, [], ◌∷◌, ◌++◌, length, map, replicate, sum_by, Option, Some, None, if◌then◌else◌}
+use Rattle.std.specs.Prelude.{◌≡◌, ◌<◌, ◌≤◌, ◌⊎◌, ℕ, ◌+◌, ◌-◌, not, ◌&&◌, ◌==◌, nat_le, nat_lt, List, [], ◌∷◌, ◌++◌, length, map, replicate, take, drop, sum_by, Option, Some, None, if◌then◌else◌}
 use Rattle.std.specs.List.{AllByRecursion, filter}
 use Rattle.std.specs.Map.{values_of}
 use Rattle.jffs_node.specs.declared.node.Node.{Node}
@@ -42,6 +42,14 @@ AreLaid at size (e ∷ es) = (at ≤ e.0) × (0 < length e.1.bytes) × AreLaid (
 -- no fragment reaches across the offset
 abbrev pub AreCut : ℕ → Fragments → Type 0
 AreCut p es = AllByRecursion (λ e. (end_of e ≤ p) ⊎ (p ≤ e.0)) es
+
+-- no fragment holds the offset
+abbrev pub NoneHolds : ℕ → Fragments → Type 0
+NoneHolds p es = AllByRecursion (λ e. (end_of e ≤ p) ⊎ (p < e.0)) es
+
+-- From an offset on a file of these fragments has these bytes, where it is long enough.
+abbrev pub Says : Fragments → ℕ → List ℕ → Type 0
+Says es at bytes = (size : ℕ) → AreLaid 0 size es → at + length bytes ≤ size → take (length bytes) (drop at (map byte_of (laid 0 size es))) ≡ bytes
 
 -- those that begin before an offset, from one on, and outside a range
 abbrev pub before : ℕ → Fragments → Fragments

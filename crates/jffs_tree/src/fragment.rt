@@ -1,6 +1,6 @@
 //! Fragments: the ranges of a file's bytes that nodes wrote.
 
-ghost use Rattle.std.specs.Prelude.{◌≡◌, ◌≤◌, ◌<◌, ◌+◌, ◌==◌, ℕ, length, Some, OnOk, OnErr, IsSome, IfSome, IfNone, if◌then◌else◌};
+ghost use Rattle.std.specs.Prelude.{◌≡◌, ◌≤◌, ◌<◌, ◌+◌, ◌==◌, ℕ, length, [], Some, OnOk, OnErr, IsSome, IfSome, IfNone, if◌then◌else◌};
 ghost use Rattle.std.specs.BTreeMap.{get, insert_entry, is_at};
 ghost use Rattle.std.specs.Map.{remove_entry};
 ghost use Rattle.std.specs.Ordering.{nat_cmp};
@@ -95,9 +95,27 @@ pub(crate) fn split_at(fragments: &mut Fragments, at: u32) -> Result<(), AllocEr
     Ok(())
 }
 
+/// Cuts the fragments at both ends of what a node writes and at the size that it states, so that
+/// only whole ones are to be taken out. Where an allocation failed, the file reads as before.
+pub(crate) fn make_cuts(fragments: &mut Fragments, node: &Node, end: u32) -> Result<(), AllocError>
+    requires laid { AreLaid 0 file_max fragments.old.entries }
+    ensures same { SameCells fragments.old.entries fragments.new.entries }
+    ensures offset { OnOk result (AreCut node.now.offset fragments.new.entries) }
+    ensures end { OnOk result (AreCut end fragments.new.entries) }
+    ensures size { OnOk result (IfSome node.now.size (λ s. AreCut s fragments.new.entries)) }
+{
+    split_at(fragments, node.offset)?;
+    split_at(fragments, end)?;
+    if let Some(size) = node.size {
+        split_at(fragments, size)?;
+    }
+    Ok(())
+}
+
 /// The first offset, from one on and before another, at which a fragment begins.
-fn first_between(fragments: &Fragments, from: u32, to: u32) -> Option<u32>
+pub(crate) fn first_between(fragments: &Fragments, from: u32, to: u32) -> Option<u32>
     ensures there { IfSome result (λ first. (f : Fragment) × (get nat_cmp fragments.now first ≡ Some f) × (from ≤ first) × (first < to)) }
+    ensures least { IfSome result (λ first. outside from first fragments.now.entries ≡ fragments.now.entries) }
     ensures none { IfNone result (outside from to fragments.now.entries ≡ fragments.now.entries) }
 {
     let mut later = fragments.range(from..);
@@ -180,4 +198,15 @@ pub(crate) fn overwrite(
     put(fragments, node.offset, fragment, node.inode, marks)?;
     take_out(fragments, node.offset + 1, end, node.inode, marks);
     Ok(())
+}
+
+/// Takes the marks of all fragments of an inode away, and leaves the fragments.
+pub(crate) fn lower_all(fragments: &Fragments, inode: u32, marks: &mut Marks)
+    requires short { AreShort fragments.now.entries }
+    requires marked { HasAmounts marks.old inode fragments.now.entries }
+    ensures { MovesAmounts marks.old marks.new inode fragments.now.entries [] }
+{
+    for (_, fragment) in fragments.iter() {
+        marks.lower(fragment.writer, inode, fragment.len());
+    }
 }

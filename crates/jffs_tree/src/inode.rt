@@ -1,4 +1,4 @@
-//! One inode in the plain representation: its bytes beside the versions of their last writers.
+//! One inode: its place in the tree, and a file's bytes as the fragments that nodes wrote.
 
 ghost use Rattle.std.specs.Prelude.{◌≡◌, ◌≢◌, ◌==◌, ◌&&◌, ◌+◌, ◌-◌, ◌≤◌, ◌++◌, [], Some, None, false, is_some, min, length, take, drop, OnOk, OnErr, bytes_eq, slice_index_or};
 ghost use Rattle.std.specs.List.{list_all};
@@ -8,21 +8,27 @@ ghost use Rattle.jffs_tree.specs.Marks.{HasMarks, MovesMarks, SameMarks, HasPlac
 ghost use Rattle.jffs_tree.specs.Check.{bytes_are_written};
 ghost use Rattle.jffs_tree.specs.Decide.{is_current};
 
-use crate::cells::{open_range, overwrite, reserve_length, set_length, sign};
+use crate::fragment::{Fragments, lower_all, make_cuts, overwrite, take_out};
 use crate::marks::Marks;
-use jffs_node::{Kind, Name, Node};
+use crate::piece::{are_whole, copy_piece, writer_at};
+use jffs_node::{FILE_MAX, Kind, Name, Node};
 use std::alloc::{AllocError, Global};
+use std::collections::BTreeMap;
 use std::marker::Model;
 
-/// What a tree keeps of an inode: for each place its byte and the version of its last
-/// writer, and the newest node's version and form.
+/// How many bytes are compared at a time.
+const CHUNK: usize = 256;
+
+/// What a tree keeps of an inode: its size, the fragments of its bytes with the version that
+/// wrote each, and the newest node's version and form.
 #[derive(Drop)]
 pub(crate) struct Inode {
     pub(crate) kind: Kind,
     pub(crate) parent: u32,
     pub(crate) name: Name,
-    bytes: Vec<u8>,
-    writers: Vec<Option<u32>>,
+    // In bytes. What no fragment holds is zero.
+    size: u32,
+    fragments: Fragments,
     pub(crate) newest: u32,
     states_size: bool,
 }
@@ -48,8 +54,8 @@ impl Inode {
             kind: node.kind,
             parent: node.parent,
             name,
-            bytes: Vec::new(alloc),
-            writers: Vec::new(alloc),
+            size: 0,
+            fragments: BTreeMap::new(alloc),
             newest: node.version,
             states_size: false,
         }
@@ -71,24 +77,16 @@ impl Inode {
         ensures marks { OnOk result (MovesMarks marks.old marks.new node.now self.old self.new) }
         ensures err { OnErr result ((self.new ≡ self.old) × SameMarks marks.old marks.new) }
     {
-        let offset = node.offset as usize;
-        let removed = node.rsize as usize;
-        let data = node.bytes.as_slice();
-        let end = offset + data.len();
-        let longest = end.max(node.size.unwrap_or(0) as usize);
-        reserve_length(&mut self.bytes, longest)?;
-        reserve_length(&mut self.writers, longest)?;
-        let behind = self.writers.len().min(offset + removed);
-        lower_marks(&self.writers[behind.min(offset)..behind], node.inode, marks);
-        open_range(&mut self.bytes, offset, removed, data.len(), 0);
-        open_range(&mut self.writers, offset, removed, data.len(), None);
-        overwrite(&mut self.bytes, offset, data);
-        sign(&mut self.writers, offset, data.len(), node.version);
+        let amount = node.bytes.len() as u32;
+        let moves = amount != node.rsize;
+        let end = if moves { FILE_MAX } else { node.offset + amount };
+        make_cuts(&mut self.fragments, node, end)?;
+        overwrite(&mut self.fragments, node, end, marks)?;
+        let reached = node.offset + amount;
+        self.size = if moves { reached } else { reached.max(self.size) };
         if let Some(size) = node.size {
-            let cut = self.writers.len().min(size as usize);
-            lower_marks(&self.writers[cut..], node.inode, marks);
-            set_length(&mut self.bytes, size as usize, 0);
-            set_length(&mut self.writers, size as usize, None);
+            take_out(&mut self.fragments, size, FILE_MAX, node.inode, marks);
+            self.size = size;
         }
         self.kind = node.kind;
         self.parent = node.parent;
@@ -103,55 +101,63 @@ impl Inode {
         requires { HasPlaces marks.old inode self.now }
         ensures { LosesPlaces marks.old marks.new inode self.now }
     {
-        lower_marks(&self.writers, inode, marks);
+        lower_all(&self.fragments, inode, marks);
     }
 
     /// How many bytes.
     pub(crate) fn size(&self) -> u32
         ensures { result ≡ length self.now.entry.bytes }
     {
-        self.bytes.len() as u32
+        self.size
     }
 
-    /// Reads bytes from a place on, as many as there are and as the slice takes.
+    /// Reads bytes from an offset on, as many as there are and as the slice takes.
     pub(crate) fn read(&self, offset: usize, out: &mut [u8]) -> usize
         ensures count { result ≡ min (length out.old) (length self.now.entry.bytes - offset) }
         ensures read { out.new ≡ take result (drop offset self.now.entry.bytes) ++ drop result out.old }
     {
-        let offset = self.bytes.len().min(offset);
-        let count = out.len().min(self.bytes.len() - offset);
-        out[..count].copy_from_slice(&self.bytes[offset..offset + count]);
+        let size = self.size as usize;
+        let start = offset.min(size);
+        let count = out.len().min(size - start);
+        let mut done = 0;
+        while done < count {
+            done += copy_piece(&self.fragments, (start + done) as u32, &mut out[done..count]);
+        }
         count
     }
 
-    /// The version of a place's last writer.
-    pub(crate) fn writer(&self, place: usize) -> Option<u32>
+    /// The version that wrote the byte at an offset, if one did.
+    pub(crate) fn writer(&self, place: u32) -> Option<u32>
         ensures { result ≡ slice_index_or self.now.writers place None }
     {
-        if place < self.writers.len() {
-            self.writers[place]
-        } else {
-            None
-        }
+        writer_at(&self.fragments, self.size, place)
     }
 
     /// Whether each byte has a last writer, or the newest node states the size.
     pub(crate) fn is_written(&self) -> bool
         ensures { result ≡ bytes_are_written self.now }
     {
-        self.states_size || all_named(&self.writers)
+        self.states_size || are_whole(&self.fragments, self.size)
     }
 
     /// Whether its bytes from the offset on begin with these.
     pub(crate) fn is_current(&self, offset: u32, bytes: &[u8]) -> bool
         ensures { result ≡ is_current self.now.entry offset bytes.now }
     {
-        let offset = offset as usize;
-        if self.bytes.len() < offset {
+        if self.size < offset || ((self.size - offset) as usize) < bytes.len() {
             return false;
         }
-        let rest = &self.bytes[offset..];
-        &rest[..rest.len().min(bytes.len())] == bytes
+        let mut chunk = [0u8; CHUNK];
+        let mut done = 0;
+        while done < bytes.len() {
+            let count = CHUNK.min(bytes.len() - done);
+            self.read(offset as usize + done, &mut chunk[..count]);
+            if chunk[..count] != bytes[done..done + count] {
+                return false;
+            }
+            done += count;
+        }
+        true
     }
 
     /// Whether it stands in that directory under that name.
@@ -162,21 +168,6 @@ impl Inode {
     }
 }
 
-/// Takes the mark of each of these places away.
-fn lower_marks(writers: &[Option<u32>], inode: u32, marks: &mut Marks) {
-    for writer in writers {
-        if let Some(version) = writer {
-            marks.lower(*version, inode, 1);
-        }
-    }
-}
-
-fn all_named(writers: &[Option<u32>]) -> bool
-    ensures { result ≡ list_all (λ w. is_some w) writers.now }
-{
-    writers.iter().all(|writer| writer.is_some())
-}
-
 impl Clone for Inode {
     ghost is_clone = { λ old new. new ≡ old };
 
@@ -185,8 +176,8 @@ impl Clone for Inode {
             kind: self.kind,
             parent: self.parent,
             name: self.name,
-            bytes: self.bytes.clone()?,
-            writers: self.writers.clone()?,
+            size: self.size,
+            fragments: self.fragments.clone()?,
             newest: self.newest,
             states_size: self.states_size,
         })

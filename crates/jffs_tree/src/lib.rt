@@ -7,7 +7,6 @@
 //! is proved against the definitions in `specs/`; the laws over those stand in `laws`.
 #![tactic(auto)]
 
-mod cells;
 mod check;
 mod children;
 mod cleaning;
@@ -21,6 +20,7 @@ mod laws;
 mod look;
 mod marks;
 mod names;
+mod piece;
 #[cfg(test)]
 mod tests;
 mod tree;

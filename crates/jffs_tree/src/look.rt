@@ -63,7 +63,7 @@ impl Tree {
         ensures past_end { (past : List Node) → self.now ≡ tree_of past → size_in past inode ≤ place → result ≡ None }
     {
         match self.inode(inode) {
-            Some(found) => found.writer(place as usize),
+            Some(found) => found.writer(place),
             None => None,
         }
     }

@@ -1,0 +1,14 @@
+-- Fragments that say the same of all places.
+use Rattle.std.proofs.Common.{◌≡◌, refl, sym, ◌∙◌}
+use Rattle.jffs_tree.specs.Fragments.{Fragments, AreLaid, AreCut, SameCells}
+
+pub same_cells : (es : Fragments) → SameCells es es
+same_cells es = record { stay = λ size h. h; cells = λ size h. refl; amounts = λ v. refl; cuts = λ q h. h }
+
+pub same_then : (a b c : Fragments) → SameCells a b → SameCells b c → SameCells a c
+same_then a b c p q = record {
+  stay = λ size h. q.stay size (p.stay size h);
+  cells = λ size h. q.cells size (p.stay size h) ∙ p.cells size h;
+  amounts = λ v. q.amounts v ∙ p.amounts v;
+  cuts = λ k h. q.cuts k (p.cuts k h);
+}

@@ -1,15 +1,15 @@
 -- The marks of a tree, after one more node.
-use Rattle.std.proofs.Common.{◌≡◌, ℕ, ◌+◌, ◌≤◌, Bool, true, false, cond, ◌&&◌, eqb, ◌∷◌, [], map, length, flat_map, count_by, Option, Some, None, option_map, refl, sym, ap, subst, ◌∙◌, arith, ⊎_elim}
+use Rattle.std.proofs.Common.{◌≡◌, ℕ, ◌+◌, ◌≤◌, Bool, true, false, cond, ◌&&◌, eqb, leb, List, ◌∷◌, [], map, length, flat_map, count_by, is_some, Option, Some, None, option_map, refl, sym, ap, subst, ◌∙◌, arith, ⊎_elim}
 use Rattle.std.specs.Option.{option_map_or, option_to_list, unwrap_or}
 use Rattle.std.specs.List.{sum_by}
-use Rattle.std.proofs.lemmas.Bool.{cases_Bool, eqb-true, eq-eqb}
+use Rattle.std.proofs.lemmas.Bool.{cases_Bool, eqb-true, eq-eqb, or_right, le-leb}
 use Rattle.std.proofs.lemmas.Option.{same_Some}
 use Rattle.std.proofs.lemmas.List.Sums.{sum_by-append, sum_by-cons}
 use Rattle.jffs_node.specs.declared.node.Node.{Node}
 use Rattle.jffs_node.specs.Record.{dsize}
 use Rattle.jffs_tree.specs.Origin.{Held, Tree, versions_held}
-use Rattle.jffs_tree.specs.After.{held_in, held_after, without_inode, IsWritten}
-use Rattle.jffs_tree.specs.Marks.{Counts, mark_of, HaveMore, SameMarks, places_by, brought_by, places_in, HasMarksIn, MovesMarksIn, HasPlaces, LosesPlaces, held_marks, AreMarksOf}
+use Rattle.jffs_tree.specs.After.{held_in, held_after, keeps_places_in, without_inode, IsWritten}
+use Rattle.jffs_tree.specs.Marks.{Counts, mark_of, HaveMore, SameMarks, places_by, brought_by, places_in, HasMarks, MovesMarks, HasMarksIn, MovesMarksIn, HasPlaces, LosesPlaces, held_marks, AreMarksOf}
 use Rattle.jffs_tree.proofs.Marking.{turned}
 use Rattle.jffs_tree.proofs.Pointwise.{find_without}
 
@@ -123,7 +123,7 @@ module _ (old : Tree) (n : Node) (m0 m1 : Counts) (marked : AreMarksOf old m0) (
       has_newest =
           let e = here k in
           let f = newest_is old k n.inode k was in
-          let g : cond (eqb k k) 1 0 ≡ 1 = ap (λ b. cond b 1 0) (eq-eqb k k refl) in
+          let g : ◌≡◌ {A = ℕ} (cond (eqb k k) 1 0) 1 = ap (λ b. cond b 1 0) (eq-eqb k k refl) in
           omega (arith, e, f, g)
 
       pub of_old : (m3 : Counts) → HaveMore m3 m2 k n.inode 1 → AreMarksOf new m3
@@ -189,7 +189,7 @@ module _ (old : Tree) (i : ℕ) (h : Held) (k : ℕ) (is : held_in old i ≡ Som
         omega (arith, e, f)
 
     pub one_left : 1 ≤ mark_of m1 k i
-    one_left = let e = lost_here k in let g : cond (eqb k k) 1 0 ≡ 1 = ap (λ b. cond b 1 0) (eq-eqb k k refl) in omega (arith, e, g)
+    one_left = let e = lost_here k in let g : ◌≡◌ {A = ℕ} (cond (eqb k k) 1 0) 1 = ap (λ b. cond b 1 0) (eq-eqb k k refl) in omega (arith, e, g)
 
     pub of_removed : (m2 : Counts) → HaveMore m2 m1 k i 1 → AreMarksOf (without_inode old i) m2
     of_removed m2 less v j = ⊎_elim
@@ -217,3 +217,103 @@ module _ (old : Tree) (i : ℕ) (h : Held) (k : ℕ) (is : held_in old i ≡ Som
         none : (b : Bool) (m : ℕ) → m + cond (b && false) 1 0 ≡ m + 0
         none true m = refl
         none false m = refl
+
+-- A value that counts only where a test holds.
+under : (b : Bool) (x y : ℕ) → (b ≡ true → x ≡ y) → cond b x 0 ≡ cond b y 0
+under true x y h = h refl
+under false x y h = refl
+
+-- An inode that is present, written in place.
+module _ (old : Tree) (n : Node) (h : Held) (is : held_in old n.inode ≡ Some h) (m : Counts) where
+  places_are : (tree : Tree) (x : Held) → held_in tree n.inode ≡ Some x → (v : ℕ) → places_in tree v n.inode ≡ places_by v x
+  places_are tree x at v = ap (λ o. option_map_or (λ y. places_by v y) o 0) at
+
+  pub has_own : HasMarksIn m n old → HasMarks m n h
+  has_own has v = let e = has v in let f = places_are old h is v in omega (arith, e, f)
+
+  pub moved_own : (new : Tree) (x : Held) (k : Counts) → held_in new n.inode ≡ Some x → MovesMarks m k n h x → MovesMarksIn m k n old new
+  moved_own new x k at moved v i =
+      let e = moved v i in
+      let f = under (eqb i n.inode) (places_in old v i + brought_by v n) (places_by v h + brought_by v n)
+      (λ same. ap (λ j. places_in old v j + brought_by v n) (eqb-true i n.inode same) ∙ ap (λ p. p + brought_by v n) (places_are old h is v)) in
+      let g = under (eqb i n.inode) (places_in new v i) (places_by v x) (λ same. ap (λ j. places_in new v j) (eqb-true i n.inode same) ∙ places_are new x at v) in
+      omega (arith, e, f, g)
+
+-- An inode that is new, entered without bytes first.
+module _ (old first : Tree) (n : Node) (e : Held) (bare : e.writers ≡ []) (none : held_in old n.inode ≡ None)
+    (entered : (i : ℕ) → held_in first i ≡ cond (eqb n.inode i) (Some e) (held_in old i)) where
+  entered_here : held_in first n.inode ≡ Some e
+  entered_here = entered n.inode ∙ ap (λ b. cond b (Some e) (held_in old n.inode)) (eq-eqb n.inode n.inode refl)
+
+  pub is_entered : is_some (held_in first n.inode) ≡ true
+  is_entered = ap (λ o. is_some o) entered_here
+
+  no_places : (v : ℕ) → places_in first v n.inode ≡ places_in old v n.inode
+  no_places v =
+      ap (λ o. option_map_or (λ h. places_by v h) o 0) entered_here
+      ∙ ap (λ ws. count_by (λ w. eqb w v) (flat_map option_to_list ws)) bare
+      ∙ sym (ap (λ o. option_map_or (λ h. places_by v h) o 0) none)
+
+  pub has_entered : (m : Counts) → HasMarksIn m n old → HasMarksIn m n first
+  has_entered m has v = let a = has v in let b = no_places v in omega (arith, a, b)
+
+  pub moved_entered : (new : Tree) (m k : Counts) → MovesMarksIn m k n first new → MovesMarksIn m k n old new
+  moved_entered new m k moved v i =
+      let a = moved v i in
+      let f = under (eqb i n.inode) (places_in first v i + brought_by v n) (places_in old v i + brought_by v n)
+      (λ same. let at = eqb-true i n.inode same in ap (λ j. places_in first v j + brought_by v n) at ∙ ap (λ p. p + brought_by v n) (no_places v) ∙ ap (λ j. places_in old v j + brought_by v n) (sym at)) in
+      omega (arith, a, f)
+
+  pub keeps_entered : e.entry.bytes ≡ [] → keeps_places_in first n ≡ true
+  keeps_entered empty =
+      or_right (eqb (dsize n) n.rsize) _
+      (ap (λ o. leb (length (unwrap_or (option_map (λ h. h.entry.bytes) o) [])) (n.offset + n.rsize)) entered_here
+      ∙ ap (λ (x : List ℕ). leb (length x) (n.offset + n.rsize)) empty
+      ∙ le-leb 0 (n.offset + n.rsize) (omega arith))
+
+  pub written_entered : held_after n (Some e) ≡ held_after n None → (new : Tree) → IsWritten first new n → IsWritten old new n
+  written_entered alike new w = record {
+    ordered = w.ordered;
+    found = λ i. w.found i ∙ ⊎_elim
+        (λ same.
+        let at = eqb-true n.inode i same in
+        ap (λ b. cond b (Some (held_after n (held_in first i))) (held_in first i)) same
+        ∙ ap (λ j. Some (held_after n (held_in first j))) (sym at) ∙ ap (λ o. Some (held_after n o)) entered_here ∙ ap (λ h. Some h) alike
+        ∙ ap (λ o. Some (held_after n o)) (sym none) ∙ ap (λ j. Some (held_after n (held_in old j))) at
+        ∙ sym (ap (λ b. cond b (Some (held_after n (held_in old i))) (held_in old i)) same))
+        (λ other.
+        ap (λ b. cond b (Some (held_after n (held_in first i))) (held_in first i)) other
+        ∙ entered i ∙ ap (λ b. cond b (Some e) (held_in old i)) other
+        ∙ sym (ap (λ b. cond b (Some (held_after n (held_in old i))) (held_in old i)) other))
+        (cases_Bool (eqb n.inode i));
+  }
+
+-- No version has more marks in an inode than it has places, and one.
+few_places : (v : ℕ) (ws : List (Option ℕ)) → count_by (λ w. eqb w v) (flat_map option_to_list ws) ≤ length ws
+few_places v [] = omega arith
+few_places v (None ∷ ws) = let rest = few_places v ws in omega (arith, rest)
+few_places v (Some w ∷ ws) =
+    let rest = few_places v ws in
+    let e = sum_by-cons (λ x. cond (eqb x v) 1 0) w (flat_map option_to_list ws) in
+    let one = at_most_one (eqb w v) in
+    omega (arith, rest, e, one)
+  where
+    at_most_one : (b : Bool) → cond b 1 0 ≤ 1
+    at_most_one true = omega arith
+    at_most_one false = omega arith
+
+pub few_marks : (tree : Tree) (v i : ℕ) (h : Held) (k most : ℕ) → held_in tree i ≡ Some h → h.newest ≡ Some k → length h.writers ≤ most → held_marks tree v i ≤ most + 1
+few_marks tree v i h k most is newest small =
+    let e = in_parts tree v i in
+    let f = newest_is tree v i k (ap (λ o. option_map (λ x. x.newest) o) is ∙ ap (λ o. Some o) newest) in
+    let g = few_places v h.writers in
+    let p : places_in tree v i ≡ places_by v h = ap (λ o. option_map_or (λ x. places_by v x) o 0) is in
+    let one = at_most_one (eqb v k) in
+    omega (arith, small, e, f, g, p, one)
+  where
+    at_most_one : (b : Bool) → cond b 1 0 ≤ 1
+    at_most_one true = omega arith
+    at_most_one false = omega arith
+
+pub no_marks_there : (tree : Tree) (v i : ℕ) → held_in tree i ≡ None → held_marks tree v i ≡ 0
+no_marks_there tree v i is = ap (λ (o : Option Held). option_map_or (λ h. count_by (λ w. eqb w v) (versions_held (i, h))) o 0) is

@@ -12,7 +12,7 @@ use Rattle.std.proofs.lemmas.Option.{same_Some}
 use Rattle.jffs_tree.specs.Origin.{Held, Tree, versions_held, holder}
 use Rattle.jffs_tree.specs.After.{held_in}
 use Rattle.jffs_tree.specs.Look.{holds_version, any_live_in}
-use Rattle.jffs_tree.specs.Marks.{held_marks}
+use Rattle.jffs_tree.specs.Marks.{Counts, mark_of, held_marks, AreMarksOf}
 use Rattle.jffs_tree.proofs.Maps.{tail_sorted, at_first, behind}
 use Rattle.jffs_tree.proofs.Totals.{no_marks}
 
@@ -30,19 +30,19 @@ counts_any p (x ∷ xs) = ⊎_elim
 
 -- a version that counts, and is one of those that a test takes
 some_counts : (p : ℕ → Bool) (v : ℕ) → p v ≡ true → (xs : List ℕ) → list_any (λ w. eqb w v) xs ≡ true → list_any p xs ≡ true
-some_counts p v yes [] h = h
-some_counts p v yes (x ∷ xs) h = ⊎_elim
-    (λ here. or_left (p x) (list_any p xs) (ap p (eqb-true x v here) ∙ yes))
-    (λ not_here. or_right (p x) (list_any p xs) (some_counts p v yes xs (ap (λ b. b || list_any (λ w. eqb w v) xs) (sym not_here) ∙ h)))
+some_counts p v has [] h = h
+some_counts p v has (x ∷ xs) h = ⊎_elim
+    (λ here. or_left (p x) (list_any p xs) (ap p (eqb-true x v here) ∙ has))
+    (λ not_here. or_right (p x) (list_any p xs) (some_counts p v has xs (ap (λ b. b || list_any (λ w. eqb w v) xs) (sym not_here) ∙ h)))
     (cases_Bool (eqb x v))
 
 none_counts : (p : ℕ → Bool) (xs : List ℕ) → ((v : ℕ) → p v ≡ true → list_any (λ w. eqb w v) xs ≡ false) → list_any p xs ≡ false
 none_counts p [] h = refl
 none_counts p (x ∷ xs) h = ⊎_elim
     (λ here. let never = h x here in let own : list_any (λ w. eqb w x) (x ∷ xs) ≡ true = or_left (eqb x x) (list_any (λ w. eqb w x) xs) (eq-eqb x x refl) in cc)
-    (λ not_here. ap (λ b. b || list_any p xs) not_here ∙ none_counts p xs (λ v yes. ⊎_elim
-    (λ some. let never = h v yes in let too : list_any (λ w. eqb w v) (x ∷ xs) ≡ true = or_right (eqb x v) (list_any (λ w. eqb w v) xs) some in cc)
-    (λ none. none)
+    (λ not_here. ap (λ b. b || list_any p xs) not_here ∙ none_counts p xs (λ v has. ⊎_elim
+    (λ some. let never = h v has in let too : list_any (λ w. eqb w v) (x ∷ xs) ≡ true = or_right (eqb x v) (list_any (λ w. eqb w v) xs) some in cc)
+    (λ rest. rest)
     (cases_Bool (list_any (λ w. eqb w v) xs))))
     (cases_Bool (p x))
 
@@ -106,7 +106,7 @@ module _ (v : ℕ) where
       let above = behind y ys i h sorted there in
       let not_here : list_any (λ w. eqb w v) (versions_held y) ≡ false = ⊎_elim
       (λ here. absurd (let low = least y.0 (ltb-true 0 (held_marks (y ∷ ys) v y.0) (first_holds v y ys true here)) in omega (arith, low, above)))
-      (λ n. n)
+      (λ rest. rest)
       (cases_Bool (list_any (λ w. eqb w v) (versions_held y))) in
       let e = at_other_marks v y ys i other in
       ap (λ b. cond b (Some y) (holder ys v)) not_here
@@ -138,9 +138,26 @@ module _ (first last : ℕ) where
       let parts = and_parts (leb first v) (leb v last) within in
       ⊎_elim
       (λ here. absurd (not_positive (held_marks (y ∷ ys) v y.0) (first_holds v y ys true here) (none v y.0 (leb-true first v parts.0) (leb-true v last parts.1))))
-      (λ n. n)
+      (λ rest. rest)
       (cases_Bool (list_any (λ w. eqb w v) (versions_held y)))))
       ∙ any_none ys (tail_sorted y ys sorted) (λ v i low high. none_in_rest_at v i low high)
     where
       none_in_rest_at : (v i : ℕ) → first ≤ v → v ≤ last → held_marks ys v i ≡ 0
       none_in_rest_at v i low high = none_in_rest v y ys sorted (λ j. none v j low high) i
+
+-- As the marks tell it.
+module _ (tree : Tree) (counts : Counts) (sorted : T (entries.is_sorted nat_cmp tree)) (marked : AreMarksOf tree counts) where
+  pub any_told : (first last : ℕ) (r : Bool) → (r ≡ true → (v : ℕ) × (i : ℕ) × (first ≤ v) × (v ≤ last) × (0 < mark_of counts v i))
+      → (r ≡ false → (v i : ℕ) → first ≤ v → v ≤ last → mark_of counts v i ≡ 0) → r ≡ any_live_in tree first last
+  any_told first last true some none = let x = some refl in let m = marked x.0 x.1 in let l = x.4 in sym (any_some first last tree x.0 x.1 x.2 x.3 (omega (arith, m, l)))
+  any_told first last false some none = sym (any_none first last tree sorted (λ v i low high. sym (marked v i) ∙ none refl v i low high))
+
+  pub none_told : (v : ℕ) → ((j : ℕ) → mark_of counts v j ≡ 0) → holder tree v ≡ None
+  none_told v none = holder_none v tree sorted (λ j. sym (marked v j) ∙ none j)
+
+  pub some_told : (v i : ℕ) (h : Held) → held_in tree i ≡ Some h → 0 < mark_of counts v i → ((j : ℕ) → 0 < mark_of counts v j → i ≤ j) → holder tree v ≡ Some (i, h)
+  some_told v i h is some least =
+      holder_some v tree sorted i h is (let m = marked v i in omega (arith, m, some)) (λ j more. least j (let m = marked v j in omega (arith, m, more)))
+
+  pub there_told : (v i : ℕ) → 0 < mark_of counts v i → is_some (held_in tree i) ≡ true
+  there_told v i some = some_held tree v i (let m = marked v i in omega (arith, m, some))

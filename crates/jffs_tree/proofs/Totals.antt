@@ -199,7 +199,7 @@ no_marks v y ys h = by_held (held_in ys y.0) refl
     by_held None is = refl
     by_held (Some x) is = absurd (let less = behind y ys y.0 x h is in omega (arith, less))
 
-nothing : (b : Bool) → cond b 0 0 ≡ 0
+nothing : (b : Bool) → ◌≡◌ {A = ℕ} (cond b 0 0) 0
 nothing true = refl
 nothing false = refl
 

@@ -53,13 +53,6 @@ marks_hold tree v i = by_held (held_in tree i)
     by_held None = refl
     by_held (Some h) = counts_any (λ w. eqb w v) (versions_held (i, h))
 
-pub some_held : (tree : Tree) (v i : ℕ) → 0 < held_marks tree v i → is_some (held_in tree i) ≡ true
-some_held tree v i some = by_held (held_in tree i) some
-  where
-    by_held : (o : Option Held) → 0 < option_map_or (λ h. count_by (λ w. eqb w v) (versions_held (i, h))) o 0 → is_some o ≡ true
-    by_held None l = absurd (omega arith)
-    by_held (Some h) l = refl
-
 -- The first inode of a tree, and the others.
 module _ (v : ℕ) (y : ℕ × Held) (ys : Tree) where
   at_first_marks : held_marks (y ∷ ys) v y.0 ≡ count_by (λ w. eqb w v) (versions_held y)
@@ -158,6 +151,3 @@ module _ (tree : Tree) (counts : Counts) (sorted : T (entries.is_sorted nat_cmp 
   pub some_told : (v i : ℕ) (h : Held) → held_in tree i ≡ Some h → 0 < mark_of counts v i → ((j : ℕ) → 0 < mark_of counts v j → i ≤ j) → holder tree v ≡ Some (i, h)
   some_told v i h is some least =
       holder_some v tree sorted i h is (let m = marked v i in omega (arith, m, some)) (λ j more. least j (let m = marked v j in omega (arith, m, more)))
-
-  pub there_told : (v i : ℕ) → 0 < mark_of counts v i → is_some (held_in tree i) ≡ true
-  there_told v i some = some_held tree v i (let m = marked v i in omega (arith, m, some))

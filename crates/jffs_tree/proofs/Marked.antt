@@ -9,7 +9,7 @@ use Rattle.jffs_node.specs.declared.node.Node.{Node}
 use Rattle.jffs_node.specs.Record.{dsize}
 use Rattle.jffs_tree.specs.Origin.{Held, Tree, versions_held}
 use Rattle.jffs_tree.specs.After.{held_in, held_after, keeps_places_in, without_inode, IsWritten}
-use Rattle.jffs_tree.specs.Marks.{Counts, mark_of, HaveMore, SameMarks, places_by, brought_by, places_in, HasMarks, MovesMarks, HasMarksIn, MovesMarksIn, HasPlaces, LosesPlaces, held_marks, AreMarksOf}
+use Rattle.jffs_tree.specs.Marks.{Counts, mark_of, HaveMore, SameMarks, places_by, brought_by, places_in, MovesMarks, MovesMarksIn, HasPlaces, LosesPlaces, held_marks, AreMarksOf}
 use Rattle.jffs_tree.proofs.Marking.{turned}
 use Rattle.jffs_tree.proofs.Pointwise.{find_without}
 
@@ -40,13 +40,6 @@ newest_is tree v i k is = by_held (held_in tree i) is
     by_held None e = cc
     by_held (Some h) e = one_newest v h.newest k (same_Some h.newest (Some k) e)
 
-pub no_newest : (tree : Tree) (v i : ℕ) → option_map (λ h. h.newest) (held_in tree i) ≡ None → newest_marks tree v i ≡ 0
-no_newest tree v i is = by_held (held_in tree i) is
-  where
-    by_held : (o : Option Held) → option_map (λ h. h.newest) o ≡ None → option_map_or (λ h. count_by (λ w. eqb w v) (option_to_list h.newest)) o 0 ≡ 0
-    by_held None e = refl
-    by_held (Some h) e = cc
-
 module _ (old : Tree) (n : Node) (m0 m1 : Counts) (marked : AreMarksOf old m0) (raised : HaveMore m0 m1 n.version n.inode (dsize n + 1)) where
   -- what a raise leaves in the node's inode
   raised_here : (v : ℕ) → mark_of m1 v n.inode ≡ newest_marks old v n.inode + places_in old v n.inode + cond (eqb v n.version) (dsize n + 1) 0
@@ -64,9 +57,6 @@ module _ (old : Tree) (n : Node) (m0 m1 : Counts) (marked : AreMarksOf old m0) (
   by_version : (b : Bool) → cond b (dsize n + 1) 0 ≡ cond b (dsize n) 0 + cond b 1 0
   by_version true = refl
   by_version false = refl
-
-  pub has_marks : HasMarksIn m1 n old
-  has_marks v = let e = raised_here v in let f = by_version (eqb v n.version) in omega (arith, e, f)
 
   elsewhere : (v i : ℕ) → eqb i n.inode ≡ false → mark_of m1 v i ≡ held_marks old v i
   elsewhere v i other =
@@ -107,16 +97,6 @@ module _ (old : Tree) (n : Node) (m0 m1 : Counts) (marked : AreMarksOf old m0) (
         let g : held_marks new v i ≡ held_marks old v i = ap (λ (o : Option Held). option_map_or (λ h. count_by (λ w. eqb w v) (versions_held (i, h))) o 0) same in
         omega (arith, e, f, g)
 
-    -- nothing was there before
-    pub of_new : option_map (λ h. h.newest) (held_in old n.inode) ≡ None → AreMarksOf new m2
-    of_new none v i = ⊎_elim
-        (λ at.
-        let same : i ≡ n.inode = eqb-true i n.inode at in
-        let e : mark_of m2 v n.inode ≡ held_marks new v n.inode = (let f = here v in let g = no_newest old v n.inode none in omega (arith, f, g)) in
-        subst (λ j. mark_of m2 v j ≡ held_marks new v j) (sym same) e)
-        (λ other. others v i other)
-        (cases_Bool (eqb i n.inode))
-
     -- an inode with that newest version was there
     module _ (k : ℕ) (was : option_map (λ h. h.newest) (held_in old n.inode) ≡ Some (Some k)) where
       pub has_newest : 1 ≤ mark_of m2 k n.inode
@@ -148,21 +128,6 @@ module _ (old : Tree) (n : Node) (m0 m1 : Counts) (marked : AreMarksOf old m0) (
           none : (b : Bool) (m : ℕ) → m + cond (b && false) 1 0 ≡ m + 0
           none true m = refl
           none false m = refl
-
-  -- The write failed, and the marks that were added are taken away.
-  pub taken_back : (m2 m3 : Counts) → SameMarks m1 m2 → HaveMore m3 m2 n.version n.inode (dsize n + 1) → SameMarks m0 m3
-  taken_back m2 m3 same less v i =
-      let e = raised v i in
-      let f = same v i in
-      let g = less v i in
-      omega (arith, e, f, g)
-
-  pub can_take_back : (m2 : Counts) → SameMarks m1 m2 → dsize n + 1 ≤ mark_of m2 n.version n.inode
-  can_take_back m2 same =
-      let e = raised_here n.version in
-      let f = same n.version n.inode in
-      let g : cond (eqb n.version n.version) (dsize n + 1) 0 ≡ dsize n + 1 = ap (λ b. cond b (dsize n + 1) 0) (eq-eqb n.version n.version refl) in
-      omega (arith, e, f, g)
 
 -- the same marks are marks of the same tree
 pub same_marks_of : (tree : Tree) (m n : Counts) → AreMarksOf tree m → SameMarks m n → AreMarksOf tree n
@@ -228,9 +193,6 @@ module _ (old : Tree) (n : Node) (h : Held) (is : held_in old n.inode ≡ Some h
   places_are : (tree : Tree) (x : Held) → held_in tree n.inode ≡ Some x → (v : ℕ) → places_in tree v n.inode ≡ places_by v x
   places_are tree x at v = ap (λ o. option_map_or (λ y. places_by v y) o 0) at
 
-  pub has_own : HasMarksIn m n old → HasMarks m n h
-  has_own has v = let e = has v in let f = places_are old h is v in omega (arith, e, f)
-
   pub moved_own : (new : Tree) (x : Held) (k : Counts) → held_in new n.inode ≡ Some x → MovesMarks m k n h x → MovesMarksIn m k n old new
   moved_own new x k at moved v i =
       let e = moved v i in
@@ -238,55 +200,6 @@ module _ (old : Tree) (n : Node) (h : Held) (is : held_in old n.inode ≡ Some h
       (λ same. ap (λ j. places_in old v j + brought_by v n) (eqb-true i n.inode same) ∙ ap (λ p. p + brought_by v n) (places_are old h is v)) in
       let g = under (eqb i n.inode) (places_in new v i) (places_by v x) (λ same. ap (λ j. places_in new v j) (eqb-true i n.inode same) ∙ places_are new x at v) in
       omega (arith, e, f, g)
-
--- An inode that is new, entered without bytes first.
-module _ (old first : Tree) (n : Node) (e : Held) (bare : e.writers ≡ []) (none : held_in old n.inode ≡ None)
-    (entered : (i : ℕ) → held_in first i ≡ cond (eqb n.inode i) (Some e) (held_in old i)) where
-  entered_here : held_in first n.inode ≡ Some e
-  entered_here = entered n.inode ∙ ap (λ b. cond b (Some e) (held_in old n.inode)) (eq-eqb n.inode n.inode refl)
-
-  pub is_entered : is_some (held_in first n.inode) ≡ true
-  is_entered = ap (λ o. is_some o) entered_here
-
-  no_places : (v : ℕ) → places_in first v n.inode ≡ places_in old v n.inode
-  no_places v =
-      ap (λ o. option_map_or (λ h. places_by v h) o 0) entered_here
-      ∙ ap (λ ws. count_by (λ w. eqb w v) (flat_map option_to_list ws)) bare
-      ∙ sym (ap (λ o. option_map_or (λ h. places_by v h) o 0) none)
-
-  pub has_entered : (m : Counts) → HasMarksIn m n old → HasMarksIn m n first
-  has_entered m has v = let a = has v in let b = no_places v in omega (arith, a, b)
-
-  pub moved_entered : (new : Tree) (m k : Counts) → MovesMarksIn m k n first new → MovesMarksIn m k n old new
-  moved_entered new m k moved v i =
-      let a = moved v i in
-      let f = under (eqb i n.inode) (places_in first v i + brought_by v n) (places_in old v i + brought_by v n)
-      (λ same. let at = eqb-true i n.inode same in ap (λ j. places_in first v j + brought_by v n) at ∙ ap (λ p. p + brought_by v n) (no_places v) ∙ ap (λ j. places_in old v j + brought_by v n) (sym at)) in
-      omega (arith, a, f)
-
-  pub keeps_entered : e.entry.bytes ≡ [] → keeps_places_in first n ≡ true
-  keeps_entered empty =
-      or_right (eqb (dsize n) n.rsize) _
-      (ap (λ o. leb (length (unwrap_or (option_map (λ h. h.entry.bytes) o) [])) (n.offset + n.rsize)) entered_here
-      ∙ ap (λ (x : List ℕ). leb (length x) (n.offset + n.rsize)) empty
-      ∙ le-leb 0 (n.offset + n.rsize) (omega arith))
-
-  pub written_entered : held_after n (Some e) ≡ held_after n None → (new : Tree) → IsWritten first new n → IsWritten old new n
-  written_entered alike new w = record {
-    ordered = w.ordered;
-    found = λ i. w.found i ∙ ⊎_elim
-        (λ same.
-        let at = eqb-true n.inode i same in
-        ap (λ b. cond b (Some (held_after n (held_in first i))) (held_in first i)) same
-        ∙ ap (λ j. Some (held_after n (held_in first j))) (sym at) ∙ ap (λ o. Some (held_after n o)) entered_here ∙ ap (λ h. Some h) alike
-        ∙ ap (λ o. Some (held_after n o)) (sym none) ∙ ap (λ j. Some (held_after n (held_in old j))) at
-        ∙ sym (ap (λ b. cond b (Some (held_after n (held_in old i))) (held_in old i)) same))
-        (λ other.
-        ap (λ b. cond b (Some (held_after n (held_in first i))) (held_in first i)) other
-        ∙ entered i ∙ ap (λ b. cond b (Some e) (held_in old i)) other
-        ∙ sym (ap (λ b. cond b (Some (held_after n (held_in old i))) (held_in old i)) other))
-        (cases_Bool (eqb n.inode i));
-  }
 
 -- No version has more marks in an inode than it has places, and one.
 few_places : (v : ℕ) (ws : List (Option ℕ)) → count_by (λ w. eqb w v) (flat_map option_to_list ws) ≤ length ws
@@ -314,6 +227,3 @@ few_marks tree v i h k most is newest small =
     at_most_one : (b : Bool) → cond b 1 0 ≤ 1
     at_most_one true = omega arith
     at_most_one false = omega arith
-
-pub no_marks_there : (tree : Tree) (v i : ℕ) → held_in tree i ≡ None → held_marks tree v i ≡ 0
-no_marks_there tree v i is = ap (λ (o : Option Held). option_map_or (λ h. count_by (λ w. eqb w v) (versions_held (i, h))) o 0) is

@@ -97,9 +97,13 @@ impl Tree {
         let old = self.parent_name(node.inode);
         let place = (node.parent, Some(name), node.inode);
         let is_new = self.children.insert(place)?;
-        if let Err(refused) =
-            write_marked(self.alloc, &mut self.inodes, &mut self.marks, node, name)
-        {
+        if let Err(refused) = write_marked(
+            self.alloc,
+            &mut self.inodes,
+            &mut self.marks,
+            node,
+            name,
+        ) {
             if is_new {
                 self.children.remove(&place);
             }

@@ -1,4 +1,4 @@
-use Rattle.std.proofs.Common.{◌≡◌, ℕ, ◌+◌, ◌≤◌, min, ap, subst, sym, ◌∙◌, arith}
+use Rattle.std.proofs.Common.{◌≡◌, ◌+◌, min, ap, subst, sym, ◌∙◌, arith}
 use Rattle.jffs_tree.specs.Marks.{Counts, marks_of}
 use Rattle.jffs_tree.proofs.Totals.{AreFrom, range_from, same_marks, behind_first, one_read, none_left, capped, whole}
 use Rattle.jffs_tree.proofs.marks.Marks.total.Goals as goal

@@ -1,4 +1,4 @@
-use Rattle.std.proofs.Common.{◌≡◌, ℕ, List, T, Some, Option, option_map, ap, subst, sym, ◌∙◌}
+use Rattle.std.proofs.Common.{ℕ, List, T, option_map, ap, subst, sym, ◌∙◌}
 use Rattle.jffs_tree.specs.Origin.{Held, holder}
 use Rattle.jffs_tree.specs.After.{held_in}
 use Rattle.jffs_tree.proofs.Finding.{none_told, some_told}

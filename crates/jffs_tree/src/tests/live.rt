@@ -2,15 +2,15 @@
 
 use super::*;
 
-/// What was written has as many marks, version by version from 1 on.
-fn has_marks(rt: &impl Abort, session: &Session, marks: &[u32]) {
-    for (index, wanted) in marks.iter().enumerate() {
-        let version = index as u32 + 1;
-        assert_eq!(rt; session.tree.marks(version), *wanted, "of {version}");
-        assert_eq!(rt; session.tree.live(2, version), *wanted != 0, "of {version}");
+/// Each of these versions has as many marks, all of them in the first file.
+fn has_marks(rt: &impl Abort, session: &Session, wanted: &[(u32, u32)]) {
+    for (version, marks) in wanted {
+        let tree = &session.tree;
+        assert_eq!(rt; tree.marks(*version), *marks, "of {version}");
+        assert_eq!(rt; tree.live(2, *version), *marks != 0, "of {version}");
         assert_eq!(rt;
-            session.tree.any_live(version, version),
-            *wanted != 0,
+            tree.any_live(*version, *version),
+            *marks != 0,
             "of {version}"
         );
     }
@@ -24,11 +24,11 @@ fn later_writes_cut_a_record_in_three(rt: HostRuntime) -> Result<(), Fail> {
         "create /f
          write /f 0 abcdefghi",
     )?;
-    has_marks(&rt, &session, &[0, 10]);
+    has_marks(&rt, &session, &[(1, 0), (2, 10)]);
     session.play(&rt, "write /f 2 X")?;
-    has_marks(&rt, &session, &[0, 8, 2]);
+    has_marks(&rt, &session, &[(1, 0), (2, 8), (3, 2)]);
     session.play(&rt, "write /f 5 YZ")?;
-    has_marks(&rt, &session, &[0, 6, 1, 3]);
+    has_marks(&rt, &session, &[(1, 0), (2, 6), (3, 1), (4, 3)]);
     session.contents(&rt, 2, b"abXdeYZhi");
     Ok(())
 }
@@ -42,9 +42,9 @@ fn one_byte_keeps_a_record_live(rt: HostRuntime) -> Result<(), Fail> {
          write /f 0 hello
          write /f 0 HELL",
     )?;
-    has_marks(&rt, &session, &[0, 1, 5]);
+    has_marks(&rt, &session, &[(1, 0), (2, 1), (3, 5)]);
     session.play(&rt, "write /f 4 O")?;
-    has_marks(&rt, &session, &[0, 0, 4, 2]);
+    has_marks(&rt, &session, &[(1, 0), (2, 0), (3, 4), (4, 2)]);
     Ok(())
 }
 
@@ -57,13 +57,17 @@ fn marks_follow_a_truncate_a_hole_a_rename_and_a_remove(rt: HostRuntime) -> Resu
          write /f 0 hello
          truncate /f 3",
     )?;
-    has_marks(&rt, &session, &[0, 3, 1]);
+    has_marks(&rt, &session, &[(1, 0), (2, 3), (3, 1)]);
     session.play(&rt, "write /f 6 xy")?;
-    has_marks(&rt, &session, &[0, 3, 0, 3]);
+    has_marks(&rt, &session, &[(1, 0), (2, 3), (3, 0), (4, 3)]);
     session.play(&rt, "rename /f /g")?;
-    has_marks(&rt, &session, &[0, 3, 0, 2, 1]);
+    has_marks(&rt, &session, &[(1, 0), (2, 3), (3, 0), (4, 2), (5, 1)]);
     session.play(&rt, "remove /g")?;
-    has_marks(&rt, &session, &[0, 0, 0, 0, 0, 0]);
+    has_marks(
+        &rt,
+        &session,
+        &[(1, 0), (2, 0), (3, 0), (4, 0), (5, 0), (6, 0)],
+    );
     assert!(rt; !session.tree.any_live(0, u32::MAX));
     Ok(())
 }

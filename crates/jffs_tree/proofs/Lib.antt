@@ -10,6 +10,8 @@ pub mod Grown
 pub mod Maps
 pub mod Marking
 pub mod Marked
+pub mod Totals
+pub mod Finding
 pub mod Written
 pub mod Applied
 pub mod Looked

@@ -17,12 +17,6 @@ use Rattle.std.proofs.lemmas.Bool.{cases_Bool, ne_eqb}
 use Rattle.jffs_tree.proofs.Steps.{entry-other, entry-written, newest-other, newest-deleted}
 use Rattle.jffs_tree.proofs.Grown.{at-tree, held_at, length-writers, read_writers, writers_held}
 
-pub any_writer : (test : Option ℕ → Bool) (v : ℕ) → test None ≡ false → ((w : ℕ) → test (Some w) ≡ eqb w v)
-    → (ws : List (Option ℕ)) → list_any test ws ≡ list_any (λ w. eqb w v) (flat_map option_to_list ws)
-any_writer test v none some [] = refl
-any_writer test v none some (None ∷ ws) = ap (λ b. b || list_any test ws) none ∙ any_writer test v none some ws
-any_writer test v none some (Some w ∷ ws) = ap (λ b. b || list_any test ws) (some w) ∙ ap (λ b. eqb w v || b) (any_writer test v none some ws)
-
 none_newest : (past : List Node) (i : ℕ) → entry past i ≡ None → newest past i ≡ None
 none_newest [] i there = refl
 none_newest (n ∷ past) i there = ⊎_elim

@@ -1,15 +1,15 @@
 -- The marks of a tree, after one more node.
-use Rattle.std.proofs.Common.{◌≡◌, ℕ, ◌+◌, ◌≤◌, Bool, true, false, cond, ◌&&◌, eqb, ◌∷◌, [], map, length, flat_map, count_by, Option, Some, None, option_map, refl, sym, ap, subst, ◌∙◌, arith, ⊎_elim}
+use Rattle.std.proofs.Common.{◌≡◌, ℕ, ◌+◌, ◌≤◌, Bool, true, false, cond, ◌&&◌, eqb, leb, List, ◌∷◌, [], map, length, flat_map, count_by, is_some, Option, Some, None, option_map, refl, sym, ap, subst, ◌∙◌, arith, ⊎_elim}
 use Rattle.std.specs.Option.{option_map_or, option_to_list, unwrap_or}
 use Rattle.std.specs.List.{sum_by}
-use Rattle.std.proofs.lemmas.Bool.{cases_Bool, eqb-true, eq-eqb}
+use Rattle.std.proofs.lemmas.Bool.{cases_Bool, eqb-true, eq-eqb, or_right, le-leb}
 use Rattle.std.proofs.lemmas.Option.{same_Some}
 use Rattle.std.proofs.lemmas.List.Sums.{sum_by-append, sum_by-cons}
 use Rattle.jffs_node.specs.declared.node.Node.{Node}
 use Rattle.jffs_node.specs.Record.{dsize}
 use Rattle.jffs_tree.specs.Origin.{Held, Tree, versions_held}
-use Rattle.jffs_tree.specs.After.{held_in, held_after, without_inode, IsWritten}
-use Rattle.jffs_tree.specs.Marks.{Counts, mark_of, HaveMore, SameMarks, places_by, brought_by, places_in, HasMarksIn, MovesMarksIn, HasPlaces, LosesPlaces, held_marks, AreMarksOf}
+use Rattle.jffs_tree.specs.After.{held_in, held_after, keeps_places_in, without_inode, IsWritten}
+use Rattle.jffs_tree.specs.Marks.{Counts, mark_of, HaveMore, SameMarks, places_by, brought_by, places_in, MovesMarks, MovesMarksIn, HasPlaces, LosesPlaces, held_marks, AreMarksOf}
 use Rattle.jffs_tree.proofs.Marking.{turned}
 use Rattle.jffs_tree.proofs.Pointwise.{find_without}
 
@@ -40,13 +40,6 @@ newest_is tree v i k is = by_held (held_in tree i) is
     by_held None e = cc
     by_held (Some h) e = one_newest v h.newest k (same_Some h.newest (Some k) e)
 
-pub no_newest : (tree : Tree) (v i : ℕ) → option_map (λ h. h.newest) (held_in tree i) ≡ None → newest_marks tree v i ≡ 0
-no_newest tree v i is = by_held (held_in tree i) is
-  where
-    by_held : (o : Option Held) → option_map (λ h. h.newest) o ≡ None → option_map_or (λ h. count_by (λ w. eqb w v) (option_to_list h.newest)) o 0 ≡ 0
-    by_held None e = refl
-    by_held (Some h) e = cc
-
 module _ (old : Tree) (n : Node) (m0 m1 : Counts) (marked : AreMarksOf old m0) (raised : HaveMore m0 m1 n.version n.inode (dsize n + 1)) where
   -- what a raise leaves in the node's inode
   raised_here : (v : ℕ) → mark_of m1 v n.inode ≡ newest_marks old v n.inode + places_in old v n.inode + cond (eqb v n.version) (dsize n + 1) 0
@@ -64,9 +57,6 @@ module _ (old : Tree) (n : Node) (m0 m1 : Counts) (marked : AreMarksOf old m0) (
   by_version : (b : Bool) → cond b (dsize n + 1) 0 ≡ cond b (dsize n) 0 + cond b 1 0
   by_version true = refl
   by_version false = refl
-
-  pub has_marks : HasMarksIn m1 n old
-  has_marks v = let e = raised_here v in let f = by_version (eqb v n.version) in omega (arith, e, f)
 
   elsewhere : (v i : ℕ) → eqb i n.inode ≡ false → mark_of m1 v i ≡ held_marks old v i
   elsewhere v i other =
@@ -107,23 +97,13 @@ module _ (old : Tree) (n : Node) (m0 m1 : Counts) (marked : AreMarksOf old m0) (
         let g : held_marks new v i ≡ held_marks old v i = ap (λ (o : Option Held). option_map_or (λ h. count_by (λ w. eqb w v) (versions_held (i, h))) o 0) same in
         omega (arith, e, f, g)
 
-    -- nothing was there before
-    pub of_new : option_map (λ h. h.newest) (held_in old n.inode) ≡ None → AreMarksOf new m2
-    of_new none v i = ⊎_elim
-        (λ at.
-        let same : i ≡ n.inode = eqb-true i n.inode at in
-        let e : mark_of m2 v n.inode ≡ held_marks new v n.inode = (let f = here v in let g = no_newest old v n.inode none in omega (arith, f, g)) in
-        subst (λ j. mark_of m2 v j ≡ held_marks new v j) (sym same) e)
-        (λ other. others v i other)
-        (cases_Bool (eqb i n.inode))
-
     -- an inode with that newest version was there
     module _ (k : ℕ) (was : option_map (λ h. h.newest) (held_in old n.inode) ≡ Some (Some k)) where
       pub has_newest : 1 ≤ mark_of m2 k n.inode
       has_newest =
           let e = here k in
           let f = newest_is old k n.inode k was in
-          let g : cond (eqb k k) 1 0 ≡ 1 = ap (λ b. cond b 1 0) (eq-eqb k k refl) in
+          let g : ◌≡◌ {A = ℕ} (cond (eqb k k) 1 0) 1 = ap (λ b. cond b 1 0) (eq-eqb k k refl) in
           omega (arith, e, f, g)
 
       pub of_old : (m3 : Counts) → HaveMore m3 m2 k n.inode 1 → AreMarksOf new m3
@@ -148,21 +128,6 @@ module _ (old : Tree) (n : Node) (m0 m1 : Counts) (marked : AreMarksOf old m0) (
           none : (b : Bool) (m : ℕ) → m + cond (b && false) 1 0 ≡ m + 0
           none true m = refl
           none false m = refl
-
-  -- The write failed, and the marks that were added are taken away.
-  pub taken_back : (m2 m3 : Counts) → SameMarks m1 m2 → HaveMore m3 m2 n.version n.inode (dsize n + 1) → SameMarks m0 m3
-  taken_back m2 m3 same less v i =
-      let e = raised v i in
-      let f = same v i in
-      let g = less v i in
-      omega (arith, e, f, g)
-
-  pub can_take_back : (m2 : Counts) → SameMarks m1 m2 → dsize n + 1 ≤ mark_of m2 n.version n.inode
-  can_take_back m2 same =
-      let e = raised_here n.version in
-      let f = same n.version n.inode in
-      let g : cond (eqb n.version n.version) (dsize n + 1) 0 ≡ dsize n + 1 = ap (λ b. cond b (dsize n + 1) 0) (eq-eqb n.version n.version refl) in
-      omega (arith, e, f, g)
 
 -- the same marks are marks of the same tree
 pub same_marks_of : (tree : Tree) (m n : Counts) → AreMarksOf tree m → SameMarks m n → AreMarksOf tree n
@@ -189,7 +154,7 @@ module _ (old : Tree) (i : ℕ) (h : Held) (k : ℕ) (is : held_in old i ≡ Som
         omega (arith, e, f)
 
     pub one_left : 1 ≤ mark_of m1 k i
-    one_left = let e = lost_here k in let g : cond (eqb k k) 1 0 ≡ 1 = ap (λ b. cond b 1 0) (eq-eqb k k refl) in omega (arith, e, g)
+    one_left = let e = lost_here k in let g : ◌≡◌ {A = ℕ} (cond (eqb k k) 1 0) 1 = ap (λ b. cond b 1 0) (eq-eqb k k refl) in omega (arith, e, g)
 
     pub of_removed : (m2 : Counts) → HaveMore m2 m1 k i 1 → AreMarksOf (without_inode old i) m2
     of_removed m2 less v j = ⊎_elim
@@ -217,3 +182,48 @@ module _ (old : Tree) (i : ℕ) (h : Held) (k : ℕ) (is : held_in old i ≡ Som
         none : (b : Bool) (m : ℕ) → m + cond (b && false) 1 0 ≡ m + 0
         none true m = refl
         none false m = refl
+
+-- A value that counts only where a test holds.
+under : (b : Bool) (x y : ℕ) → (b ≡ true → x ≡ y) → cond b x 0 ≡ cond b y 0
+under true x y h = h refl
+under false x y h = refl
+
+-- An inode that is present, written in place.
+module _ (old : Tree) (n : Node) (h : Held) (is : held_in old n.inode ≡ Some h) (m : Counts) where
+  places_are : (tree : Tree) (x : Held) → held_in tree n.inode ≡ Some x → (v : ℕ) → places_in tree v n.inode ≡ places_by v x
+  places_are tree x at v = ap (λ o. option_map_or (λ y. places_by v y) o 0) at
+
+  pub moved_own : (new : Tree) (x : Held) (k : Counts) → held_in new n.inode ≡ Some x → MovesMarks m k n h x → MovesMarksIn m k n old new
+  moved_own new x k at moved v i =
+      let e = moved v i in
+      let f = under (eqb i n.inode) (places_in old v i + brought_by v n) (places_by v h + brought_by v n)
+      (λ same. ap (λ j. places_in old v j + brought_by v n) (eqb-true i n.inode same) ∙ ap (λ p. p + brought_by v n) (places_are old h is v)) in
+      let g = under (eqb i n.inode) (places_in new v i) (places_by v x) (λ same. ap (λ j. places_in new v j) (eqb-true i n.inode same) ∙ places_are new x at v) in
+      omega (arith, e, f, g)
+
+-- No version has more marks in an inode than it has places, and one.
+few_places : (v : ℕ) (ws : List (Option ℕ)) → count_by (λ w. eqb w v) (flat_map option_to_list ws) ≤ length ws
+few_places v [] = omega arith
+few_places v (None ∷ ws) = let rest = few_places v ws in omega (arith, rest)
+few_places v (Some w ∷ ws) =
+    let rest = few_places v ws in
+    let e = sum_by-cons (λ x. cond (eqb x v) 1 0) w (flat_map option_to_list ws) in
+    let one = at_most_one (eqb w v) in
+    omega (arith, rest, e, one)
+  where
+    at_most_one : (b : Bool) → cond b 1 0 ≤ 1
+    at_most_one true = omega arith
+    at_most_one false = omega arith
+
+pub few_marks : (tree : Tree) (v i : ℕ) (h : Held) (k most : ℕ) → held_in tree i ≡ Some h → h.newest ≡ Some k → length h.writers ≤ most → held_marks tree v i ≤ most + 1
+few_marks tree v i h k most is newest small =
+    let e = in_parts tree v i in
+    let f = newest_is tree v i k (ap (λ o. option_map (λ x. x.newest) o) is ∙ ap (λ o. Some o) newest) in
+    let g = few_places v h.writers in
+    let p : places_in tree v i ≡ places_by v h = ap (λ o. option_map_or (λ x. places_by v x) o 0) is in
+    let one = at_most_one (eqb v k) in
+    omega (arith, small, e, f, g, p, one)
+  where
+    at_most_one : (b : Bool) → cond b 1 0 ≤ 1
+    at_most_one true = omega arith
+    at_most_one false = omega arith

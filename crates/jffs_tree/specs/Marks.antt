@@ -1,5 +1,6 @@
 -- How often each version is live, kept beside the inodes.
-use Rattle.std.specs.Prelude.{◌≡◌, ◌≢◌, ◌≤◌, ◌+◌, ℕ, ◌==◌, ◌&&◌, List, Some, count_by, flat_map, unwrap_or, if◌then◌else◌}
+use Rattle.std.specs.Prelude.{◌≡◌, ◌≢◌, ◌≤◌, ◌+◌, ℕ, ◌==◌, ◌&&◌, List, Some, count_by, sum_by, flat_map, unwrap_or, if◌then◌else◌}
+use Rattle.std.specs.List.{filter}
 use Rattle.std.specs.List.Sorted.{IsStrictlySortedBy}
 use Rattle.std.specs.Option.{option_map_or, option_to_list}
 use Rattle.std.specs.Ordering.{nat_cmp, ordering_then}
@@ -22,6 +23,10 @@ mark_cmp a b = ordering_then (nat_cmp a.0 b.0) (nat_cmp a.1 b.1)
 -- the marks of a version in an inode
 abbrev pub mark_of : Counts → ℕ → ℕ → ℕ
 mark_of counts v i = unwrap_or (lookup (is_at (mark_cmp (v, i))) counts) 0
+
+-- all marks of a version
+abbrev pub marks_of : Counts → ℕ → ℕ
+marks_of counts v = sum_by (λ e. e.1) (filter (λ e. e.0.0 == v) counts)
 
 -- They stand in order, and only what is above zero is kept.
 pub record AreKept (counts : Counts) : Type 0 where

@@ -1,8 +1,7 @@
 //! How often each version is live, kept under the changes of a tree and never counted anew.
 
-ghost use Rattle.std.specs.Prelude.{◌≡◌, ◌+◌, ◌-◌, ◌<◌, ◌≤◌, ◌^◌, ◌==◌, ◌&&◌, ℕ, [], true, false, min, sum_by, IfSome, IfNone, OnOk, OnErr};
-ghost use Rattle.std.specs.List.{filter};
-ghost use Rattle.jffs_tree.specs.Marks.{AreKept, HaveMore, mark_of};
+ghost use Rattle.std.specs.Prelude.{◌≡◌, ◌+◌, ◌-◌, ◌<◌, ◌≤◌, ◌^◌, ℕ, [], true, false, min, IfSome, IfNone, OnOk, OnErr};
+ghost use Rattle.jffs_tree.specs.Marks.{AreKept, HaveMore, mark_of, marks_of};
 
 use std::alloc::{AllocError, Global};
 use std::collections::BTreeMap;
@@ -102,7 +101,7 @@ impl Marks {
 
     /// All marks of a version, or the greatest `u32` where there are more.
     pub(crate) fn total(&self, version: u32) -> u32
-        ensures total { result ≡ min (sum_by (λ e. e.1) (filter (λ e. e.0.0 == version) self.now)) (2 ^ 32 - 1) }
+        ensures total { result ≡ min (marks_of self.now version) (2 ^ 32 - 1) }
         ensures kept { AreKept self.now }
     {
         let mut total = 0u32;

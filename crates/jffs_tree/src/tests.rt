@@ -1,5 +1,6 @@
 //! Wishes one by one on a tree, without a log.
 
+mod live;
 mod look_ups;
 mod wishes;
 

@@ -1,11 +1,11 @@
 //! The tree.
 
-ghost use Rattle.std.specs.Prelude.{◌≡◌, ◌∷◌, [], List, Some, IsSome, IsTrue, OnOk, OnErr, IfErr, option_map};
+ghost use Rattle.std.specs.Prelude.{◌≡◌, ◌+◌, ◌≤◌, ℕ, ◌∷◌, [], List, Some, IsSome, IsTrue, OnOk, OnErr, IfErr, option_map};
 ghost use Rattle.jffs_node.specs.declared.node.Node.{Node};
-ghost use Rattle.jffs_node.specs.Record.{is_lawful};
+ghost use Rattle.jffs_node.specs.Record.{file_max, is_lawful};
 ghost use Rattle.jffs_tree.specs.Origin.{tree_of};
 ghost use Rattle.jffs_tree.specs.After.{held_in, keeps_places_in, tree_after, without_inode, put_node, IsSmall, IsWritten};
-ghost use Rattle.jffs_tree.specs.Marks.{AreMarksOf, SameMarks, HasMarksIn, MovesMarksIn};
+ghost use Rattle.jffs_tree.specs.Marks.{AreMarksOf, SameMarks, HasMarksIn, MovesMarksIn, held_marks};
 
 use crate::children::{Place, bears};
 use crate::inode::Inode;
@@ -97,9 +97,13 @@ impl Tree {
         let old = self.parent_name(node.inode);
         let place = (node.parent, Some(name), node.inode);
         let is_new = self.children.insert(place)?;
-        if let Err(refused) =
-            write_marked(self.alloc, &mut self.inodes, &mut self.marks, node, name)
-        {
+        if let Err(refused) = write_marked(
+            self.alloc,
+            &mut self.inodes,
+            &mut self.marks,
+            node,
+            name,
+        ) {
             if is_new {
                 self.children.remove(&place);
             }
@@ -128,7 +132,8 @@ fn write_marked(
     requires small { IsSmall node.now }
     requires places { IsTrue (keeps_places_in inodes.old.entries node.now) }
     requires marked { AreMarksOf inodes.old.entries marks.old }
-    ensures ok { OnOk result (IsWritten inodes.old.entries inodes.new.entries node.now × AreMarksOf inodes.new.entries marks.new) }
+    ensures ok { OnOk result (IsWritten inodes.old.entries inodes.new.entries node.now) }
+    ensures marks { OnOk result (AreMarksOf inodes.new.entries marks.new) }
     ensures err { OnErr result ((inodes.new.entries ≡ inodes.old.entries) × SameMarks marks.old marks.new) }
 {
     let left = newest_of(inodes, node.inode);
@@ -144,11 +149,16 @@ fn write_marked(
     Ok(())
 }
 
-/// The newest version of an inode in a map.
+/// The newest version of an inode in a map. No version has more marks there than a file has
+/// places, and that one.
 fn newest_of(inodes: &BTreeMap<u32, Inode>, inode: u32) -> Option<u32>
-    ensures { option_map (λ v. Some v) result ≡ option_map (λ h. h.newest) (held_in inodes.now.entries inode) }
+    ensures held { option_map (λ v. Some v) result ≡ option_map (λ h. h.newest) (held_in inodes.now.entries inode) }
+    ensures few { (v : ℕ) → held_marks inodes.now.entries v inode ≤ file_max + 1 }
 {
-    inodes.get(&inode).map(|found| found.newest)
+    match inodes.get(&inode) {
+        Some(found) => Some(found.newest),
+        None => None,
+    }
 }
 
 /// Writes a node over its inode in a map, present or not, and moves the marks of places.
@@ -163,7 +173,8 @@ fn write_inode(
     requires small { IsSmall node.now }
     requires places { IsTrue (keeps_places_in inodes.old.entries node.now) }
     requires marked { HasMarksIn marks.old node.now inodes.old.entries }
-    ensures ok { OnOk result (IsWritten inodes.old.entries inodes.new.entries node.now × MovesMarksIn marks.old marks.new node.now inodes.old.entries inodes.new.entries) }
+    ensures ok { OnOk result (IsWritten inodes.old.entries inodes.new.entries node.now) }
+    ensures marks { OnOk result (MovesMarksIn marks.old marks.new node.now inodes.old.entries inodes.new.entries) }
     ensures err { OnErr result ((inodes.new.entries ≡ inodes.old.entries) × SameMarks marks.old marks.new) }
 {
     if inodes.contains_key(&node.inode) {
@@ -189,11 +200,13 @@ fn write_present(
     requires small { IsSmall node.now }
     requires places { IsTrue (keeps_places_in inodes.old.entries node.now) }
     requires marked { HasMarksIn marks.old node.now inodes.old.entries }
-    ensures ok { OnOk result (IsWritten inodes.old.entries inodes.new.entries node.now × MovesMarksIn marks.old marks.new node.now inodes.old.entries inodes.new.entries) }
+    ensures ok { OnOk result (IsWritten inodes.old.entries inodes.new.entries node.now) }
+    ensures marks { OnOk result (MovesMarksIn marks.old marks.new node.now inodes.old.entries inodes.new.entries) }
     ensures err { OnErr result ((inodes.new.entries ≡ inodes.old.entries) × SameMarks marks.old marks.new) }
 {
-    match inodes.get_mut(&node.inode) {
-        Some(inode) => inode.write(node, name, marks),
-        None => unreachable!(),
-    }
+    let Some(inode) = inodes.get_mut(&node.inode) else {
+        unreachable!()
+    };
+    inode.write(node, name, marks)?;
+    Ok(())
 }

@@ -2,7 +2,7 @@
 
 use super::*;
 
-/// More inodes than the tests make.
+/// More inodes and more versions than the tests make.
 const INODES: u32 = 16;
 
 /// More bytes than the files here have.
@@ -48,6 +48,9 @@ const DEEP_TREE: &str = "mkdir /a
 /// Each look-up of each inode.
 pub(super) fn are_the_same(rt: &impl Abort, tree: &Tree, other: &Tree) -> Result<(), Fail> {
     assert_eq!(rt; tree.check(), other.check());
+    for version in 0..INODES {
+        assert_eq!(rt; tree.marks(version), other.marks(version));
+    }
     for inode in 0..INODES {
         assert_eq!(rt; tree.kind(inode), other.kind(inode));
         assert_eq!(rt; tree.size(inode), other.size(inode));

@@ -1,9 +1,12 @@
-use Rattle.std.proofs.Common.{◌≡◌, ℕ, List, Option, Some, option_map, ap, sym, ◌∙◌}
+use Rattle.std.proofs.Common.{◌≡◌, ℕ, List, Option, Some, option_map, ap, subst, refl, sym, ◌∙◌}
 use Rattle.jffs_tree.specs.Origin.{Held}
 use Rattle.jffs_tree.specs.After.{without_inode}
 use Rattle.jffs_tree.specs.Look.{parent_name_in}
 use Rattle.jffs_tree.proofs.Maps.{t_true, found_get, sorted_map}
-use Rattle.jffs_tree.proofs.Written.{map_removed}
+use Rattle.jffs_tree.specs.Marks.{AreMarksOf, HasPlaces, LosesPlaces}
+use Rattle.jffs_tree.specs.Shown.{held_of}
+use Rattle.jffs_tree.proofs.Marked.{of_removed, has_places, one_left}
+use Rattle.jffs_tree.proofs.Written.{map_removed, taken_out}
 use Rattle.jffs_tree.proofs.Reindexed.{removed_index}
 use Rattle.jffs_tree.proofs.tree.Tree.remove.Goals as goal
 
@@ -19,6 +22,12 @@ invariant_of-self c =
           c.self.invariant.indexed was
           (map_removed old c.remove.new.self.entries c.args.inode c.self.invariant.ordered c.in-Some.ensures.ordered c.in-Some.ensures.updates.0)
           c.remove-in-Some.ensures.updates.0;
+      marked = subst (λ (t : List (ℕ × Held)). AreMarksOf t c.lower.new.self)
+          (sym (map_removed old c.remove.new.self.entries c.args.inode c.self.invariant.ordered c.in-Some.ensures.ordered c.in-Some.ensures.updates.0))
+          (of_removed old c.args.inode (held_of c.old.inside) c.old.inside.newest (taken_out c.args.inode old c.in-Some.old (held_of c.old.inside) c.old.view_is c.in-Some.ensures.value) refl
+          c.self.inside.marks c.self.invariant.marked c.release.new.marks
+          (subst (λ (h : Held). LosesPlaces c.self.inside.marks c.release.new.marks c.args.inode h) (sym c.old.view_is) c.release.ensures)
+          c.lower.new.self c.lower.ensures);
     }
 
 pub returns-in-Some : goal.returns-in-Some
@@ -30,3 +39,17 @@ pub returns-in_default : goal.returns-in_default
 returns-in_default c =
     map_removed c.self.inside.inodes.entries c.remove.new.self.entries c.args.inode c.self.invariant.ordered c.in_default.ensures.ordered c.in_default.ensures.updates.0
     ∙ ap (λ (t : List (ℕ × Held)). without_inode t c.args.inode) c.self.view_is
+
+pub release-requires : goal.release-requires
+release-requires c =
+    let old = c.self.inside.inodes.entries in
+    subst (λ (h : Held). HasPlaces c.self.inside.marks c.args.inode h) c.old.view_is
+    (has_places old c.args.inode (held_of c.old.inside) c.old.inside.newest (taken_out c.args.inode old c.in-Some.old (held_of c.old.inside) c.old.view_is c.in-Some.ensures.value) refl
+    c.self.inside.marks c.self.invariant.marked)
+
+pub lower-requires : goal.lower-requires
+lower-requires c =
+    let old = c.self.inside.inodes.entries in
+    one_left old c.args.inode (held_of c.old.inside) c.old.inside.newest (taken_out c.args.inode old c.in-Some.old (held_of c.old.inside) c.old.view_is c.in-Some.ensures.value) refl
+    c.self.inside.marks c.self.invariant.marked c.release.new.marks
+    (subst (λ (h : Held). LosesPlaces c.self.inside.marks c.release.new.marks c.args.inode h) (sym c.old.view_is) c.release.ensures)

@@ -4,7 +4,9 @@ use Rattle.std.proofs.lemmas.Bool.{not-true}
 use Rattle.jffs_tree.specs.Origin.{Held}
 use Rattle.jffs_tree.specs.Look.{parent_name_in}
 use Rattle.jffs_tree.specs.Index.{Place, has_place, is_named, IsIndexOf}
+use Rattle.jffs_tree.specs.Marks.{AreMarksOf}
 use Rattle.jffs_tree.proofs.Written.{put_there}
+use Rattle.jffs_tree.proofs.Marked.{same_marks_of}
 use Rattle.jffs_tree.proofs.Reindexed.{tied, by_place, restored, parted, stayed}
 use Rattle.jffs_tree.proofs.tree.Tree.write.Goals as goal
 
@@ -17,8 +19,11 @@ invariant_of-self-then-is_new c =
     (not-true (has_place before here) (sym c.in_ok-is_new.ensures.added ∙ c.if-is_new.true))
     (λ q. c.remove.ensures.updates.0 q ∙ ap (λ b. cond (tied here q) false b) (c.in_ok-is_new.ensures.updates.0 q)) in
     record {
-      ordered = subst (λ (t : List (ℕ × Held)). IsTrue (entries.is_sorted nat_cmp t)) (sym c.in-Err.ensures.err) c.self.invariant.ordered;
-      indexed = subst (λ (t : List (ℕ × Held)). IsIndexOf t c.remove.new.self.keys) (sym c.in-Err.ensures.err) kept;
+      ordered = subst (λ (t : List (ℕ × Held)). IsTrue (entries.is_sorted nat_cmp t)) (sym c.in-Err.ensures.err.0) c.self.invariant.ordered;
+      indexed = subst (λ (t : List (ℕ × Held)). IsIndexOf t c.remove.new.self.keys) (sym c.in-Err.ensures.err.0) kept;
+      marked = same_marks_of c.write_marked.new.inodes.entries c.self.inside.marks c.write_marked.new.marks
+          (subst (λ (t : List (ℕ × Held)). AreMarksOf t c.self.inside.marks) (sym c.in-Err.ensures.err.0) c.self.invariant.marked)
+          c.in-Err.ensures.err.1;
     }
 
 pub invariant_of-self-in_default-old : goal.invariant_of-self-in_default-old
@@ -27,10 +32,11 @@ invariant_of-self-in_default-old c =
     let was : ◌≡◌ {A = Option (ℕ × List ℕ)} None (parent_name_in c.args.self.now c.args.node.now.inode) = search rules in
     record {
       ordered = c.in_default.ensures.ok.ordered;
-      indexed = by_place old c.write_inode.new.inodes.entries c.args.node.now c.args.name c.self.inside.children.keys c.self.invariant.indexed c.insert.new.self.keys
+      indexed = by_place old c.write_marked.new.inodes.entries c.args.node.now c.args.name c.self.inside.children.keys c.self.invariant.indexed c.insert.new.self.keys
           c.requires.named c.in_default.ensures.ok None
           (ap (λ (t : List (ℕ × Held)). parent_name_in t c.args.node.now.inode) c.self.view_is ∙ sym was)
           c.in_ok-is_new.ensures.updates.0;
+      marked = c.in_default.ensures.marks;
     }
 
 pub invariant_of-self-then-not-bears : goal.invariant_of-self-then-not-bears
@@ -42,13 +48,14 @@ invariant_of-self-then-not-bears c =
     let other : ((eqb c.in-Some.parent c.args.node.now.parent) && is_named c.args.name (Some c.in-Some.left)) ≡ false = search rules in
     record {
       ordered = c.in_default.ensures.ok.ordered;
-      indexed = by_place old c.write_inode.new.inodes.entries c.args.node.now c.args.name c.self.inside.children.keys c.self.invariant.indexed c.remove-then-not-bears.new.self.keys
+      indexed = by_place old c.write_marked.new.inodes.entries c.args.node.now c.args.name c.self.inside.children.keys c.self.invariant.indexed c.remove-then-not-bears.new.self.keys
           c.requires.named c.in_default.ensures.ok (Some (c.in-Some.parent, c.in-Some.left))
           (ap (λ (t : List (ℕ × Held)). parent_name_in t c.args.node.now.inode) c.self.view_is ∙ sym was)
           (inl (
             λ q. c.remove-then-not-bears.ensures.updates.0 q ∙ ap (λ b. cond (tied left q) false b) (c.in_ok-is_new.ensures.updates.0 q),
             parted c.args.node.now.parent c.args.name c.args.node.now.inode (c.in-Some.parent, c.in-Some.left) other,
           ));
+      marked = c.in_default.ensures.marks;
     }
 
 pub invariant_of-self-else-not-bears : goal.invariant_of-self-else-not-bears
@@ -58,20 +65,21 @@ invariant_of-self-else-not-bears c =
     let same : ((eqb c.in-Some.parent c.args.node.now.parent) && is_named c.args.name (Some c.in-Some.left)) ≡ true = search rules in
     record {
       ordered = c.in_default.ensures.ok.ordered;
-      indexed = by_place old c.write_inode.new.inodes.entries c.args.node.now c.args.name c.self.inside.children.keys c.self.invariant.indexed c.insert.new.self.keys
+      indexed = by_place old c.write_marked.new.inodes.entries c.args.node.now c.args.name c.self.inside.children.keys c.self.invariant.indexed c.insert.new.self.keys
           c.requires.named c.in_default.ensures.ok (Some (c.in-Some.parent, c.in-Some.left))
           (ap (λ (t : List (ℕ × Held)). parent_name_in t c.args.node.now.inode) c.self.view_is ∙ sym was)
           (inr (c.in_ok-is_new.ensures.updates.0, stayed c.args.node.now.parent c.args.name (c.in-Some.parent, c.in-Some.left) same));
+      marked = c.in_default.ensures.marks;
     }
 
 pub returns-in_default-old-clause-ok : goal.returns-in_default-old-clause-ok
 returns-in_default-old-clause-ok c =
-    put_there c.self.inside.inodes.entries c.args.self.now c.write_inode.new.inodes.entries c.args.node.now c.self.view_is c.self.invariant.ordered c.in_default.ensures.ok
+    put_there c.self.inside.inodes.entries c.args.self.now c.write_marked.new.inodes.entries c.args.node.now c.self.view_is c.self.invariant.ordered c.in_default.ensures.ok
 
 pub returns-then-not-bears-clause-ok : goal.returns-then-not-bears-clause-ok
 returns-then-not-bears-clause-ok c =
-    put_there c.self.inside.inodes.entries c.args.self.now c.write_inode.new.inodes.entries c.args.node.now c.self.view_is c.self.invariant.ordered c.in_default.ensures.ok
+    put_there c.self.inside.inodes.entries c.args.self.now c.write_marked.new.inodes.entries c.args.node.now c.self.view_is c.self.invariant.ordered c.in_default.ensures.ok
 
 pub returns-else-not-bears-clause-ok : goal.returns-else-not-bears-clause-ok
 returns-else-not-bears-clause-ok c =
-    put_there c.self.inside.inodes.entries c.args.self.now c.write_inode.new.inodes.entries c.args.node.now c.self.view_is c.self.invariant.ordered c.in_default.ensures.ok
+    put_there c.self.inside.inodes.entries c.args.self.now c.write_marked.new.inodes.entries c.args.node.now c.self.view_is c.self.invariant.ordered c.in_default.ensures.ok

@@ -41,3 +41,4 @@ pub mod Splitting
 pub mod Taking
 pub mod Overwriting
 pub mod SameCells
+pub mod FileWritten

@@ -1,10 +1,11 @@
 -- A file as its fragments: ranges of offsets, each written by one node. What no node wrote (a hole, padding) is in none.
-use Rattle.std.specs.Prelude.{◌≡◌, ◌<◌, ◌≤◌, ◌⊎◌, ℕ, ◌+◌, ◌-◌, not, ◌&&◌, ◌==◌, nat_le, nat_lt, List, [], ◌∷◌, ◌++◌, length, map, replicate, take, drop, sum_by, Option, Some, None, if◌then◌else◌}
+use Rattle.std.specs.Prelude.{◌≡◌, ◌≢◌, ◌<◌, ◌≤◌, ◌⊎◌, ℕ, ◌+◌, ◌-◌, not, ◌&&◌, ◌==◌, nat_le, nat_lt, List, [], ◌∷◌, ◌++◌, length, map, replicate, take, drop, sum_by, Option, Some, None, if◌then◌else◌}
 use Rattle.std.specs.List.{AllByRecursion, filter}
 use Rattle.std.specs.Map.{values_of}
 use Rattle.jffs_node.specs.declared.node.Node.{Node}
 use Rattle.jffs_node.specs.Record.{dsize, file_max}
 use Rattle.jffs_tree.specs.Marks.{Counts, mark_of}
+use Rattle.jffs_tree.specs.After.{spliced_with, sized_with, IsSmall}
 use Rattle.jffs_tree.specs.declared.fragment.Fragment.{Fragment}
 
 -- fragments, each under its first offset
@@ -94,3 +95,15 @@ pub record SameCells (old new : Fragments) : Type 0 where
   pub cells : (size : ℕ) → AreLaid 0 size old → laid 0 size new ≡ laid 0 size old
   pub amounts : (v : ℕ) → amount_by v new ≡ amount_by v old
   pub cuts : (q : ℕ) → AreCut q old → AreCut q new
+
+-- A node can be written over a file of the size: nothing gets too long, and no byte behind its range moves.
+pub record FitsFile (n : Node) (size : ℕ) : Type 0 where
+  pub small : size ≤ file_max
+  pub node : IsSmall n
+  pub places : dsize n ≢ n.rsize → size ≤ n.offset + n.rsize
+
+-- The cells are those before, spliced and sized as the node says.
+pub record IsFileAfter (n : Node) (size : ℕ) (was : Fragments) (after : ℕ) (now : Fragments) : Type 0 where
+  pub ordered : AreLaid 0 after now
+  pub small : after ≤ file_max
+  pub cells : laid 0 after now ≡ sized_with None n.size (spliced_with None n.offset n.rsize (map (λ b. Some (b, n.version)) n.bytes) (laid 0 size was))

@@ -1,15 +1,15 @@
 //! Fragments: the ranges of a file's bytes that nodes wrote.
 
-ghost use Rattle.std.specs.Prelude.{◌≡◌, ◌≤◌, ◌<◌, ◌+◌, ◌==◌, ℕ, length, [], Some, OnOk, OnErr, IsSome, IfSome, IfNone, if◌then◌else◌};
+ghost use Rattle.std.specs.Prelude.{◌≡◌, ◌≤◌, ◌<◌, ◌+◌, ◌==◌, ℕ, length, [], Some, OnOk, OnErr, IfOk, IsSome, IfSome, IfNone, if◌then◌else◌};
 ghost use Rattle.std.specs.BTreeMap.{get, insert_entry, is_at};
 ghost use Rattle.std.specs.Map.{remove_entry};
 ghost use Rattle.std.specs.Ordering.{nat_cmp};
 ghost use Rattle.jffs_node.specs.Record.{file_max};
 ghost use Rattle.jffs_tree.specs.Marks.{mark_of, brought_by};
-ghost use Rattle.jffs_tree.specs.Fragments.{AreLaid, AreCut, AreShort, SameCells, HasAmounts, MovesAmounts, end_of, outside, overwritten, amount_by, part_by};
+ghost use Rattle.jffs_tree.specs.Fragments.{AreLaid, AreCut, AreShort, FitsFile, IsFileAfter, SameCells, HasAmounts, MovesAmounts, end_of, outside, overwritten, amount_by, part_by};
 
 use crate::marks::Marks;
-use jffs_node::{Bytes, Node, shared};
+use jffs_node::{Bytes, FILE_MAX, Node, shared};
 use std::alloc::AllocError;
 use std::collections::BTreeMap;
 
@@ -93,6 +93,37 @@ pub(crate) fn split_at(fragments: &mut Fragments, at: u32) -> Result<(), AllocEr
         };
     }
     Ok(())
+}
+
+/// Writes a node over the fragments of a file of a size, and returns the size after it. Where an
+/// allocation failed, the file reads as before.
+pub(crate) fn write_over(
+    fragments: &mut Fragments,
+    size: u32,
+    node: &Node,
+    marks: &mut Marks,
+) -> Result<u32, AllocError>
+    requires laid { AreLaid 0 size fragments.old.entries }
+    requires fits { FitsFile node.now size }
+    requires marked { (v : ℕ) → amount_by v fragments.old.entries + brought_by v node.now ≤ mark_of marks.old v node.now.inode }
+    ensures ok { IfOk result (λ after. IsFileAfter node.now size fragments.old.entries after fragments.new.entries) }
+    ensures moved { OnOk result ((v i : ℕ) → mark_of marks.new v i + (if i == node.now.inode then amount_by v fragments.old.entries + brought_by v node.now else 0) ≡ mark_of marks.old v i + (if i == node.now.inode then amount_by v fragments.new.entries else 0)) }
+    ensures err { OnErr result (SameCells fragments.old.entries fragments.new.entries × (marks.new ≡ marks.old)) }
+{
+    let amount = node.bytes.len() as u32;
+    let reached = node.offset + amount;
+    let moves = amount != node.rsize;
+    let end = if moves { FILE_MAX } else { reached };
+    make_cuts(fragments, node, end)?;
+    overwrite(fragments, node, end, marks)?;
+    match node.size {
+        Some(stated) => {
+            take_out(fragments, stated, FILE_MAX, node.inode, marks);
+            Ok(stated)
+        }
+        None if moves => Ok(reached),
+        None => Ok(reached.max(size)),
+    }
 }
 
 /// Cuts the fragments at both ends of what a node writes and at the size that it states, so that

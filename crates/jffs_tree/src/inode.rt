@@ -8,10 +8,10 @@ ghost use Rattle.jffs_tree.specs.Marks.{HasMarks, MovesMarks, SameMarks, HasPlac
 ghost use Rattle.jffs_tree.specs.Check.{bytes_are_written};
 ghost use Rattle.jffs_tree.specs.Decide.{is_current};
 
-use crate::fragment::{Fragments, lower_all, make_cuts, overwrite, take_out};
+use crate::fragment::{Fragments, lower_all, write_over};
 use crate::marks::Marks;
 use crate::piece::{are_whole, copy_piece, writer_at};
-use jffs_node::{FILE_MAX, Kind, Name, Node};
+use jffs_node::{Kind, Name, Node};
 use std::alloc::{AllocError, Global};
 use std::collections::BTreeMap;
 use std::marker::Model;
@@ -77,17 +77,7 @@ impl Inode {
         ensures marks { OnOk result (MovesMarks marks.old marks.new node.now self.old self.new) }
         ensures err { OnErr result ((self.new ≡ self.old) × SameMarks marks.old marks.new) }
     {
-        let amount = node.bytes.len() as u32;
-        let moves = amount != node.rsize;
-        let end = if moves { FILE_MAX } else { node.offset + amount };
-        make_cuts(&mut self.fragments, node, end)?;
-        overwrite(&mut self.fragments, node, end, marks)?;
-        let reached = node.offset + amount;
-        self.size = if moves { reached } else { reached.max(self.size) };
-        if let Some(size) = node.size {
-            take_out(&mut self.fragments, size, FILE_MAX, node.inode, marks);
-            self.size = size;
-        }
+        self.size = write_over(&mut self.fragments, self.size, node, marks)?;
         self.kind = node.kind;
         self.parent = node.parent;
         self.name = name;

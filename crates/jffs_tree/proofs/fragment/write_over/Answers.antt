@@ -1,0 +1,64 @@
+use Rattle.std.proofs.Common.{◌≡◌, ◌≤◌, ◌∙◌, ◌+◌, ℕ, max, inl, inr, Option, IfSome, unwrap_or, ap, subst, sym, arith}
+use Rattle.jffs_node.specs.Record.{dsize, file_max}
+use Rattle.jffs_tree.specs.Fragments.{AreLaid, AreCut, IsFileAfter}
+use Rattle.jffs_tree.proofs.FileWritten.{Ends, spliced_either, spliced_moved, spliced_stayed, file_plain, file_stated, cut_overwritten}
+use Rattle.jffs_tree.proofs.Fragments.{are_laid_grown}
+use Rattle.jffs_tree.proofs.Overwriting.{short_from_laid}
+use Rattle.jffs_tree.proofs.fragment.write_over.Goals as goal
+use Rattle.jffs_tree.proofs.fragment.write_over.Goals.{then-moves, else-moves}
+
+pub make_cuts-requires : goal.make_cuts-requires
+make_cuts-requires c = record { laid = are_laid_grown 0 c.args.size file_max c.args.fragments.now.entries c.requires.laid c.requires.fits.small }
+
+pub overwrite-requires-clause-laid : goal.overwrite-requires-clause-laid
+overwrite-requires-clause-laid c =
+    c.in_ok-make_cuts.ensures.same.stay file_max (are_laid_grown 0 c.args.size file_max c.args.fragments.now.entries c.requires.laid c.requires.fits.small)
+
+pub take_out-requires-clause-short : goal.take_out-requires-clause-short
+take_out-requires-clause-short c =
+    let ends : Ends c.args.node.now c.len-amount.result c.if-moves.end = elim c.if-moves.branch [
+    | then-moves w ↦ inl (w.if-moves.true, w.end-is)
+    | else-moves w ↦ inr (w.if-moves.false, w.end-is)
+    ] in
+    let s = spliced_either c.args.node.now c.args.size c.len-amount.result c.if-moves.end c.make_cuts.new.fragments.entries c.overwrite.new.fragments.entries c.len-amount.ensures.value ends
+    (c.in_ok-make_cuts.ensures.same.stay c.args.size c.requires.laid) c.requires.fits c.in_ok-make_cuts.ensures.offset c.in_ok-make_cuts.ensures.end c.in_ok-overwrite.ensures.ok in
+    short_from_laid 0 s.0 c.overwrite.new.fragments.entries s.1.ordered s.1.small
+
+pub returns-in-Some-clause-ok : goal.returns-in-Some-clause-ok
+returns-in-Some-clause-ok c =
+    let ends : Ends c.args.node.now c.len-amount.result c.if-moves.end = elim c.if-moves.branch [
+    | then-moves w ↦ inl (w.if-moves.true, w.end-is)
+    | else-moves w ↦ inr (w.if-moves.false, w.end-is)
+    ] in
+    let s = spliced_either c.args.node.now c.args.size c.len-amount.result c.if-moves.end c.make_cuts.new.fragments.entries c.overwrite.new.fragments.entries c.len-amount.ensures.value ends
+    (c.in_ok-make_cuts.ensures.same.stay c.args.size c.requires.laid) c.requires.fits c.in_ok-make_cuts.ensures.offset c.in_ok-make_cuts.ensures.end c.in_ok-overwrite.ensures.ok in
+    let is = c.in-Some.is in
+    let low : c.in-Some.stated ≤ file_max = subst (λ (o : Option ℕ). unwrap_or o 0 ≤ file_max) is c.requires.fits.node.size in
+    let inside : c.args.node.now.offset + dsize c.args.node.now ≤ c.in-Some.stated = subst (λ (o : Option ℕ). IfSome o (λ k. c.args.node.now.offset + dsize c.args.node.now ≤ k)) is c.requires.fits.node.inside in
+    let cut : AreCut c.in-Some.stated c.make_cuts.new.fragments.entries = subst (λ (o : Option ℕ). IfSome o (λ k. AreCut k c.make_cuts.new.fragments.entries)) is c.in_ok-make_cuts.ensures.size in
+    let at : AreCut c.in-Some.stated c.overwrite.new.fragments.entries = subst (AreCut c.in-Some.stated) (sym c.in_ok-overwrite.ensures.ok) (cut_overwritten c.in-Some.stated c.if-moves.end c.args.node.now c.make_cuts.new.fragments.entries cut inside) in
+    file_stated c.args.node.now c.args.size s.0 c.in-Some.stated c.args.fragments.now.entries c.make_cuts.new.fragments.entries c.overwrite.new.fragments.entries c.take_out.new.fragments.entries
+    c.in_ok-make_cuts.ensures.same c.requires.laid s.1 is low at c.take_out.ensures.left
+
+pub returns-in-None-clause-ok : goal.returns-in-None-clause-ok
+returns-in-None-clause-ok c =
+    let ends : Ends c.args.node.now c.len-amount.result c.if-moves.end = elim c.if-moves.branch [
+    | then-moves w ↦ inl (w.if-moves.true, w.end-is)
+    | else-moves w ↦ inr (w.if-moves.false, w.end-is)
+    ] in
+    file_plain c.args.node.now c.args.size (c.args.node.now.offset + c.len-amount.result) c.args.fragments.now.entries c.make_cuts.new.fragments.entries c.overwrite.new.fragments.entries c.in_ok-make_cuts.ensures.same c.requires.laid
+    (spliced_moved c.args.node.now c.args.size c.len-amount.result c.if-moves.end c.make_cuts.new.fragments.entries c.overwrite.new.fragments.entries c.len-amount.ensures.value ends c.if-moves-2.true
+    (c.in_ok-make_cuts.ensures.same.stay c.args.size c.requires.laid) c.requires.fits c.in_ok-make_cuts.ensures.offset c.in_ok-overwrite.ensures.ok)
+    c.in-None.is
+
+pub returns-in-None-2-clause-ok : goal.returns-in-None-2-clause-ok
+returns-in-None-2-clause-ok c =
+    let ends : Ends c.args.node.now c.len-amount.result c.if-moves.end = elim c.if-moves.branch [
+    | then-moves w ↦ inl (w.if-moves.true, w.end-is)
+    | else-moves w ↦ inr (w.if-moves.false, w.end-is)
+    ] in
+    subst (λ k. IsFileAfter c.args.node.now c.args.size c.args.fragments.now.entries k c.overwrite.new.fragments.entries) (sym c.max.ensures)
+    (file_plain c.args.node.now c.args.size (max (c.args.node.now.offset + c.len-amount.result) c.args.size) c.args.fragments.now.entries c.make_cuts.new.fragments.entries c.overwrite.new.fragments.entries c.in_ok-make_cuts.ensures.same c.requires.laid
+    (spliced_stayed c.args.node.now c.args.size c.len-amount.result c.if-moves.end c.make_cuts.new.fragments.entries c.overwrite.new.fragments.entries c.len-amount.ensures.value ends c.if-moves-2.false
+    (c.in_ok-make_cuts.ensures.same.stay c.args.size c.requires.laid) c.requires.fits c.in_ok-make_cuts.ensures.offset c.in_ok-make_cuts.ensures.end c.in_ok-overwrite.ensures.ok)
+    c.in-None-2.is)

@@ -69,3 +69,9 @@ pub record IsSmall (n : Node) : Type 0 where
   pub range : n.offset + dsize n ≤ file_max
   pub size : unwrap_or n.size 0 ≤ file_max
   pub inside : IfSome n.size (λ s. n.offset + dsize n ≤ s)
+
+-- Under its name the node can be written over its inode in a tree, present or not.
+pub record IsWritable (tree : Tree) (n : Node) (name : List ℕ) : Type 0 where
+  pub named : n.name ≡ Some name
+  pub small : IsSmall n
+  pub places : IsTrue (keeps_places_in tree n)

@@ -4,7 +4,7 @@ ghost use Rattle.std.specs.Prelude.{◌≡◌, ◌+◌, ◌≤◌, ℕ, ◌∷�
 ghost use Rattle.jffs_node.specs.declared.node.Node.{Node};
 ghost use Rattle.jffs_node.specs.Record.{file_max, is_lawful};
 ghost use Rattle.jffs_tree.specs.Origin.{tree_of};
-ghost use Rattle.jffs_tree.specs.After.{held_in, keeps_places_in, tree_after, without_inode, put_node, IsSmall, IsWritten};
+ghost use Rattle.jffs_tree.specs.After.{held_in, keeps_places_in, tree_after, without_inode, put_node, IsSmall, IsWritable, IsWritten};
 ghost use Rattle.jffs_tree.specs.Marks.{AreMarksOf, SameMarks, HasMarksIn, MovesMarksIn, held_marks};
 
 use crate::children::{Place, bears};
@@ -128,9 +128,7 @@ fn write_marked(
     node: &Node,
     name: Name,
 ) -> Result<(), AllocError>
-    requires named { node.now.name ≡ Some name }
-    requires small { IsSmall node.now }
-    requires places { IsTrue (keeps_places_in inodes.old.entries node.now) }
+    requires writable { IsWritable inodes.old.entries node.now name }
     requires marked { AreMarksOf inodes.old.entries marks.old }
     ensures ok { OnOk result (IsWritten inodes.old.entries inodes.new.entries node.now) }
     ensures marks { OnOk result (AreMarksOf inodes.new.entries marks.new) }
@@ -169,9 +167,7 @@ fn write_inode(
     node: &Node,
     name: Name,
 ) -> Result<(), AllocError>
-    requires named { node.now.name ≡ Some name }
-    requires small { IsSmall node.now }
-    requires places { IsTrue (keeps_places_in inodes.old.entries node.now) }
+    requires writable { IsWritable inodes.old.entries node.now name }
     requires marked { HasMarksIn marks.old node.now inodes.old.entries }
     ensures ok { OnOk result (IsWritten inodes.old.entries inodes.new.entries node.now) }
     ensures marks { OnOk result (MovesMarksIn marks.old marks.new node.now inodes.old.entries inodes.new.entries) }
@@ -196,9 +192,7 @@ fn write_present(
     name: Name,
 ) -> Result<(), AllocError>
     requires present { IsSome (held_in inodes.old.entries node.now.inode) }
-    requires named { node.now.name ≡ Some name }
-    requires small { IsSmall node.now }
-    requires places { IsTrue (keeps_places_in inodes.old.entries node.now) }
+    requires writable { IsWritable inodes.old.entries node.now name }
     requires marked { HasMarksIn marks.old node.now inodes.old.entries }
     ensures ok { OnOk result (IsWritten inodes.old.entries inodes.new.entries node.now) }
     ensures marks { OnOk result (MovesMarksIn marks.old marks.new node.now inodes.old.entries inodes.new.entries) }

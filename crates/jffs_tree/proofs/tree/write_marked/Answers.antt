@@ -7,7 +7,7 @@ pub raise-requires : goal.raise-requires
 raise-requires c =
     let few = c.newest_of-left.ensures.few c.args.node.now.version in
     let marked = c.requires.marked c.args.node.now.version c.args.node.now.inode in
-    let small = c.requires.small.range in
+    let small = c.requires.writable.small.range in
     let long = ap (λ (b : List ℕ). length b) c.as_slice.ensures in
     omega (arith, few, marked, small, long)
 

@@ -42,3 +42,4 @@ pub mod Taking
 pub mod Overwriting
 pub mod SameCells
 pub mod FileWritten
+pub mod Counted

@@ -7,13 +7,17 @@ use Rattle.std.proofs.lemmas.Option.{none-some}
 use Rattle.std.specs.List.{AllByRecursion}
 use Rattle.std.specs.List.Sorted.{IsStrictlySortedBy}
 use Rattle.std.specs.FinMap.Entries as entries
+use Rattle.std.specs.declared.cmp.Ordering.{Ordering}
 use Rattle.std.specs.declared.cmp.Ordering.TheVariants.{Less, Equal, Greater}
 use Rattle.std.specs.Map.{lookup}
 use Rattle.std.specs.BTreeMap.{is_at}
 
+pub found_by : {K X : Type 0} (R : K → K → Ordering) (q : K) (es : List (K × X)) → lookup (is_at (R q)) es ≡ entries.find R q es
+found_by R q [] = refl
+found_by R q (e ∷ es) = ap (λ o. cond (is_at (R q) e.0) (Some e.1) o) (found_by R q es)
+
 pub found_get : {X : Type 0} (q : ℕ) (es : List (ℕ × X)) → lookup (is_at (nat_cmp q)) es ≡ entries.find nat_cmp q es
-found_get q [] = refl
-found_get q (e ∷ es) = ap (λ o. cond (is_at (nat_cmp q) e.0) (Some e.1) o) (found_get q es)
+found_get q es = found_by nat_cmp q es
 
 pub t_true : (b : Bool) → T b → b ≡ true
 t_true true h = refl
@@ -33,15 +37,19 @@ both : (a b : Bool) → T a → T b → T (a && b)
 both true b p q = q
 both false b p q = p
 
-module _ {X : Type 0} where
-  below : (k : ℕ) (es : List (ℕ × X)) → AllByRecursion (λ y. nat_cmp k y ≡ Less) (map (λ e. e.0) es) → T (entries.below_all nat_cmp k es)
+module _ {K X : Type 0} (R : K → K → Ordering) where
+  below : (k : K) (es : List (K × X)) → AllByRecursion (λ y. R k y ≡ Less) (map (λ e. e.0) es) → T (entries.below_all R k es)
   below k [] h = tt
-  below k (e ∷ es) h = both (is_lt (nat_cmp k e.0)) (entries.below_all nat_cmp k es) (subst (λ o. T (is_lt o)) (sym h.0) tt) (below k es h.1)
+  below k (e ∷ es) h = both (is_lt (R k e.0)) (entries.below_all R k es) (subst (λ o. T (is_lt o)) (sym h.0) tt) (below k es h.1)
 
-  pub sorted_map : (es : List (ℕ × X)) → IsStrictlySortedBy nat_cmp (map (λ e. e.0) es) → T (entries.is_sorted nat_cmp es)
+  pub sorted_by : (es : List (K × X)) → IsStrictlySortedBy R (map (λ e. e.0) es) → T (entries.is_sorted R es)
   unfolding IsStrictlySortedBy
-  sorted_map [] h = tt
-  sorted_map (e ∷ es) h = both (entries.below_all nat_cmp e.0 es) (entries.is_sorted nat_cmp es) (below e.0 es h.0) (sorted_map es h.1)
+  sorted_by [] h = tt
+  sorted_by (e ∷ es) h = both (entries.below_all R e.0 es) (entries.is_sorted R es) (below e.0 es h.0) (sorted_by es h.1)
+
+module _ {X : Type 0} where
+  pub sorted_map : (es : List (ℕ × X)) → IsStrictlySortedBy nat_cmp (map (λ e. e.0) es) → T (entries.is_sorted nat_cmp es)
+  sorted_map es h = sorted_by nat_cmp es h
 
   -- The first entry of a sorted map, and those behind it.
   pub tail_sorted : (e : ℕ × X) (es : List (ℕ × X)) → T (entries.is_sorted nat_cmp (e ∷ es)) → T (entries.is_sorted nat_cmp es)

@@ -19,7 +19,7 @@ use Rattle.jffs_tree.specs.Origin.{Held, Tree, versions_held}
 use Rattle.jffs_tree.specs.After.{held_in}
 use Rattle.jffs_tree.specs.Look.{marks_in}
 use Rattle.jffs_tree.specs.Marks.{Counts, mark_cmp, mark_of, marks_of, AreKept, held_marks, AreMarksOf}
-use Rattle.jffs_tree.proofs.Maps.{t_true, tail_sorted, tail_behind, at_first, behind}
+use Rattle.jffs_tree.proofs.Maps.{found_by, sorted_by, t_true, tail_sorted, tail_behind, at_first, behind}
 use Rattle.jffs_tree.proofs.Marking.{mark_tied, mark_low, mark_from, turned}
 use Rattle.jffs_tree.proofs.PlaceOrder.{then_tied, nat_tied}
 
@@ -62,15 +62,6 @@ rest_sorted e es h = subst T (sym (and_parts (entries.below_all mark_cmp e.0 es)
 
 rest_above : (e : (ℕ × ℕ) × ℕ) (es : Counts) → Sorted (e ∷ es) → Above e.0 es
 rest_above e es h = subst T (sym (and_parts (entries.below_all mark_cmp e.0 es) (entries.is_sorted mark_cmp es) (t_true _ h)).0) tt
-
-all_above : (k : ℕ × ℕ) (es : Counts) → AllByRecursion (λ y. mark_cmp k y ≡ Less) (map (λ e. e.0) es) → Above k es
-all_above k [] h = tt
-all_above k (e ∷ es) h = subst T (sym (and_from (is_lt (mark_cmp k e.0)) (entries.below_all mark_cmp k es) (ap is_lt h.0) (t_true _ (all_above k es h.1)))) tt
-
-sorted_counts : (es : Counts) → IsStrictlySortedBy mark_cmp (map (λ e. e.0) es) → Sorted es
-unfolding IsStrictlySortedBy
-sorted_counts [] h = tt
-sorted_counts (e ∷ es) h = subst T (sym (and_from (entries.below_all mark_cmp e.0 es) (entries.is_sorted mark_cmp es) (t_true _ (all_above e.0 es h.0)) (t_true _ (sorted_counts es h.1)))) tt
 
 -- A walk over the entries from the first that a version may have.
 pub record AreFrom (v : ℕ) (left : Counts) : Type 0 where
@@ -132,7 +123,7 @@ module _ (v : ℕ) where
       (cases_Bool (in_range e.0))
 
   pub range_from : (es : Counts) → IsStrictlySortedBy mark_cmp (map (λ e. e.0) es) → AreFrom v (filter (λ e. in_range e.0) es)
-  range_from es rising = record { sorted = entries.is_sorted-where_key mark_cmp in_range es (sorted_counts es rising); from = all_from es }
+  range_from es rising = record { sorted = entries.is_sorted-where_key mark_cmp in_range es (sorted_by mark_cmp es rising); from = all_from es }
 
   pub same_marks : (es : Counts) → marks_of (filter (λ e. in_range e.0) es) v ≡ marks_of es v
   same_marks [] = refl
@@ -236,20 +227,16 @@ module _ (v : ℕ) where
           (cases_Bool (eqb q.0 v)))
           (cases_Bool (eq_by_cmp mark_cmp (v, y.0) q))
 
-found : (q : ℕ × ℕ) (es : Counts) → lookup (is_at (mark_cmp q)) es ≡ entries.find mark_cmp q es
-found q [] = refl
-found q (e ∷ es) = ap (λ o. cond (is_at (mark_cmp q) e.0) (Some e.1) o) (found q es)
-
 pub marks_counted : (tree : Tree) (counts : Counts) → T (entries.is_sorted nat_cmp tree) → IsStrictlySortedBy mark_cmp (map (λ e. e.0) counts) → AreMarksOf tree counts → (v : ℕ) → marks_of counts v ≡ marks_in tree v
 marks_counted tree counts sorted rising marked v =
-    agree v tree sorted (filter (λ e. eqb e.0.0 v) counts) (entries.is_sorted-where_key mark_cmp (λ k. eqb k.0 v) counts (sorted_counts counts rising))
+    agree v tree sorted (filter (λ e. eqb e.0.0 v) counts) (entries.is_sorted-where_key mark_cmp (λ k. eqb k.0 v) counts (sorted_by mark_cmp counts rising))
     (λ q.
     ap (λ (o : Option ℕ). unwrap_or o 0) (entries.find-where_key mark_cmp (λ k. eqb k.0 v) q (λ x tied. alike (λ k. eqb k.0 v) q x tied) counts)
     ∙ pick (eqb q.0 v) (entries.find mark_cmp q counts)
     ∙ ⊎_elim
     (λ own.
     let same = eqb-true q.0 v own in
-    ap (λ m. cond (eqb q.0 v) m 0) (ap (λ (o : Option ℕ). unwrap_or o 0) (sym (found q counts)) ∙ marked q.0 q.1 ∙ ap (λ w. held_marks tree w q.1) same))
+    ap (λ m. cond (eqb q.0 v) m 0) (ap (λ (o : Option ℕ). unwrap_or o 0) (sym (found_by mark_cmp q counts)) ∙ marked q.0 q.1 ∙ ap (λ w. held_marks tree w q.1) same))
     (λ other. ap (λ b. cond b (at q counts) 0) other ∙ sym (ap (λ b. cond b (held_marks tree v q.1) 0) other))
     (cases_Bool (eqb q.0 v)))
 

@@ -64,7 +64,7 @@ none_counted v n = ap (count_by (λ w. eqb w v)) (nothing n)
 fragment_counted : (v w : ℕ) (bytes : List ℕ) → counted v (map (λ b. Some (b, w)) bytes) ≡ cond (eqb w v) (length bytes) 0
 fragment_counted v w [] = by_test (eqb w v)
   where
-    by_test : (t : Bool) → 0 ≡ cond t 0 0
+    by_test : (t : Bool) → ◌≡◌ {A = ℕ} 0 (cond t 0 0)
     by_test true = refl
     by_test false = refl
 fragment_counted v w (b ∷ bytes) =

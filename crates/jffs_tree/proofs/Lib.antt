@@ -43,3 +43,4 @@ pub mod Overwriting
 pub mod SameCells
 pub mod FileWritten
 pub mod Counted
+pub mod InodeWritten

@@ -1,12 +1,30 @@
-use Rattle.std.proofs.Common.{rules, ◌≡◌, ◌≢◌, ◌==◌, ◌&&◌, ◌+◌, ◌-◌, ◌≤◌, ◌++◌, [], Some, None, false, is_some, min, length, take, drop, OnOk, OnErr, bytes_eq, slice_index_or, ℕ, ◌*◌, ◌<◌, ◌/◌, ◌%◌, Bool, true, nat_eq, nat_lt, List, ◌∷◌, slice_set, bit_and, bit_or, Fits, w8, w32, w64, Bor, MutBor}
-use Rattle.std.specs.List.{list_all}
-use Rattle.jffs_node.specs.Record.{dsize}
-use Rattle.jffs_tree.specs.After.{held_after, IsSmall}
-use Rattle.jffs_tree.specs.Marks.{HasMarks, MovesMarks, SameMarks, HasPlaces, LosesPlaces}
-use Rattle.jffs_tree.specs.Check.{bytes_are_written}
-use Rattle.jffs_tree.specs.Decide.{is_current}
+use Rattle.std.proofs.Common.{◌≡◌, ◌≤◌, ◌+◌, ◌∙◌, Bool, true, false, cond, eqb, ℕ, refl, sym, ap, arith}
+use Rattle.jffs_tree.specs.Marks.{mark_of, places_by}
+use Rattle.jffs_tree.specs.Shown.{held_of}
+use Rattle.jffs_tree.specs.Fragments.{amount_by}
+use Rattle.jffs_tree.proofs.Counted.{amount_counted}
+use Rattle.jffs_tree.proofs.Overwriting.{short_from_laid}
 use Rattle.jffs_tree.proofs.inode.Inode.release.Goals as goal
 
--- src/inode.rt:102:5
+pub lower_all-requires-clause-short : goal.lower_all-requires-clause-short
+lower_all-requires-clause-short c = short_from_laid 0 c.self.inside.size c.self.inside.fragments.entries c.self.invariant.laid c.self.invariant.small
+
+pub lower_all-requires-clause-marked : goal.lower_all-requires-clause-marked
+lower_all-requires-clause-marked c = λ v.
+    let a = amount_counted v 0 c.self.inside.size c.self.inside.fragments.entries in
+    let b : places_by v c.args.self.now ≡ places_by v (held_of c.self.inside) = ap (places_by v) (sym c.self.view_is) in
+    let m = c.requires v in
+    omega arith
+
 pub returns : goal.returns
-returns c = ?
+returns c = λ v i.
+    let a : places_by v (held_of c.self.inside) ≡ amount_by v c.self.inside.fragments.entries = amount_counted v 0 c.self.inside.size c.self.inside.fragments.entries in
+    let b : places_by v c.args.self.now ≡ amount_by v c.self.inside.fragments.entries = ap (places_by v) (sym c.self.view_is) ∙ a in
+    let x = ap (λ k. cond (eqb i c.args.inode) k 0) b in
+    let m = c.lower_all.ensures v i in
+    let none = nothing (eqb i c.args.inode) in
+    omega arith
+  where
+    nothing : (t : Bool) → ◌≡◌ {A = ℕ} (cond t 0 0) 0
+    nothing true = refl
+    nothing false = refl

@@ -11,5 +11,4 @@ pub mod Look
 pub mod Laws
 pub mod Examples
 pub mod Deciding
-pub mod Marks
 pub mod Fragments

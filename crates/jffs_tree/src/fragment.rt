@@ -197,8 +197,8 @@ fn put(
     ensures moved { OnOk result ((v i : ℕ) → mark_of marks.new v i + (if i == inode then amount_by v fragments.old.entries + part_by v fragment else 0) ≡ mark_of marks.old v i + (if i == inode then amount_by v fragments.new.entries else 0)) }
     ensures err { OnErr result ((fragments.new.entries ≡ fragments.old.entries) × (marks.new ≡ marks.old)) }
 {
-    if let Some(gone) = fragments.insert(offset, fragment)? {
-        marks.lower(gone.writer, inode, gone.len());
+    if let Some(covered) = fragments.insert(offset, fragment)? {
+        marks.lower(covered.writer, inode, covered.len());
     }
     Ok(())
 }

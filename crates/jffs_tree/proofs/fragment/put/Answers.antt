@@ -8,35 +8,35 @@ use Rattle.jffs_tree.proofs.Taking.{short_found, part_of_all, amount_inserted, o
 use Rattle.jffs_tree.proofs.fragment.put.Goals as goal
 
 pub len-requires : goal.len-requires
-len-requires c = short_found (is_at (nat_cmp c.args.offset)) c.args.fragments.now.entries c.in-Some.gone c.requires.short (sym c.in_ok-gone.ensures.old ∙ c.in-Some.is)
+len-requires c = short_found (is_at (nat_cmp c.args.offset)) c.args.fragments.now.entries c.in-Some.covered c.requires.short (sym c.in_ok-covered.ensures.old ∙ c.in-Some.is)
 
 pub lower-requires : goal.lower-requires
 lower-requires c =
-    let a = part_of_all (is_at (nat_cmp c.args.offset)) c.args.fragments.now.entries c.in-Some.gone (sym c.in_ok-gone.ensures.old ∙ c.in-Some.is) in
-    let b = c.requires.marked c.in-Some.gone.writer in
+    let a = part_of_all (is_at (nat_cmp c.args.offset)) c.args.fragments.now.entries c.in-Some.covered (sym c.in_ok-covered.ensures.old ∙ c.in-Some.is) in
+    let b = c.requires.marked c.in-Some.covered.writer in
     omega arith
 
 pub returns-in-Some-clause-moved : goal.returns-in-Some-clause-moved
 returns-in-Some-clause-moved c = λ v i.
     let was = c.args.fragments.now.entries in
     let now = c.insert.new.self.entries in
-    let found : lookup (is_at (nat_cmp c.args.offset)) was ≡ Some c.in-Some.gone = sym c.in_ok-gone.ensures.old ∙ c.in-Some.is in
-    let counted : amount_by v (insert_entry nat_cmp was c.args.offset c.args.fragment) + part_by v c.in-Some.gone ≡ amount_by v was + part_by v c.args.fragment =
+    let found : lookup (is_at (nat_cmp c.args.offset)) was ≡ Some c.in-Some.covered = sym c.in_ok-covered.ensures.old ∙ c.in-Some.is in
+    let counted : amount_by v (insert_entry nat_cmp was c.args.offset c.args.fragment) + part_by v c.in-Some.covered ≡ amount_by v was + part_by v c.args.fragment =
       ap (λ (o : Option Fragment). amount_by v (insert_entry nat_cmp was c.args.offset c.args.fragment) + unwrap_or (option_map (part_by v) o) 0) (sym found)
       ∙ amount_inserted v c.args.offset c.args.fragment was c.insert.ensures.was_ordered in
-    let same : amount_by v now ≡ amount_by v (insert_entry nat_cmp was c.args.offset c.args.fragment) = ap (amount_by v) c.in_ok-gone.ensures.entries in
-    let put : amount_by v now + part_by v c.in-Some.gone ≡ amount_by v was + part_by v c.args.fragment = omega arith in
-    let lowered = ap (λ n. mark_of c.lower.new.self v i + cond (eqb v c.in-Some.gone.writer && eqb i c.args.inode) n 0) (sym c.len.ensures) ∙ c.lower.ensures v i in
-    one_put v i c.args.inode c.in-Some.gone (mark_of c.args.marks.now v i) (mark_of c.lower.new.self v i) (amount_by v was) (amount_by v now) (part_by v c.args.fragment) lowered put
+    let same : amount_by v now ≡ amount_by v (insert_entry nat_cmp was c.args.offset c.args.fragment) = ap (amount_by v) c.in_ok-covered.ensures.entries in
+    let put : amount_by v now + part_by v c.in-Some.covered ≡ amount_by v was + part_by v c.args.fragment = omega arith in
+    let lowered = ap (λ n. mark_of c.lower.new.self v i + cond (eqb v c.in-Some.covered.writer && eqb i c.args.inode) n 0) (sym c.len.ensures) ∙ c.lower.ensures v i in
+    one_put v i c.args.inode c.in-Some.covered (mark_of c.args.marks.now v i) (mark_of c.lower.new.self v i) (amount_by v was) (amount_by v now) (part_by v c.args.fragment) lowered put
 
 pub returns-in_default-clause-moved : goal.returns-in_default-clause-moved
 returns-in_default-clause-moved c = λ v i.
     let was = c.args.fragments.now.entries in
     let now = c.insert.new.self.entries in
-    let none : lookup (is_at (nat_cmp c.args.offset)) was ≡ None = sym c.in_ok-gone.ensures.old ∙ c.in_default.is in
+    let none : lookup (is_at (nat_cmp c.args.offset)) was ≡ None = sym c.in_ok-covered.ensures.old ∙ c.in_default.is in
     let counted : amount_by v (insert_entry nat_cmp was c.args.offset c.args.fragment) + 0 ≡ amount_by v was + part_by v c.args.fragment =
       ap (λ (o : Option Fragment). amount_by v (insert_entry nat_cmp was c.args.offset c.args.fragment) + unwrap_or (option_map (part_by v) o) 0) (sym none)
       ∙ amount_inserted v c.args.offset c.args.fragment was c.insert.ensures.was_ordered in
-    let same : amount_by v now ≡ amount_by v (insert_entry nat_cmp was c.args.offset c.args.fragment) = ap (amount_by v) c.in_ok-gone.ensures.entries in
+    let same : amount_by v now ≡ amount_by v (insert_entry nat_cmp was c.args.offset c.args.fragment) = ap (amount_by v) c.in_ok-covered.ensures.entries in
     let put : amount_by v was + part_by v c.args.fragment ≡ amount_by v now = omega arith in
     ap (λ n. mark_of c.args.marks.now v i + n) (same_in (eqb i c.args.inode) (amount_by v was + part_by v c.args.fragment) (amount_by v now) put)

@@ -40,4 +40,5 @@ pub mod Fragments
 pub mod Splitting
 pub mod Taking
 pub mod Overwriting
+pub mod Reading
 pub mod SameCells

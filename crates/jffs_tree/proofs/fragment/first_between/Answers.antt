@@ -1,4 +1,4 @@
-use Rattle.std.proofs.Common.{◌∙◌, sym}
+use Rattle.std.proofs.Common.{◌∙◌, sym, arith}
 use Rattle.jffs_tree.proofs.Taking.{none_from_here, first_too_late}
 use Rattle.jffs_tree.proofs.fragment.first_between.Goals as goal
 
@@ -7,3 +7,6 @@ returns-in_default-clause-none c = none_from_here c.args.from c.args.to c.args.f
 
 pub returns-else-first-to-clause-none : goal.returns-else-first-to-clause-none
 returns-else-first-to-clause-none c = first_too_late c.args.from c.args.to c.args.fragments.now.entries _ _ _ c.range-later.ensures.ordered (sym (c.range-later.ensures.between tt) ∙ c.in-Some.ensures.steps) c.if-first-to.false
+
+pub returns-then-first-to-clause-least : goal.returns-then-first-to-clause-least
+returns-then-first-to-clause-least c = first_too_late c.args.from c.in-Some.first.now c.args.fragments.now.entries _ _ _ c.range-later.ensures.ordered (sym (c.range-later.ensures.between tt) ∙ c.in-Some.ensures.steps) (omega arith)

@@ -3,9 +3,11 @@ use Rattle.std.proofs.Common.{◌≡◌, ℕ, zero, suc, ◌+◌, ◌-◌, ◌<�
 use Rattle.std.specs.List.{AllByRecursion, filter, list_all}
 use Rattle.std.specs.Map.{lookup}
 use Rattle.std.specs.BTreeMap.{is_at}
-use Rattle.std.proofs.Math.Seq.{take-append_seam, drop-append_seam, take-length}
+use Rattle.std.proofs.Math.Seq.{take-append_seam, drop-append_seam, take-length, take-add}
 use Rattle.std.proofs.lemmas.Bool.{cases_Bool, cases_lt, le-leb, lt-ltb, eq-eqb, ne_eqb}
-use Rattle.std.proofs.lemmas.List.{length-map, length-replicate, map-append, take-append-drop, replicate-append-replicate, get_or-append_right, get_or_append_left, get_or-replicate, get_or_past}
+use Rattle.std.proofs.lemmas.List.{length-map, length-replicate, length-take-le, map-append, drop-append-le, drop-drop, take-append-drop, replicate-append-replicate, get_or-append_right, get_or_append_left, get_or-replicate, get_or_past}
+use Rattle.std.proofs.lemmas.Slice.{drop-append-drop}
+use borrow.Rule.Slice.PartMut.{put_mid}
 use Rattle.jffs_node.proofs.Each.{each_append, each_front}
 use Rattle.jffs_tree.specs.declared.fragment.Fragment.{Fragment}
 use Rattle.jffs_tree.specs.Fragments.{Fragments, Cell, byte_of, writer_of, cells_of, end_of, laid, AreLaid, NoneHolds, Says, outside}
@@ -268,17 +270,50 @@ written_step end size k f es same =
     ∙ written_cells f.writer f.bytes (laid (k + length f.bytes) size es)
     ∙ ap (λ x. all_written (laid (x + length f.bytes) size es)) same
 
-pub written_gap : (end size k : ℕ) (f : Fragment) (es : Fragments) → end < k → all_written (laid end size ((k, f) ∷ es)) ≡ false
-written_gap end size k f es less =
-    let gap : k - end ≡ suc (k - suc end) = omega arith in
-    ap (λ x. all_written (replicate {A = Cell} x None ++ (cells_of f ++ laid (k + length f.bytes) size es))) gap
+-- ---- one more piece read
+pub said_next : (es : Fragments) (size start done n : ℕ) (piece : List ℕ) → Says es (start + done) (take n piece) → AreLaid 0 size es → n ≤ length piece → start + done + n ≤ size → take n (drop done (drop start (map byte_of (laid 0 size es)))) ≡ take n piece
+said_next es size start done n piece says h some fits =
+    let bytes = map byte_of (laid 0 size es) in
+    let len = length-take-le n piece some in
+    ap (λ x. take n x) (drop-drop done start bytes)
+    ∙ ap (λ k. take k (drop (start + done) bytes)) (sym len)
+    ∙ says size h (omega arith)
 
-pub written_end : (end size : ℕ) → end ≤ size → all_written (laid end size []) ≡ eqb end size
-written_end end size l = ⊎_elim
-    (λ less.
-    let gap : size - end ≡ suc (size - suc end) = omega arith in
-    ap (λ x. all_written (replicate {A = Cell} x None)) gap ∙ sym (ne_eqb end size (λ same. omega arith)))
-    (λ past.
-    let gap : size - end ≡ 0 = omega arith in
-    ap (λ x. all_written (replicate {A = Cell} x None)) gap ∙ sym (eq-eqb end size (omega arith)))
-    (cases_lt end size)
+module _ (all old out piece : List ℕ) (done count n : ℕ)
+    (read : out ≡ take done all ++ drop done old)
+    (fits : count ≤ length old) (there : count ≤ length all) (low : done ≤ count)
+    (same_length : length piece ≡ count - done) (some : n ≤ count - done)
+    (copied : take n (drop done all) ≡ take n piece)
+    (kept : drop n piece ≡ drop n (take (count - done) (drop done out))) where
+  so_far : length (take done all) ≡ done
+  so_far = length-take-le done all (omega arith)
+
+  rest_of_old : drop done out ≡ drop done old
+  rest_of_old = ap (λ x. drop done x) read ∙ drop-append-drop done old (take done all) done (omega arith) so_far
+
+  first_of_all : take done out ≡ take done all
+  first_of_all = ap (λ x. take done x) read ∙ ap (λ k. take k (take done all ++ drop done old)) (sym so_far) ∙ take-append_seam (take done all) (drop done old)
+
+  rest_of_piece : drop n piece ++ drop (count - done) (drop done out) ≡ drop (done + n) old
+  rest_of_piece =
+      let m = count - done in
+      let left = drop done old in
+      let len = length-drop done old in
+      let whole = length-take-le m left (omega arith) in
+      ap (λ x. x ++ drop m (drop done out)) kept
+      ∙ ap (λ x. drop n (take m x) ++ drop m x) rest_of_old
+      ∙ sym (drop-append-le n (take m left) (drop m left) (omega arith))
+      ∙ ap (λ x. drop n x) (take-append-drop m left)
+      ∙ drop-drop n done old
+
+  pub read_more : put_mid done (count - done) out piece ≡ take (done + n) all ++ drop (done + n) old
+  read_more =
+      let m = count - done in
+      let after = drop m (drop done out) in
+      ap (λ x. x ++ (piece ++ after)) first_of_all
+      ∙ ap (λ x. take done all ++ (x ++ after)) (sym (take-append-drop n piece))
+      ∙ ap (λ x. take done all ++ x) (append_assoc (take n piece) (drop n piece) after)
+      ∙ ap (λ x. take done all ++ (take n piece ++ x)) rest_of_piece
+      ∙ ap (λ x. take done all ++ (x ++ drop (done + n) old)) (sym copied)
+      ∙ sym (append_assoc (take done all) (take n (drop done all)) (drop (done + n) old))
+      ∙ ap (λ x. x ++ drop (done + n) old) (sym (take-add done n all))

@@ -40,6 +40,7 @@ pub mod Fragments
 pub mod Splitting
 pub mod Taking
 pub mod Overwriting
+pub mod Reading
 pub mod SameCells
 pub mod FileWritten
 pub mod Counted

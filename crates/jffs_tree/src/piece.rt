@@ -33,7 +33,7 @@ pub(crate) fn copy_piece(fragments: &Fragments, at: u32, out: &mut [u8]) -> usiz
 fn bytes_at(fragments: &Fragments, at: u32) -> Option<&[u8]>
     requires laid { AreLaid 0 file_max fragments.now.entries }
     requires inside { at < file_max }
-    ensures there { IfSome result (λ bytes. (0 < length bytes.now) × Says fragments.now.entries at bytes.now) }
+    ensures there { IfSome result (λ bytes. (0 < length bytes.now) × ((n : ℕ) → Says fragments.now.entries at (take n bytes.now))) }
     ensures none { IfNone result (NoneHolds at fragments.now.entries) }
 {
     let first = holding(fragments, at)?;

@@ -1,5 +1,5 @@
 -- The weight of the records of a book, and how many there are.
-use Rattle.std.proofs.Common.{◌≡◌, ℕ, zero, suc, ◌+◌, ◌*◌, ◌/◌, ◌^◌, ◌<◌, ◌≤◌, Bool, true, false, cond, List, [], ◌∷◌, length, take, drop, map, filter, flat_map, sum_by, refl, sym, ap, subst, ◌∙◌, arith, length-append}
+use Rattle.std.proofs.Common.{◌≡◌, ℕ, zero, suc, ◌+◌, ◌*◌, ◌/◌, ◌^◌, ◌<◌, ◌≤◌, Bool, true, false, cond, ◌&&◌, eqb, List, [], ◌∷◌, length, take, drop, map, filter, flat_map, sum_by, refl, sym, ap, subst, ◌∙◌, arith, length-append}
 use Rattle.std.specs.List.{sum, enumerate_from, AllByRecursion}
 use Rattle.std.proofs.Math.Nat.{mul-le-mul_right}
 use Rattle.std.proofs.lemmas.List.{length-take, length-map}
@@ -16,7 +16,7 @@ use Rattle.jffs_log.specs.declared.book.Kept.{Kept}
 use Rattle.jffs_log.specs.Image.{Sector, Placed, placed_from, records_in}
 use Rattle.jffs_log.specs.Volume.{sectors_in}
 use Rattle.jffs_log.specs.Live.{live_log}
-use Rattle.jffs_log.specs.Book.{kept, IsKept, lives_in, weight_in}
+use Rattle.jffs_log.specs.Book.{kept, IsKept, lives_in, weight_in, live_in}
 use Rattle.jffs_log.proofs.Ring.{Numbered, ring_lengths}
 use Rattle.jffs_log.proofs.Open.{length-sectors_in}
 use Rattle.jffs_log.proofs.Appended.{kept_live, sizes_small}
@@ -33,6 +33,17 @@ weight_by tree (p ∷ log) =
     let later = weight_by tree log in
     elim (lives_in tree p) as (λ t. sum_by (λ (k : Kept). k.length) (cond t (kept p ∷ rest) rest) ≡ sum_by (λ (q : Placed). record_len q.node) (cond t (p ∷ others) others)) [
       | true ↦ sum_by-cons (λ (k : Kept). k.length) (kept p) rest ∙ ap (λ s. record_len p.node + s) later ∙ sym (sum_by-cons (λ (q : Placed). record_len q.node) p others)
+      | false ↦ later
+    ]
+
+count_by : (sector : ℕ) (tree : Tree) (log : List Placed) → length (filter (λ (k : Kept). eqb k.sector sector && kept_lives tree k) (map kept log)) ≡ live_in sector tree log
+count_by sector tree [] = refl
+count_by sector tree (p ∷ log) =
+    let rest = filter (λ (k : Kept). eqb k.sector sector && kept_lives tree k) (map kept log) in
+    let others = filter (λ (q : Placed). eqb q.sector sector && lives_in tree q) log in
+    let later = count_by sector tree log in
+    elim (eqb p.sector sector && lives_in tree p) as (λ t. length (cond t (kept p ∷ rest) rest) ≡ length (cond t (p ∷ others) others)) [
+      | true ↦ ap (λ n. suc n) later
       | false ↦ later
     ]
 
@@ -97,3 +108,8 @@ module _ (count len : ℕ) (image : List ℕ) (first many tail used free : ℕ) 
       sum-map (λ (k : Kept). k.length) (filter (kept_lives tree) records)
       ∙ ap (λ (ks : List Kept). sum_by (λ (k : Kept). k.length) (filter (kept_lives tree) ks)) (h.listed ∙ ap (map kept) (sym (kept_live count len image first many tail used free records h)))
       ∙ weight_by tree (live_log count len image)
+
+  pub kept_count : (sector : ℕ) (tree : Tree) → length (filter (λ (k : Kept). eqb k.sector sector && holds_version tree k.inode k.version) records) ≡ live_in sector tree (live_log count len image)
+  kept_count sector tree =
+      ap (λ (ks : List Kept). length (filter (λ (k : Kept). eqb k.sector sector && kept_lives tree k) ks)) (h.listed ∙ ap (map kept) (sym (kept_live count len image first many tail used free records h)))
+      ∙ count_by sector tree (live_log count len image)

@@ -1,6 +1,6 @@
 -- What a log keeps in memory of its device.
-use Rattle.std.specs.Prelude.{◌≡◌, ◌⊎◌, ℕ, ◌*◌, true, List, [], ◌∷◌, ◌++◌, length, map, filter, flat_map, sum_by, None, Bool, ◌==◌, if◌then◌else◌}
-use Rattle.jffs_tree.specs.Origin.{Tree}
+use Rattle.std.specs.Prelude.{◌≡◌, ◌⊎◌, ℕ, ◌*◌, true, List, [], ◌∷◌, ◌++◌, length, map, filter, flat_map, sum_by, None, Bool, ◌&&◌, ◌==◌, if◌then◌else◌}
+use Rattle.jffs_tree.specs.Origin.{Tree, is_live}
 use Rattle.jffs_tree.specs.Look.{holds_version}
 use Rattle.std.specs.List.{AllByRecursion, last_or}
 use Rattle.jffs_node.specs.declared.node.Node.{Node}
@@ -68,6 +68,14 @@ lives_in tree p = holds_version tree p.node.inode p.node.version
 -- the lengths of those records that live in the tree
 abbrev pub weight_in : Tree → List Placed → ℕ
 weight_in tree log = sum_by (λ p. record_len p.node) (filter (lives_in tree) log)
+
+-- how many records of a sector live in the tree
+abbrev pub live_in : ℕ → Tree → List Placed → ℕ
+live_in sector tree log = length (filter (λ p. (p.sector == sector) && lives_in tree p) log)
+
+-- how many of them a history has live
+abbrev pub live_records_in : ℕ → List Node → List Placed → ℕ
+live_records_in sector past log = length (filter (λ p. (p.sector == sector) && is_live past p.node.version) log)
 
 -- the records from the first one on that stands in another sector
 abbrev pub from_other : ℕ → List Kept → List Kept

@@ -1,8 +1,7 @@
 //! The oldest sector: its bytes, and how it is erased.
 
-ghost use Rattle.std.specs.Prelude.{◌≡◌, ◌+◌, ◌-◌, ◌*◌, ◌<◌, ◌≤◌, ◌^◌, ◌++◌, ◌⊎◌, ◌↔◌, ◌==◌, List, true, false, not, IsTrue, min, IfOk, OnOk, IfErr, MatchResult};
-ghost use Rattle.std.specs.List.{AllByRecursion, list_all, take_while};
-ghost use Rattle.jffs_tree.specs.Look.{holds_version};
+ghost use Rattle.std.specs.Prelude.{◌≡◌, ◌+◌, ◌-◌, ◌*◌, ◌<◌, ◌≤◌, ◌^◌, ◌++◌, ◌⊎◌, List, true, false, min, IfOk, OnOk, IfErr, MatchResult};
+ghost use Rattle.std.specs.List.{AllByRecursion};
 ghost use Rattle.jffs_flash.specs.Image.{erased, IsHalfErased};
 ghost use Rattle.jffs_log.specs.Book.{from_other};
 
@@ -47,14 +46,6 @@ impl<F: Flash> Log<F> {
         }
     }
 
-    /// Whether no record of the sector that was begun first lives in the tree of all nodes.
-    pub(crate) fn oldest_has_no_live(&self, tree: &Tree) -> bool
-        requires book { IsBook (F.image self.now.flash) self.now.book }
-        ensures { IsTrue result ↔ AllByRecursion (λ p. lives_in tree.now p ≡ false) (oldest_in (F.image self.now.flash) self.now.book) }
-    {
-        none_lives(&self.book.records, self.book.first, tree)
-    }
-
     /// Erases the sector that was begun first. It isn't the tail, and none of its records lives in the tree of all
     /// nodes: the caller's conditions. Takes no memory.
     ///
@@ -91,16 +82,6 @@ impl<F: Flash> Log<F> {
             Err(FlashFault) => Err(Cause::Device),
         }
     }
-}
-
-/// Whether none of the records lives in the tree that stand before the first one of another sector.
-fn none_lives(records: &VecDeque<Kept>, sector: u32, tree: &Tree) -> bool
-    ensures { result ≡ list_all (λ k. not (holds_version tree.now k.inode k.version)) (take_while (λ k. k.sector == sector) records.now.items) }
-{
-    records
-        .iter()
-        .take_while(|kept| kept.sector == sector)
-        .all(|kept| !tree.live(kept.inode, kept.version))
 }
 
 /// Takes the records away that stand before the first one of another sector.

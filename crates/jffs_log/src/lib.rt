@@ -5,6 +5,7 @@
 #![tactic(auto)]
 
 mod book;
+mod dead;
 mod erasing;
 mod examples;
 mod finding;

@@ -1,6 +1,6 @@
-//! What the live records of the log weigh.
+//! What the live records of the log weigh, and how many a sector has.
 
-ghost use Rattle.std.specs.Prelude.{◌≡◌, ◌<◌, ◌^◌, List, length, map, filter, sum};
+ghost use Rattle.std.specs.Prelude.{◌≡◌, ◌<◌, ◌^◌, ◌==◌, ◌&&◌, List, length, map, filter, sum};
 ghost use Rattle.jffs_tree.specs.Look.{holds_version};
 
 use crate::book::Kept;
@@ -12,7 +12,7 @@ use std::collections::VecDeque;
 impl<F: Flash> Log<F> {
     ghost use Rattle.jffs_node.specs.declared.node.Node.{Node};
     ghost use Rattle.jffs_tree.specs.Origin.{tree_of};
-    ghost use Rattle.jffs_log.specs.Book.{IsBook, log_in, weight_in};
+    ghost use Rattle.jffs_log.specs.Book.{IsBook, log_in, weight_in, live_in, live_records_in};
     ghost use Rattle.jffs_log.specs.History.{IsHistory};
     ghost use Rattle.jffs_log.specs.Room.{weight};
 
@@ -23,6 +23,16 @@ impl<F: Flash> Log<F> {
         ensures weighed { result ≡ weight_in tree.now (log_in (F.image self.now.flash) self.now.book) }
     {
         weight_of(&self.book.records, tree)
+    }
+
+    /// How many records of this sector live in the tree of all nodes; 0 where the log has no such sector. Takes no
+    /// memory.
+    pub fn live_in(&self, sector: u32, tree: &Tree) -> u32
+        requires book { IsBook (F.image self.now.flash) self.now.book }
+        ensures whole { (past : List Node) → tree.now ≡ tree_of past → IsHistory (F.image self.now.flash) self.now.book past → result ≡ live_records_in sector past (log_in (F.image self.now.flash) self.now.book) }
+        ensures counted { result ≡ live_in sector tree.now (log_in (F.image self.now.flash) self.now.book) }
+    {
+        count_in(&self.book.records, sector, tree)
     }
 }
 
@@ -36,4 +46,15 @@ fn weight_of(records: &VecDeque<Kept>, tree: &Tree) -> u64
         .filter(|kept| tree.live(kept.inode, kept.version))
         .map(|kept| u64::from(kept.length))
         .sum()
+}
+
+/// How many of the records stand in the sector and live in the tree.
+fn count_in(records: &VecDeque<Kept>, sector: u32, tree: &Tree) -> u32
+    requires { length records.now.items < 2 ^ 32 }
+    ensures { result ≡ length (filter (λ k. (k.sector == sector) && holds_version tree.now k.inode k.version) records.now.items) }
+{
+    records
+        .iter()
+        .filter(|kept| kept.sector == sector && tree.live(kept.inode, kept.version))
+        .count() as u32
 }

@@ -93,7 +93,7 @@ impl Command {
         })
     }
 
-    /// The wish of a command. The command stays, so the wish has a path and bytes of its own.
+    /// The wish of a command. The command stays: the wish has a path of its own, and shares the bytes.
     /// `NoMemory` where a growth was refused.
     pub fn wish(&self, alloc: Global) -> Result<Wish, NoMemory>
         ensures { IfOk result (λ wish. wish ≡ wish_of self.now) }

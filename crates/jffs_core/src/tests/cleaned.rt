@@ -58,7 +58,13 @@ fn cleaning_copies_current_names(rt: HostRuntime) -> Result<(), Fail> {
     let alloc = rt.alloc();
     let mut session = Session::erased(alloc, 6)?;
     session.play(&rt, RENAMED)?;
+    assert_eq!(rt;
+        (session.live_in(0), session.live_in(1)),
+        (Some(3), Some(1))
+    );
+    assert_eq!(rt; session.oldest_dead(), Some(false));
     cleans(&rt, &mut session, 2);
+    assert_eq!(rt; session.live_in(0), Some(0));
     assert_eq!(rt; session.core.clean_oldest(), Ok(Cleaned::OneSector));
     let session = session.remounted()?;
     session.contents(&rt, 3, b"hello");

@@ -97,6 +97,22 @@ impl<F: Flash + Drop> Session<F> {
         Some(self.core.log().live_weight(self.core.tree()))
     }
 
+    /// How many records of the sector live.
+    pub(super) fn live_in(&self, sector: u32) -> Option<u32> {
+        if self.core.failed() {
+            return None;
+        }
+        Some(self.core.log().live_in(sector, self.core.tree()))
+    }
+
+    /// Whether the oldest sector may be erased.
+    pub(super) fn oldest_dead(&self) -> Option<bool> {
+        if self.core.failed() {
+            return None;
+        }
+        Some(self.core.log().oldest_dead(self.core.tree()))
+    }
+
     pub(super) fn into_flash(self) -> F {
         let Session {
             core,

@@ -41,4 +41,5 @@ pub mod Splitting
 pub mod Taking
 pub mod Overwriting
 pub mod Reading
+pub mod Comparing
 pub mod SameCells

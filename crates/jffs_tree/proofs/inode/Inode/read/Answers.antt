@@ -5,6 +5,7 @@ use Rattle.jffs_tree.specs.Origin.{Held}
 use Rattle.jffs_tree.specs.Fragments.{laid, byte_of}
 use Rattle.jffs_tree.proofs.Fragments.{length-laid, are_laid_grown}
 use Rattle.jffs_tree.proofs.Reading.{said_next, read_more}
+use Rattle.jffs_tree.proofs.Comparing.{size_is}
 use Rattle.jffs_tree.proofs.inode.Inode.read.Goals as goal
 
 pub copy_piece-done-requires-clause-laid : goal.copy_piece-done-requires-clause-laid
@@ -46,10 +47,7 @@ loop-done-preserved c =
 
 pub returns-clause-count : goal.returns-clause-count
 returns-clause-count c =
-    let len = length-laid 0 c.self.inside.size c.self.inside.fragments.entries c.self.invariant.laid in
-    let len_all = length-map (laid 0 c.self.inside.size c.self.inside.fragments.entries) byte_of in
-    let seen = ap (λ (h : Held). length h.entry.bytes) c.self.view_is in
-    let size : c.self.inside.size ≡ length c.args.self.now.entry.bytes = omega arith in
+    let size = size_is c.self.inside c.args.self.now c.self.invariant c.self.view_is in
     let a = c.min-start.ensures in
     let b = c.min-count.ensures in
     omega arith

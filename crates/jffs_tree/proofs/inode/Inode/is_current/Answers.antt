@@ -8,9 +8,9 @@ pub returns-then-self-offset : goal.returns-then-self-offset
 returns-then-self-offset c =
     let size = size_is c.self.inside c.args.self.now c.self.invariant c.self.view_is in
     elim c.then-self-offset.branch [
-  | then-self-offset-via-then-self-offset w ↦ let past = w.if-self-offset.true in sym (not_past_end c.args.self.now.entry c.args.offset c.args.bytes.now (omega arith))
-  | then-self-offset-via-else-self-offset+then-self-offset-2 w ↦ let short = w.if-self-offset-2.true in sym (not_too_short c.args.self.now.entry c.args.offset c.args.bytes.now (omega arith))
-]
+      | then-self-offset-via-then-self-offset w ↦ let past = w.if-self-offset.true in sym (not_past_end c.args.self.now.entry c.args.offset c.args.bytes.now (omega arith))
+      | then-self-offset-via-else-self-offset+then-self-offset-2 w ↦ let short = w.if-self-offset-2.true in sym (not_too_short c.args.self.now.entry c.args.offset c.args.bytes.now (omega arith))
+    ]
 
 pub returns-then-ne : goal.returns-then-ne
 returns-then-ne c =

@@ -42,7 +42,7 @@ loop-done-preserved c =
     record {
       within = omega arith;
       read = read_more (drop start all) c.args.out.now c.loop-done.out piece done count n read (omega arith) (omega arith) old.within new (omega arith) next c.copy_piece-done.ensures.rest
-        ∙ ap (λ (x : List ℕ). take (done + n) (drop start x) ++ drop (done + n) c.args.out.now) seen;
+          ∙ ap (λ (x : List ℕ). take (done + n) (drop start x) ++ drop (done + n) c.args.out.now) seen;
     }
 
 pub returns-clause-count : goal.returns-clause-count

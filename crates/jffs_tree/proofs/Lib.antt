@@ -41,6 +41,7 @@ pub mod Splitting
 pub mod Taking
 pub mod Overwriting
 pub mod Reading
+pub mod Comparing
 pub mod SameCells
 pub mod FileWritten
 pub mod Counted

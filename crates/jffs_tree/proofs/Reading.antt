@@ -70,14 +70,14 @@ pub clear : (p q : ℕ) (es : Fragments) → NoneHolds p es → outside p q es �
 clear p q [] none h = tt
 clear p q (e ∷ es) none h = (
   ⊎_elim
-  (λ ends. inl ends)
-  (λ later. ⊎_elim
-  (λ before.
-  let t : true ≡ false = sym (stays_outside p q e es h) ∙ drop_within p q e.0 (omega arith) before in
-  absurd (different t))
-  (λ past. inr past)
-  (cases_lt e.0 q))
-  none.0,
+      (λ ends. inl ends)
+      (λ later. ⊎_elim
+      (λ before.
+      let t : true ≡ false = sym (stays_outside p q e es h) ∙ drop_within p q e.0 (omega arith) before in
+      absurd (different t))
+      (λ past. inr past)
+      (cases_lt e.0 q))
+      none.0,
   clear p q es none.1 (rest_outside p q e es h),
 )
   where
@@ -106,8 +106,8 @@ beside_fragment size k f es h is =
       front = laid 0 k at.front;
       back = laid (k + length f.bytes) size at.back;
       parts = ap (laid 0 size) at.whole
-        ∙ laid_append 0 k size at.front ((k, f) ∷ at.back) parts.0 (here, parts.1, parts.2)
-        ∙ ap (λ x. laid 0 k at.front ++ (replicate {A = Cell} x None ++ (cells_of f ++ laid (k + length f.bytes) size at.back))) gap;
+          ∙ laid_append 0 k size at.front ((k, f) ∷ at.back) parts.0 (here, parts.1, parts.2)
+          ∙ ap (λ x. laid 0 k at.front ++ (replicate {A = Cell} x None ++ (cells_of f ++ laid (k + length f.bytes) size at.back))) gap;
       before = omega arith;
     }
 
@@ -140,8 +140,8 @@ beside_hole at size p r (e ∷ es) h clear low some high = ⊎_elim
       front = blank ++ (cells_of e.1 ++ rest.front);
       back = rest.back;
       parts = ap (λ x. blank ++ (cells_of e.1 ++ x)) rest.parts
-        ∙ ap (λ x. blank ++ x) (sym (append_assoc (cells_of e.1) rest.front (replicate {A = Cell} (r - p) None ++ rest.back)))
-        ∙ sym (append_assoc blank (cells_of e.1 ++ rest.front) (replicate {A = Cell} (r - p) None ++ rest.back));
+          ∙ ap (λ x. blank ++ x) (sym (append_assoc (cells_of e.1) rest.front (replicate {A = Cell} (r - p) None ++ rest.back)))
+          ∙ sym (append_assoc blank (cells_of e.1 ++ rest.front) (replicate {A = Cell} (r - p) None ++ rest.back));
       before = omega arith;
     })
     (λ begins.
@@ -154,8 +154,8 @@ beside_hole at size p r (e ∷ es) h clear low some high = ⊎_elim
       front = a;
       back = c ++ rest;
       parts = ap (λ x. x ++ rest) (three_blanks (p - at) (r - p) (e.0 - r) (e.0 - at) (omega arith))
-        ∙ append_assoc a (b ++ c) rest
-        ∙ ap (λ x. a ++ x) (append_assoc b c rest);
+          ∙ append_assoc a (b ++ c) rest
+          ∙ ap (λ x. a ++ x) (append_assoc b c rest);
       before = n;
     })
     clear.0
@@ -193,12 +193,12 @@ says_fragment k at f es is low high n = λ size h fits.
     let o = length-take (at - k) f.bytes in
     let there = b.before in
     let cut : f.bytes ≡ early ++ (take n late ++ drop n late) =
-      sym (take-append-drop (at - k) f.bytes) ∙ ap (λ (x : List ℕ). early ++ x) (sym (take-append-drop n late)) in
+    sym (take-append-drop (at - k) f.bytes) ∙ ap (λ (x : List ℕ). early ++ x) (sym (take-append-drop n late)) in
     let whole : map byte_of (laid 0 size es) ≡ (front ++ early) ++ (take n late ++ (drop n late ++ back)) =
-      bytes_parts b.front (cells_of f) b.back (laid 0 size es) b.parts
-      ∙ ap (λ (x : List ℕ). front ++ (x ++ back)) (bytes_of_cells f.writer f.bytes ∙ cut)
-      ∙ ap (λ (x : List ℕ). front ++ x) (append_assoc early (take n late ++ drop n late) back ∙ ap (λ (x : List ℕ). early ++ x) (append_assoc (take n late) (drop n late) back))
-      ∙ sym (append_assoc front early (take n late ++ (drop n late ++ back))) in
+    bytes_parts b.front (cells_of f) b.back (laid 0 size es) b.parts
+    ∙ ap (λ (x : List ℕ). front ++ (x ++ back)) (bytes_of_cells f.writer f.bytes ∙ cut)
+    ∙ ap (λ (x : List ℕ). front ++ x) (append_assoc early (take n late ++ drop n late) back ∙ ap (λ (x : List ℕ). early ++ x) (append_assoc (take n late) (drop n late) back))
+    ∙ sym (append_assoc front early (take n late ++ (drop n late ++ back))) in
     part_stands (map byte_of (laid 0 size es)) (front ++ early) (take n late) (drop n late ++ back) at whole (omega arith)
 
 -- zeros in a hole
@@ -210,8 +210,8 @@ says_hole at n es clear = λ size h fits.
     let m = length-map b.front byte_of in
     let gap : at + n - at ≡ n = omega arith in
     let whole : map byte_of (laid 0 size es) ≡ map byte_of b.front ++ (replicate n 0 ++ map byte_of b.back) =
-      bytes_parts b.front (replicate {A = Cell} (at + n - at) None) b.back (laid 0 size es) b.parts
-      ∙ ap (λ (x : List ℕ). map byte_of b.front ++ (x ++ map byte_of b.back)) (bytes_of_blanks (at + n - at) ∙ ap (λ k. replicate k 0) gap) in
+    bytes_parts b.front (replicate {A = Cell} (at + n - at) None) b.back (laid 0 size es) b.parts
+    ∙ ap (λ (x : List ℕ). map byte_of b.front ++ (x ++ map byte_of b.back)) (bytes_of_blanks (at + n - at) ∙ ap (λ k. replicate k 0) gap) in
     part_stands (map byte_of (laid 0 size es)) (map byte_of b.front) (replicate n 0) (map byte_of b.back) at whole (omega arith)
 
 -- ---- writers

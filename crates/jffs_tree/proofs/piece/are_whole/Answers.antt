@@ -32,7 +32,7 @@ loop-first-preserved c =
       is_finite = tt;
       lies = subst (λ k. AreLaid k c.args.size rest) reached lies.2;
       left = ap (λ k. all_written (laid k c.args.size rest)) next
-        ∙ sym (written_step c.loop-first.end c.args.size c.in-Some.first.now f rest same)
-        ∙ sym (ap (λ (es : Fragments). all_written (laid c.loop-first.end c.args.size es)) c.in-Some.ensures.steps)
-        ∙ old.left;
+          ∙ sym (written_step c.loop-first.end c.args.size c.in-Some.first.now f rest same)
+          ∙ sym (ap (λ (es : Fragments). all_written (laid c.loop-first.end c.args.size es)) c.in-Some.ensures.steps)
+          ∙ old.left;
     }

@@ -22,9 +22,8 @@ returns-clause-there c =
     let m : length s ≡ length f.bytes = ap (λ (x : List ℕ). length x) same in
     let all : length s - (at - first) ≡ length (drop (at - first) s) = omega arith in
     let part : take (length s - (at - first)) (drop (at - first) s) ≡ drop (at - first) s =
-      ap (λ k. take k (drop (at - first) s)) all ∙ take-length (drop (at - first) s) in
-    let some : 0 < length (drop (at - first) s) = omega arith in
-    (
+    ap (λ k. take k (drop (at - first) s)) all ∙ take-length (drop (at - first) s) in
+    let some : 0 < length (drop (at - first) s) = omega arith in (
       subst (λ (x : List ℕ). 0 < length x) (sym part) some,
       λ k. subst (λ (x : List ℕ). Says es at (take k x)) (sym (part ∙ ap (λ (x : List ℕ). drop (at - first) x) same))
           (says_fragment first at f es (sym c.in_ok-fragment.ensures.value) low high k),

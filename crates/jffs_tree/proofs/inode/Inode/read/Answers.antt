@@ -5,6 +5,7 @@ use Rattle.jffs_tree.specs.Origin.{Held}
 use Rattle.jffs_tree.specs.Fragments.{laid, byte_of}
 use Rattle.jffs_tree.proofs.Fragments.{length-laid, are_laid_grown}
 use Rattle.jffs_tree.proofs.Reading.{said_next, read_more}
+use Rattle.jffs_tree.proofs.Comparing.{size_is}
 use Rattle.jffs_tree.proofs.inode.Inode.read.Goals as goal
 
 pub copy_piece-done-requires-clause-laid : goal.copy_piece-done-requires-clause-laid
@@ -41,15 +42,12 @@ loop-done-preserved c =
     record {
       within = omega arith;
       read = read_more (drop start all) c.args.out.now c.loop-done.out piece done count n read (omega arith) (omega arith) old.within new (omega arith) next c.copy_piece-done.ensures.rest
-        ∙ ap (λ (x : List ℕ). take (done + n) (drop start x) ++ drop (done + n) c.args.out.now) seen;
+          ∙ ap (λ (x : List ℕ). take (done + n) (drop start x) ++ drop (done + n) c.args.out.now) seen;
     }
 
 pub returns-clause-count : goal.returns-clause-count
 returns-clause-count c =
-    let len = length-laid 0 c.self.inside.size c.self.inside.fragments.entries c.self.invariant.laid in
-    let len_all = length-map (laid 0 c.self.inside.size c.self.inside.fragments.entries) byte_of in
-    let seen = ap (λ (h : Held). length h.entry.bytes) c.self.view_is in
-    let size : c.self.inside.size ≡ length c.args.self.now.entry.bytes = omega arith in
+    let size = size_is c.self.inside c.args.self.now c.self.invariant c.self.view_is in
     let a = c.min-start.ensures in
     let b = c.min-count.ensures in
     omega arith

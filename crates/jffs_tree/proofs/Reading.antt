@@ -1,10 +1,10 @@
 -- What fragments say of a file's bytes: those of the fragment that holds an offset, or zeros.
-use Rattle.std.proofs.Common.{◌≡◌, ℕ, zero, suc, ◌+◌, ◌-◌, ◌<◌, ◌≤◌, Bool, true, false, cond, not, ◌&&◌, eqb, leb, ltb, List, [], ◌∷◌, ◌++◌, length, get_or, map, take, drop, replicate, is_some, ◌⊎◌, inl, inr, ⊎_elim, Option, Some, None, refl, sym, ap, subst, ◌∙◌, arith, append_assoc, length-append, length-take, length-drop, nat_cmp}
-use Rattle.std.specs.List.{AllByRecursion, filter, list_all}
+use Rattle.std.proofs.Common.{◌≡◌, ℕ, zero, suc, ◌+◌, ◌-◌, ◌<◌, ◌≤◌, Bool, true, false, cond, not, ◌&&◌, leb, ltb, List, [], ◌∷◌, ◌++◌, length, get_or, map, take, drop, replicate, is_some, ◌⊎◌, inl, inr, ⊎_elim, Some, None, refl, sym, ap, subst, ◌∙◌, arith, append_assoc, length-append, length-take, length-drop, nat_cmp}
+use Rattle.std.specs.List.{AllByRecursion, list_all}
 use Rattle.std.specs.Map.{lookup}
 use Rattle.std.specs.BTreeMap.{is_at}
-use Rattle.std.proofs.Math.Seq.{take-append_seam, drop-append_seam, take-length, take-add}
-use Rattle.std.proofs.lemmas.Bool.{cases_Bool, cases_lt, le-leb, lt-ltb, eq-eqb, ne_eqb}
+use Rattle.std.proofs.Math.Seq.{take-append_seam, drop-append_seam, take-add}
+use Rattle.std.proofs.lemmas.Bool.{cases_Bool, cases_lt}
 use Rattle.std.proofs.lemmas.List.{length-map, length-replicate, length-take-le, map-append, drop-append-le, drop-drop, take-append-drop, replicate-append-replicate, get_or-append_right, get_or_append_left, get_or-replicate, get_or_past}
 use Rattle.std.proofs.lemmas.Slice.{drop-append-drop}
 use borrow.Rule.Slice.PartMut.{put_mid}
@@ -12,7 +12,7 @@ use Rattle.jffs_node.proofs.Each.{each_append, each_front}
 use Rattle.jffs_tree.specs.declared.fragment.Fragment.{Fragment}
 use Rattle.jffs_tree.specs.Fragments.{Fragments, Cell, byte_of, writer_of, cells_of, end_of, laid, AreLaid, NoneHolds, Says, outside}
 use Rattle.jffs_tree.proofs.Fragments.{laid_bound, laid_append, length-laid}
-use Rattle.jffs_tree.proofs.Splitting.{AllFrom, LastBefore, Found, found, laid_parts, last_fits}
+use Rattle.jffs_tree.proofs.Splitting.{AllFrom, LastBefore, found, laid_parts}
 use Rattle.jffs_tree.proofs.Taking.{drop_within}
 
 -- ---- where no fragment is

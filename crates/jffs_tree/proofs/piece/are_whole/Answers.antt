@@ -1,4 +1,4 @@
-use Rattle.std.proofs.Common.{◌≡◌, ◌∙◌, ◌+◌, ◌<◌, ◌≤◌, ℕ, length, sym, ap, subst, arith}
+use Rattle.std.proofs.Common.{◌≡◌, ◌∙◌, ◌+◌, length, sym, ap, subst, arith}
 use Rattle.jffs_tree.specs.Fragments.{Fragments, AreLaid, laid}
 use Rattle.jffs_tree.proofs.Fragments.{laid_bound}
 use Rattle.jffs_tree.proofs.Reading.{all_written, written_step}

@@ -1,6 +1,6 @@
-use Rattle.std.proofs.Common.{◌≡◌, ◌≤◌, ◌∙◌, ◌+◌, ℕ, length, [], sym, arith}
+use Rattle.std.proofs.Common.{◌∙◌, ◌+◌, sym, arith}
 use Rattle.jffs_node.specs.Record.{file_max}
-use Rattle.jffs_tree.proofs.Splitting.{LastBefore, last_before, last_fits, none_begins_before}
+use Rattle.jffs_tree.proofs.Splitting.{last_before, last_fits, none_begins_before}
 use Rattle.jffs_tree.proofs.Reading.{none_holds_from, held_by_last}
 use Rattle.jffs_tree.proofs.piece.holding.Goals as goal
 

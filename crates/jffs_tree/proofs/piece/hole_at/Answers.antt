@@ -1,4 +1,4 @@
-use Rattle.std.proofs.Common.{◌≡◌, ◌<◌, ◌≤◌, ◌+◌, ◌-◌, ℕ, sym, subst, arith}
+use Rattle.std.proofs.Common.{◌≡◌, ◌+◌, ◌-◌, subst, arith}
 use Rattle.jffs_node.specs.Record.{file_max}
 use Rattle.jffs_tree.proofs.Reading.{IsClear, begins_later, clear, says_hole}
 use Rattle.jffs_tree.proofs.piece.hole_at.Goals as goal

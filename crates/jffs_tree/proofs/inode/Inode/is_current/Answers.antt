@@ -1,4 +1,4 @@
-use Rattle.std.proofs.Common.{◌≡◌, ◌∙◌, ◌+◌, ◌-◌, ◌≤◌, ◌<◌, ◌++◌, ℕ, List, length, take, drop, not, true, false, sym, ap, arith}
+use Rattle.std.proofs.Common.{◌≡◌, ◌∙◌, length, take, drop, sym, ap, arith}
 use Rattle.std.proofs.Math.Seq.{take-length}
 use Rattle.jffs_tree.proofs.Comparing.{size_is, same_further, found_same, found_other, current, not_current, not_past_end, not_too_short}
 use Rattle.jffs_tree.proofs.inode.Inode.is_current.Goals as goal

@@ -12,6 +12,7 @@ pub mod Marking
 pub mod Marked
 pub mod Totals
 pub mod Finding
+pub mod Ranged
 pub mod Written
 pub mod Applied
 pub mod Looked

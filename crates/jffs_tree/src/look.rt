@@ -1,6 +1,6 @@
 //! Looks into a tree.
 
-ghost use Rattle.std.specs.Prelude.{◌≡◌, ◌==◌, ◌+◌, Some, ◌-◌, ◌++◌, ◌^◌, ◌<◌, ◌≤◌, min, length, take, drop, List, None, option_map, option_copied, slice_index_or, unwrap_or};
+ghost use Rattle.std.specs.Prelude.{◌≡◌, ℕ, true, false, IfSome, IfNone, ◌==◌, ◌+◌, Some, ◌-◌, ◌++◌, ◌^◌, ◌<◌, ◌≤◌, min, length, take, drop, List, None, option_map, option_copied, slice_index_or, unwrap_or};
 ghost use Rattle.jffs_node.specs.declared.node.Node.{Node};
 ghost use Rattle.jffs_tree.specs.State.{child, resolve};
 ghost use Rattle.jffs_tree.specs.Origin.{tree_of, state_in, size_in, origin, newest, version_of, is_live, marks, any_live};
@@ -97,6 +97,15 @@ impl Tree {
         ensures of { (past : List Node) → self.now ≡ tree_of past → result ≡ min (marks past version) (2 ^ 32 - 1) }
     {
         self.marks.total(version)
+    }
+
+    /// The least live version from `first` to `last`, both included. Takes no memory.
+    pub fn first_live(&self, first: u32, last: u32) -> Option<u32>
+        ensures live { IfSome result (λ v. (i : ℕ) × (first ≤ v) × (v ≤ last) × (holds_version self.now i v ≡ true)) }
+        ensures least { IfSome result (λ v. (w i : ℕ) → first ≤ w → w < v → holds_version self.now i w ≡ false) }
+        ensures none { IfNone result ((v i : ℕ) → first ≤ v → v ≤ last → holds_version self.now i v ≡ false) }
+    {
+        self.marks.least(first, last)
     }
 
     /// Whether some version from `first` to `last`, both included, is live. Takes no memory.

@@ -87,16 +87,25 @@ impl Marks {
         if key.0 == version { Some(key.1) } else { None }
     }
 
+    /// The least version from `first` to `last`, both included, that has marks.
+    pub(crate) fn least(&self, first: u32, last: u32) -> Option<u32>
+        ensures some { IfSome result (λ v. (i : ℕ) × (first ≤ v) × (v ≤ last) × (0 < mark_of self.now v i)) }
+        ensures least { IfSome result (λ v. (w i : ℕ) → first ≤ w → w < v → mark_of self.now w i ≡ 0) }
+        ensures none { IfNone result ((v i : ℕ) → first ≤ v → v ≤ last → mark_of self.now v i ≡ 0) }
+    {
+        let mut rest = self.counts.range((first, 0)..);
+        let Some((key, _)) = rest.next() else {
+            return None;
+        };
+        if key.0 <= last { Some(key.0) } else { None }
+    }
+
     /// Whether some version from `first` to `last`, both included, has marks.
     pub(crate) fn any(&self, first: u32, last: u32) -> bool
         ensures some { result ≡ true → (v : ℕ) × (i : ℕ) × (first ≤ v) × (v ≤ last) × (0 < mark_of self.now v i) }
         ensures none { result ≡ false → (v i : ℕ) → first ≤ v → v ≤ last → mark_of self.now v i ≡ 0 }
     {
-        let mut rest = self.counts.range((first, 0)..);
-        match rest.next() {
-            Some((key, _)) => key.0 <= last,
-            None => false,
-        }
+        self.least(first, last).is_some()
     }
 
     /// All marks of a version, or the greatest `u32` where there are more.

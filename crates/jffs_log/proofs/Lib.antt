@@ -28,6 +28,7 @@ pub mod Histories
 pub mod HistoryWeight
 pub mod MountHistory
 pub mod OldestDead
+pub mod OldestAsked
 pub mod RingFound
 pub mod SectorFound
 pub mod ScanLog

@@ -35,7 +35,7 @@ impl<F: Flash> Log<F> {
     }
 
     /// Whether the oldest sector may be erased: it isn't the tail, and none of its records lives in
-    /// the tree of all nodes. Takes no memory.
+    /// the tree of all nodes. Takes no memory, and asks the tree once for a range of versions, not for each record.
     pub fn oldest_dead(&self, tree: &Tree) -> bool
         requires book { IsBook (F.image self.now.flash) self.now.book }
         ensures { IsTrue result ↔ ((2 ≤ self.now.book.held) × AllByRecursion (λ p. lives_in tree.now p ≡ false) (oldest_in (F.image self.now.flash) self.now.book)) }

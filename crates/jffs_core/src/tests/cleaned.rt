@@ -58,6 +58,11 @@ fn cleaning_copies_current_names(rt: HostRuntime) -> Result<(), Fail> {
     let alloc = rt.alloc();
     let mut session = Session::erased(alloc, 6)?;
     session.play(&rt, RENAMED)?;
+    let tree = session.core.tree();
+    assert_eq!(rt;
+        (tree.marks(3), tree.marks(4), tree.marks(7), tree.marks(8)),
+        (5, 1, 0, 193)
+    );
     assert_eq!(rt;
         (session.live_in(0), session.live_in(1)),
         (Some(3), Some(1))

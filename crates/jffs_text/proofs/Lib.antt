@@ -1,3 +1,4 @@
 mod Adding
 mod InOrder
 mod Told
+mod Hex

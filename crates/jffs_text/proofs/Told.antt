@@ -1,23 +1,22 @@
 -- What the pieces of a dump tell, put together.
-use Rattle.std.proofs.Common.{◌≡◌, ℕ, zero, suc, ◌+◌, ◌-◌, ◌/◌, ◌%◌, ◌<◌, ◌≤◌, true, false, cond, eqb, List, [], ◌∷◌, ◌++◌, length, take, drop, take_at, take-add, length-drop, length-take-le, option_map, Option, Some, None, refl, sym, ap, subst, ◌∙◌, arith}
+use Rattle.std.proofs.Common.{◌≡◌, ℕ, zero, suc, ◌+◌, ◌-◌, ◌<◌, ◌≤◌, true, false, cond, eqb, List, [], ◌∷◌, ◌++◌, length, take, drop, take_at, length-drop, length-take-le, option_map, Option, Some, None, refl, sym, ap, subst, ◌∙◌, arith}
 use Rattle.std.specs.List.{flat_map}
 use Rattle.std.specs.List.Sorted.{IsPermutation, IsSorted}
 use Rattle.std.specs.Option.{unwrap_or}
 use Rattle.std.specs.Io.KnownBytes.{Appends}
 use Rattle.std.proofs.KnownBytes.{Appends-trans}
 use Rattle.std.proofs.lemmas.Bool.{or_parts, cond-true, cond-false}
-use Rattle.std.proofs.lemmas.List.{take-append-drop}
 use Rattle.std.proofs.Math.Seq.{take-append_seam}
 use Rattle.std.specs.Prelude.{codes}
-use Rattle.std.proofs.lemmas.Grind.{flat_map-append}
 use Rattle.jffs_tree.specs.State.{State, at, bytes_of, root, is_directory_in}
 use Rattle.jffs_tree.specs.Origin.{Held, Tree, state_in}
 use Rattle.jffs_tree.specs.After.{held_in}
 use Rattle.jffs_tree.specs.Look.{bytes_in, size_of, names_in, children, name_cmp}
 use Rattle.jffs_tree.proofs.Looked.{bytes_told}
 use Rattle.jffs_text.specs.Added.{IsBegun}
-use Rattle.jffs_text.specs.Dump.{hex, hex_digit, shown_bytes, size_text, directory_line, file_line, path_of, name_text, by_name, below}
+use Rattle.jffs_text.specs.Dump.{hex, shown_bytes, size_text, directory_line, file_line, path_of, name_text, by_name, below}
 use Rattle.jffs_text.proofs.Adding.{begun_then, begun_more, begun_as, added_as}
+use Rattle.jffs_text.proofs.Hex.{part_told, part_begun}
 use Rattle.jffs_text.proofs.InOrder.{in_order}
 
 module _ (tree : Tree) (i : ℕ) where
@@ -35,13 +34,6 @@ module _ (tree : Tree) (i : ℕ) where
   names_told names here shuffled sorted =
       in_order (children i (state_in tree)) names (subst (λ b. IsPermutation (cond b (children i (state_in tree)) []) names) here shuffled) sorted
 
--- Hex in pieces.
-abbrev pub digits : ℕ → List ℕ
-digits b = hex_digit (b / 16) ∷ hex_digit (b % 16) ∷ []
-
-hex_more : (bytes : List ℕ) (o n : ℕ) → hex (take (o + n) bytes) ≡ hex (take o bytes) ++ hex (take n (drop o bytes))
-hex_more bytes o n = ap hex (take-add o n bytes) ∙ flat_map-append digits (take o bytes) (take n (drop o bytes))
-
 pub shown_some : (bytes : List ℕ) → 0 < length bytes → shown_bytes bytes ≡ hex bytes
 shown_some [] h = absurd (omega arith)
 shown_some (b ∷ bytes) h = refl
@@ -53,15 +45,10 @@ module _ (bytes : List ℕ) (o n : ℕ) (behind chunk : List ℕ) (read : chunk 
 
   module _ (x : List ℕ) (it : x ≡ take n chunk) where
     pub hex_told : Appends b c (hex x) → Appends a c (hex (take (o + n) bytes))
-    hex_told h = subst (λ l. Appends a c l) (sym (hex_more bytes o n)) (Appends-trans a b c (hex (take o bytes)) (hex (take n (drop o bytes))) so_far (subst (λ l. Appends b c (hex l)) (it ∙ chunk_is) h))
+    hex_told h = part_told bytes o n (hex x) (ap hex (it ∙ chunk_is)) a b c so_far h
 
     pub hex_begun : 0 < length bytes → IsBegun b c (hex x) → IsBegun a c (shown_bytes bytes)
-    hex_begun some h =
-        let both = begun_then a b c (hex (take o bytes)) (hex (take n (drop o bytes))) so_far (subst (λ l. IsBegun b c (hex l)) (it ∙ chunk_is) h) in
-        let here = subst (λ l. IsBegun a c l) (sym (hex_more bytes o n)) both in
-        subst (λ l. IsBegun a c l)
-        (sym (flat_map-append digits (take (o + n) bytes) (drop (o + n) bytes)) ∙ ap hex (take-append-drop (o + n) bytes) ∙ sym (shown_some bytes some))
-        (begun_more a c (hex (take (o + n) bytes)) (hex (drop (o + n) bytes)) here)
+    hex_begun some h = subst (λ l. IsBegun a c l) (sym (shown_some bytes some)) (part_begun bytes o n (hex x) (ap hex (it ∙ chunk_is)) a b c so_far h)
 
 -- The text of one name.
 module _ (s : State) (deeper : List ℕ → ℕ → List ℕ) (above : List ℕ) (a : List ℕ × ℕ) where

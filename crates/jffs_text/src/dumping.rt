@@ -1,6 +1,6 @@
 //! The lines that tell of a tree.
 
-ghost use Rattle.std.specs.Prelude.{◌≡◌, ◌<◌, true, false, length, OnOk};
+ghost use Rattle.std.specs.Prelude.{◌≡◌, ◌<◌, ◌*◌, true, false, length, OnOk};
 ghost use Rattle.std.specs.Io.KnownBytes.{Appends};
 ghost use Rattle.jffs_tree.specs.State.{is_directory_in, bytes_of, at};
 ghost use Rattle.jffs_tree.specs.Origin.{state_in};
@@ -44,7 +44,7 @@ impl From<AllocError> for DumpFault {
     }
 }
 
-/// How many bytes of a file are read at once.
+/// How many bytes of a file are read at once, and how many are written as hex at once.
 const CHUNK_LEN: usize = 256;
 
 /// Writes a line for each directory, `d PATH`, and for each file, `f PATH SIZE HEX` with `-`
@@ -153,10 +153,29 @@ pub fn write_hex<W: Write>(bytes: &[u8], out: &mut W) -> io::Result<()>
     ensures whole { OnOk result (Appends (W.contents out.old) (W.contents out.new) (hex bytes.now)) }
     ensures begun { IsBegun (W.contents out.old) (W.contents out.new) (hex bytes.now) }
 {
-    for byte in bytes {
-        put(&[hex_digit(*byte / 16), hex_digit(*byte % 16)], out)?;
+    let mut digits = [0u8; 2 * CHUNK_LEN];
+    let mut start = 0;
+    while start < bytes.len() {
+        let rest = &bytes[start..];
+        let count = rest.len().min(CHUNK_LEN);
+        let text = &mut digits[..2 * count];
+        fill_hex(&rest[..count], text);
+        put(text, out)?;
+        start += count;
     }
     Ok(())
+}
+
+/// Turns bytes into hex, two digits a byte.
+fn fill_hex(bytes: &[u8], digits: &mut [u8])
+    requires { length digits.old ≡ 2 * length bytes.now }
+    ensures { digits.new ≡ hex bytes.now }
+{
+    for index in 0..bytes.len() {
+        let byte = bytes[index];
+        digits[2 * index] = hex_digit(byte / 16);
+        digits[2 * index + 1] = hex_digit(byte % 16);
+    }
 }
 
 fn hex_digit(value: u8) -> u8

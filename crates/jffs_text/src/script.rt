@@ -208,8 +208,7 @@ fn volume_sizes(keyword: Option<Keyword>, mut words: Words<'_>) -> Result<(u32, 
 
 /// A line as text: printable ASCII, and not too long. Else `Text`.
 pub fn line_text(line: &[u8]) -> Result<&str, ScriptWhy> {
-    let printable = line.iter().all(|byte| matches!(byte, b' '..=b'~'));
-    if !printable || line.len() > LINE_MAX {
+    if line.len() > LINE_MAX || !line.iter().all(|byte| matches!(byte, b' '..=b'~')) {
         return Err(ScriptWhy::Text);
     }
     str::from_utf8(line).map_err(|_| ScriptWhy::Text)

@@ -1,6 +1,7 @@
 //! The words of a line.
 
-ghost use Rattle.std.specs.Prelude.{◌≤◌, IfOk};
+ghost use Rattle.std.specs.Prelude.{◌≡◌, ◌≤◌, ◌<◌, ◌*◌, true, length, IfOk};
+ghost use Rattle.jffs_text.specs.Dump.{hex, hex_digit};
 
 use crate::fault::ScriptWhy;
 use jffs_node::{Path, PathFault};
@@ -10,36 +11,43 @@ use std::alloc::Global;
 /// spaces have an empty word between them.
 #[derive(Clone, Copy)]
 pub struct Words<'a> {
-    rest: Option<&'a str>,
+    /// How many words the text has that is left.
+    count: usize,
+    rest: &'a str,
 }
 
 impl<'a> Words<'a> {
     /// The words of a line.
     pub fn of(line: &'a str) -> Words<'a> {
-        Words { rest: Some(line) }
+        Words {
+            count: spaces_in(line.as_bytes()) + 1,
+            rest: line,
+        }
     }
 
     /// How many words are left.
     pub fn count(&self) -> usize {
-        match self.rest {
-            Some(rest) => rest.split(' ').count(),
-            None => 0,
-        }
+        self.count
     }
 
     /// The next word; an empty one where none is left.
     pub fn take(&mut self) -> &'a str {
-        let Some(rest) = self.rest else {
+        if self.count == 0 {
             return "";
-        };
-        match rest.split_once(' ') {
+        }
+        self.count -= 1;
+        // No space stands in the last word, which may be long.
+        if self.count == 0 {
+            return self.rest;
+        }
+        match self.rest.split_once(' ') {
             Some((word, rest)) => {
-                self.rest = Some(rest);
+                self.rest = rest;
                 word
             }
             None => {
-                self.rest = None;
-                rest
+                self.count = 0;
+                self.rest
             }
         }
     }
@@ -75,11 +83,24 @@ impl<'a> Words<'a> {
 
     /// The next word, one byte in hex.
     pub fn take_byte(&mut self) -> Result<u8, ScriptWhy> {
-        match self.take().as_bytes() {
-            [high, low] => hex_byte(*high, *low),
-            _ => Err(ScriptWhy::Hex),
+        let digits = self.take().as_bytes();
+        let mut byte = [0u8; 1];
+        if digits.len() == 2 && read_hex(digits, &mut byte) {
+            Ok(byte[0])
+        } else {
+            Err(ScriptWhy::Hex)
         }
     }
+}
+
+fn spaces_in(text: &[u8]) -> usize
+    ensures { result ≤ length text.now }
+{
+    let mut spaces = 0;
+    for index in 0..text.len() {
+        spaces += usize::from(text[index] == b' ');
+    }
+    spaces
 }
 
 /// A decimal number without leading zeros, of at most 32 bits.
@@ -93,30 +114,44 @@ fn number(word: &str) -> Option<u32> {
 }
 
 /// Lower case hex, two digits a byte, at least one byte.
-fn bytes_of_hex(alloc: Global, word: &str) -> Result<Vec<u8>, ScriptWhy> {
+fn bytes_of_hex(alloc: Global, word: &str) -> Result<Vec<u8>, ScriptWhy>
+    ensures { IfOk result (λ bytes. hex bytes.items ≡ word.now) }
+{
     let digits = word.as_bytes();
     if digits.len() == 0 || digits.len() % 2 != 0 {
         return Err(ScriptWhy::Hex);
     }
-    let mut bytes = Vec::with_capacity(alloc, digits.len() / 2)?;
-    for pair in digits.chunks_exact(2) {
-        if let [high, low] = pair {
-            bytes.push(hex_byte(*high, *low)?)?;
-        }
+    let mut bytes = vec![in alloc; 0u8; digits.len() / 2]?;
+    if read_hex(digits, &mut bytes) {
+        Ok(bytes)
+    } else {
+        Err(ScriptWhy::Hex)
     }
-    Ok(bytes)
 }
 
-fn hex_byte(high: u8, low: u8) -> Result<u8, ScriptWhy> {
-    Ok(hex_digit(high)? * 16 + hex_digit(low)?)
+/// Reads two digits a byte, and answers whether each of them is one.
+fn read_hex(digits: &[u8], bytes: &mut [u8]) -> bool
+    requires { length digits.now ≡ 2 * length bytes.old }
+    ensures { result ≡ true → hex bytes.new ≡ digits.now }
+{
+    // The loop has no way out at a digit that is none, so that the processor takes many at once.
+    let mut all_read = true;
+    for index in 0..bytes.len() {
+        let high = digit_value(digits[2 * index]);
+        let low = digit_value(digits[2 * index + 1]);
+        bytes[index] = high % 16 * 16 + low % 16;
+        all_read &= high < 16 && low < 16;
+    }
+    all_read
 }
 
-fn hex_digit(digit: u8) -> Result<u8, ScriptWhy>
-    ensures { IfOk result (λ n. n ≤ 15) }
+/// The value of a lower case digit, below 16, and 16 for any other byte.
+fn digit_value(digit: u8) -> u8
+    ensures { result < 16 → hex_digit result ≡ digit }
 {
     match digit {
-        b'0'..=b'9' => Ok(digit - b'0'),
-        b'a'..=b'f' => Ok(digit - b'a' + 10),
-        _ => Err(ScriptWhy::Hex),
+        b'0'..=b'9' => digit - b'0',
+        b'a'..=b'f' => digit - b'a' + 10,
+        _ => 16,
     }
 }

@@ -142,14 +142,14 @@ front_cells size p es h c =
     let grown = laid_grown 0 size p es h (omega arith) in
     let all = all_before 0 size p es h (omega arith) in
     let full : laid 0 size es ++ replicate {A = Cell} (p - length (laid 0 size es)) None ≡ laid 0 p (before p es) =
-      ap (λ k. laid 0 size es ++ replicate {A = Cell} k None) gap ∙ sym grown ∙ ap (laid 0 p) (sym all) in
+    ap (λ k. laid 0 size es ++ replicate {A = Cell} k None) gap ∙ sym grown ∙ ap (laid 0 p) (sym all) in
     ap (take p) full ∙ ap (λ k. take k (laid 0 p (before p es))) (omega arith) ∙ take-length (laid 0 p (before p es)))
     (λ long.
     let gap : p - length (laid 0 size es) ≡ 0 = omega arith in
     let split : laid 0 size es ≡ laid 0 p (before p es) ++ laid p size (from p es) =
-      ap (laid 0 size) parts.whole ∙ laid_append 0 p size (before p es) (from p es) parts.front (parts.back long) in
+    ap (laid 0 size) parts.whole ∙ laid_append 0 p size (before p es) (from p es) parts.front (parts.back long) in
     let full : laid 0 size es ++ replicate {A = Cell} (p - length (laid 0 size es)) None ≡ laid 0 p (before p es) ++ laid p size (from p es) =
-      ap (λ k. laid 0 size es ++ replicate {A = Cell} k None) gap ∙ append-nil (laid 0 size es) ∙ split in
+    ap (λ k. laid 0 size es ++ replicate {A = Cell} k None) gap ∙ append-nil (laid 0 size es) ∙ split in
     ap (take p) full ∙ ap (λ k. take k (laid 0 p (before p es) ++ laid p size (from p es))) (omega arith) ∙ take-append_seam (laid 0 p (before p es)) (laid p size (from p es)))
     (cases_lt size p)
 
@@ -158,5 +158,5 @@ back_cells size q es h c l =
     let parts = parted 0 q size es h c (omega arith) in
     let m = length-laid 0 q (before q es) parts.front in
     let split : laid 0 size es ≡ laid 0 q (before q es) ++ laid q size (from q es) =
-      ap (laid 0 size) parts.whole ∙ laid_append 0 q size (before q es) (from q es) parts.front (parts.back l) in
+    ap (laid 0 size) parts.whole ∙ laid_append 0 q size (before q es) (from q es) parts.front (parts.back l) in
     ap (drop q) split ∙ ap (λ k. drop k (laid 0 q (before q es) ++ laid q size (from q es))) (omega arith) ∙ drop-append_seam (laid 0 q (before q es)) (laid q size (from q es))

@@ -189,7 +189,7 @@ module _ (k p : ℕ) (f : Fragment) (low : k < p) (high : p < k + length f.bytes
       let gap : p - (k + length (take (p - k) f.bytes)) ≡ 0 = omega arith in
       let start = replicate {A = Cell} (k - k) None in
       let rest : replicate {A = Cell} (p - (k + length (take (p - k) f.bytes))) None ++ (cells_of right ++ laid (p + length (drop (p - k) f.bytes)) size b) ≡ cells_of right ++ laid (k + length f.bytes) size b =
-        ap (λ x. replicate {A = Cell} x None ++ (cells_of right ++ laid (p + length (drop (p - k) f.bytes)) size b)) gap ∙ ap (λ x. cells_of right ++ laid x size b) e in
+      ap (λ x. replicate {A = Cell} x None ++ (cells_of right ++ laid (p + length (drop (p - k) f.bytes)) size b)) gap ∙ ap (λ x. cells_of right ++ laid x size b) e in
       ap (λ x. start ++ (cells_of left ++ x)) rest
       ∙ ap (λ x. start ++ x) (sym (append_assoc (cells_of left) (cells_of right) (laid (k + length f.bytes) size b)))
       ∙ ap (λ x. start ++ (x ++ laid (k + length f.bytes) size b)) (sym cells_split)
@@ -239,7 +239,7 @@ module _ (k p : ℕ) (f : Fragment) (low : k < p) (high : p < k + length f.bytes
   split_entries size a b es is h =
       let q = laid_parts 0 size a b k f (subst (AreLaid 0 size) is h) in
       let put : insert_entry nat_cmp es p right ≡ a ++ (k, f) ∷ (p, right) ∷ b =
-        ap (λ x. insert_entry nat_cmp x p right) is ∙ put_after p right 0 k f a b q.0 low (put_first p right (k + length f.bytes) size b high q.2) in
+      ap (λ x. insert_entry nat_cmp x p right) is ∙ put_after p right 0 k f a b q.0 low (put_first p right (k + length f.bytes) size b high q.2) in
       ap (λ x. set_value (is_at (nat_cmp k)) x left) put ∙ set_after k f left 0 a ((p, right) ∷ b) q.0
 
 -- After a cut of the fragment found at k.
@@ -254,9 +254,9 @@ cut_there size k p f es new h is low high x y is_left is_right made =
     let at = found k f es is in
     let whole = subst (AreLaid 0 size) at.whole h in
     let entries : new ≡ at.front ++ (k, record { bytes = take (p - k) f.bytes; writer = f.writer }) ∷ (p, record { bytes = drop (p - k) f.bytes; writer = f.writer }) ∷ at.back =
-      made ∙ ap (λ z. set_value (is_at (nat_cmp k)) (insert_entry nat_cmp es p z) x) is_right
-      ∙ ap (λ z. set_value (is_at (nat_cmp k)) (insert_entry nat_cmp es p (record { bytes = drop (p - k) f.bytes; writer = f.writer })) z) is_left
-      ∙ split_entries k p f low high size at.front at.back es at.whole h in
+    made ∙ ap (λ z. set_value (is_at (nat_cmp k)) (insert_entry nat_cmp es p z) x) is_right
+    ∙ ap (λ z. set_value (is_at (nat_cmp k)) (insert_entry nat_cmp es p (record { bytes = drop (p - k) f.bytes; writer = f.writer })) z) is_left
+    ∙ split_entries k p f low high size at.front at.back es at.whole h in
     record {
       same = subst (λ z. SameCells es z) (sym entries) (subst (λ z. SameCells z (at.front ++ (k, record { bytes = take (p - k) f.bytes; writer = f.writer }) ∷ (p, record { bytes = drop (p - k) f.bytes; writer = f.writer }) ∷ at.back)) (sym at.whole) (split_same k p f low high at.front at.back));
       cut = subst (AreCut p) (sym entries) (split_cuts k p f low high 0 size at.front at.back whole);

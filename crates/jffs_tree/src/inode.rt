@@ -111,7 +111,11 @@ impl Inode {
         let count = out.len().min(size - start);
         let mut done = 0;
         while done < count {
-            done += copy_piece(&self.fragments, (start + done) as u32, &mut out[done..count]);
+            done += copy_piece(
+                &self.fragments,
+                (start + done) as u32,
+                &mut out[done..count],
+            );
         }
         count
     }

@@ -39,7 +39,7 @@ take_out-requires-2-clause-marked c = λ v.
     let a : cond (eqb i i) (was + part_by v part) 0 ≡ was + part_by v part = ap (λ b. cond b (was + part_by v part) 0) t in
     let b : cond (eqb i i) now 0 ≡ now = ap (λ b. cond b now 0) t in
     let same : part_by v part ≡ brought_by v c.args.node.now =
-      ap (λ (x : List ℕ). part_by v (record { bytes = x; writer = c.args.node.now.version })) c.in_ok-shared.ensures.same ∙ brought_part v c.args.node.now in
+    ap (λ (x : List ℕ). part_by v (record { bytes = x; writer = c.args.node.now.version })) c.in_ok-shared.ensures.same ∙ brought_part v c.args.node.now in
     let has = c.requires.marked v in
     omega arith
 

@@ -22,8 +22,8 @@ returns-in-Some-clause-moved c = λ v i.
     let now = c.insert.new.self.entries in
     let found : lookup (is_at (nat_cmp c.args.offset)) was ≡ Some c.in-Some.covered = sym c.in_ok-covered.ensures.old ∙ c.in-Some.is in
     let counted : amount_by v (insert_entry nat_cmp was c.args.offset c.args.fragment) + part_by v c.in-Some.covered ≡ amount_by v was + part_by v c.args.fragment =
-      ap (λ (o : Option Fragment). amount_by v (insert_entry nat_cmp was c.args.offset c.args.fragment) + unwrap_or (option_map (part_by v) o) 0) (sym found)
-      ∙ amount_inserted v c.args.offset c.args.fragment was c.insert.ensures.was_ordered in
+    ap (λ (o : Option Fragment). amount_by v (insert_entry nat_cmp was c.args.offset c.args.fragment) + unwrap_or (option_map (part_by v) o) 0) (sym found)
+    ∙ amount_inserted v c.args.offset c.args.fragment was c.insert.ensures.was_ordered in
     let same : amount_by v now ≡ amount_by v (insert_entry nat_cmp was c.args.offset c.args.fragment) = ap (amount_by v) c.in_ok-covered.ensures.entries in
     let put : amount_by v now + part_by v c.in-Some.covered ≡ amount_by v was + part_by v c.args.fragment = omega arith in
     let lowered = ap (λ n. mark_of c.lower.new.self v i + cond (eqb v c.in-Some.covered.writer && eqb i c.args.inode) n 0) (sym c.len.ensures) ∙ c.lower.ensures v i in
@@ -35,8 +35,8 @@ returns-in_default-clause-moved c = λ v i.
     let now = c.insert.new.self.entries in
     let none : lookup (is_at (nat_cmp c.args.offset)) was ≡ None = sym c.in_ok-covered.ensures.old ∙ c.in_default.is in
     let counted : amount_by v (insert_entry nat_cmp was c.args.offset c.args.fragment) + 0 ≡ amount_by v was + part_by v c.args.fragment =
-      ap (λ (o : Option Fragment). amount_by v (insert_entry nat_cmp was c.args.offset c.args.fragment) + unwrap_or (option_map (part_by v) o) 0) (sym none)
-      ∙ amount_inserted v c.args.offset c.args.fragment was c.insert.ensures.was_ordered in
+    ap (λ (o : Option Fragment). amount_by v (insert_entry nat_cmp was c.args.offset c.args.fragment) + unwrap_or (option_map (part_by v) o) 0) (sym none)
+    ∙ amount_inserted v c.args.offset c.args.fragment was c.insert.ensures.was_ordered in
     let same : amount_by v now ≡ amount_by v (insert_entry nat_cmp was c.args.offset c.args.fragment) = ap (amount_by v) c.in_ok-covered.ensures.entries in
     let put : amount_by v was + part_by v c.args.fragment ≡ amount_by v now = omega arith in
     ap (λ n. mark_of c.args.marks.now v i + n) (same_in (eqb i c.args.inode) (amount_by v was + part_by v c.args.fragment) (amount_by v now) put)

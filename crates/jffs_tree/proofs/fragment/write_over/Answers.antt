@@ -17,8 +17,8 @@ overwrite-requires-clause-laid c =
 pub take_out-requires-clause-short : goal.take_out-requires-clause-short
 take_out-requires-clause-short c =
     let ends : Ends c.args.node.now c.len-amount.result c.if-moves.end = elim c.if-moves.branch [
-    | then-moves w ↦ inl (w.if-moves.true, w.end-is)
-    | else-moves w ↦ inr (w.if-moves.false, w.end-is)
+      | then-moves w ↦ inl (w.if-moves.true, w.end-is)
+      | else-moves w ↦ inr (w.if-moves.false, w.end-is)
     ] in
     let s = spliced_either c.args.node.now c.args.size c.len-amount.result c.if-moves.end c.make_cuts.new.fragments.entries c.overwrite.new.fragments.entries c.len-amount.ensures.value ends
     (c.in_ok-make_cuts.ensures.same.stay c.args.size c.requires.laid) c.requires.fits c.in_ok-make_cuts.ensures.offset c.in_ok-make_cuts.ensures.end c.in_ok-overwrite.ensures.ok in
@@ -27,8 +27,8 @@ take_out-requires-clause-short c =
 pub returns-in-Some-clause-ok : goal.returns-in-Some-clause-ok
 returns-in-Some-clause-ok c =
     let ends : Ends c.args.node.now c.len-amount.result c.if-moves.end = elim c.if-moves.branch [
-    | then-moves w ↦ inl (w.if-moves.true, w.end-is)
-    | else-moves w ↦ inr (w.if-moves.false, w.end-is)
+      | then-moves w ↦ inl (w.if-moves.true, w.end-is)
+      | else-moves w ↦ inr (w.if-moves.false, w.end-is)
     ] in
     let s = spliced_either c.args.node.now c.args.size c.len-amount.result c.if-moves.end c.make_cuts.new.fragments.entries c.overwrite.new.fragments.entries c.len-amount.ensures.value ends
     (c.in_ok-make_cuts.ensures.same.stay c.args.size c.requires.laid) c.requires.fits c.in_ok-make_cuts.ensures.offset c.in_ok-make_cuts.ensures.end c.in_ok-overwrite.ensures.ok in
@@ -43,8 +43,8 @@ returns-in-Some-clause-ok c =
 pub returns-in-None-clause-ok : goal.returns-in-None-clause-ok
 returns-in-None-clause-ok c =
     let ends : Ends c.args.node.now c.len-amount.result c.if-moves.end = elim c.if-moves.branch [
-    | then-moves w ↦ inl (w.if-moves.true, w.end-is)
-    | else-moves w ↦ inr (w.if-moves.false, w.end-is)
+      | then-moves w ↦ inl (w.if-moves.true, w.end-is)
+      | else-moves w ↦ inr (w.if-moves.false, w.end-is)
     ] in
     file_plain c.args.node.now c.args.size (c.args.node.now.offset + c.len-amount.result) c.args.fragments.now.entries c.make_cuts.new.fragments.entries c.overwrite.new.fragments.entries c.in_ok-make_cuts.ensures.same c.requires.laid
     (spliced_moved c.args.node.now c.args.size c.len-amount.result c.if-moves.end c.make_cuts.new.fragments.entries c.overwrite.new.fragments.entries c.len-amount.ensures.value ends c.if-moves-2.true
@@ -54,8 +54,8 @@ returns-in-None-clause-ok c =
 pub returns-in-None-2-clause-ok : goal.returns-in-None-2-clause-ok
 returns-in-None-2-clause-ok c =
     let ends : Ends c.args.node.now c.len-amount.result c.if-moves.end = elim c.if-moves.branch [
-    | then-moves w ↦ inl (w.if-moves.true, w.end-is)
-    | else-moves w ↦ inr (w.if-moves.false, w.end-is)
+      | then-moves w ↦ inl (w.if-moves.true, w.end-is)
+      | else-moves w ↦ inr (w.if-moves.false, w.end-is)
     ] in
     subst (λ k. IsFileAfter c.args.node.now c.args.size c.args.fragments.now.entries k c.overwrite.new.fragments.entries) (sym c.max.ensures)
     (file_plain c.args.node.now c.args.size (max (c.args.node.now.offset + c.len-amount.result) c.args.size) c.args.fragments.now.entries c.make_cuts.new.fragments.entries c.overwrite.new.fragments.entries c.in_ok-make_cuts.ensures.same c.requires.laid

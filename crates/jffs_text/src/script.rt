@@ -221,7 +221,7 @@ pub fn line_text(line: &[u8]) -> Result<&str, ScriptWhy> {
 fn is_printable(line: &[u8]) -> bool
     ensures { result ≡ list_all (is_in_range 32 126) line.now }
 {
-    // As where hex is read, no byte ends the loop.
+    // No early exit, so that the compiler can vectorize the loop.
     let mut printable = true;
     for byte in line {
         printable &= matches!(byte, b' '..=b'~');

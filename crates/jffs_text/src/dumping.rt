@@ -21,14 +21,17 @@ pub enum DumpFault {
     /// The writer failed.
     #[error("Write")]
     Write,
-    /// A growth was refused.
+    /// A growth was refused, perhaps the writer's own.
     #[error("Memory")]
     Memory,
 }
 
 impl From<io::Error> for DumpFault {
-    fn from(_: io::Error) -> DumpFault {
-        DumpFault::Write
+    fn from(fault: io::Error) -> DumpFault {
+        match fault.kind() {
+            ErrorKind::OutOfMemory => DumpFault::Memory,
+            _ => DumpFault::Write,
+        }
     }
 }
 

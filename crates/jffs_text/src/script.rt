@@ -1,5 +1,9 @@
 //! Scripts, and how one is read.
 
+ghost use Rattle.std.specs.Prelude.{◌≡◌};
+ghost use Rattle.std.specs.Int.{is_in_range};
+ghost use Rattle.std.specs.List.{list_all};
+
 use crate::command::Command;
 use crate::fault::{ScriptFault, ScriptWhy};
 use crate::keyword::Keyword;
@@ -208,8 +212,19 @@ fn volume_sizes(keyword: Option<Keyword>, mut words: Words<'_>) -> Result<(u32, 
 
 /// A line as text: printable ASCII, and not too long. Else `Text`.
 pub fn line_text(line: &[u8]) -> Result<&str, ScriptWhy> {
-    if line.len() > LINE_MAX || !line.iter().all(|byte| matches!(byte, b' '..=b'~')) {
+    if line.len() > LINE_MAX || !is_printable(line) {
         return Err(ScriptWhy::Text);
     }
     str::from_utf8(line).map_err(|_| ScriptWhy::Text)
+}
+
+fn is_printable(line: &[u8]) -> bool
+    ensures { result ≡ list_all (is_in_range 32 126) line.now }
+{
+    // No early exit, so that the compiler can vectorize the loop.
+    let mut printable = true;
+    for byte in line {
+        printable &= matches!(byte, b' '..=b'~');
+    }
+    printable
 }

@@ -1,7 +1,9 @@
-//! Trees that are dumped.
+//! Trees that are dumped, and the words of a line.
 
 use crate::dumping::dump;
+use crate::fault::ScriptWhy;
 use crate::script::Script;
+use crate::word::Words;
 use jffs_tree::{Limits, Tree};
 use std::alloc::Global;
 use std::process::Abort;
@@ -51,5 +53,36 @@ fn a_copied_tree_is_dumped_to_the_same_text(rt: HostRuntime) -> Result<(), Fail>
         b"d /\nd /c\nf /c/f 4 00006869\n".as_slice()
     );
     assert!(rt; dumped(alloc, &copied)? == text);
+    Ok(())
+}
+
+#[test]
+fn words_are_taken_from_left_to_right(rt: HostRuntime) -> Result<(), Fail> {
+    let mut words = Words::of("fill  7 ");
+    assert_eq!(rt; words.count(), 4);
+    assert_eq!(rt; words.take(), "fill");
+    assert_eq!(rt; words.take(), "");
+    assert_eq!(rt; words.take_number(0, 9), Ok(7));
+    assert_eq!(rt; words.count(), 1);
+    assert_eq!(rt; words.take(), "");
+    assert_eq!(rt; words.count(), 0);
+    assert_eq!(rt; words.take(), "");
+    assert_eq!(rt; Words::of("").count(), 1);
+    Ok(())
+}
+
+#[test]
+fn bytes_are_lower_case_hex(rt: HostRuntime) -> Result<(), Fail> {
+    let alloc = rt.alloc();
+    let mut words = Words::of("00ff1a - 0 0g 1A");
+    assert_eq!(rt;
+        words.take_bytes(alloc)?.as_slice(),
+        [0u8, 255, 26].as_slice()
+    );
+    assert_eq!(rt; words.take_bytes(alloc)?.len(), 0);
+    assert_eq!(rt; words.take_bytes(alloc).err(), Some(ScriptWhy::Hex));
+    assert_eq!(rt; words.take_bytes(alloc).err(), Some(ScriptWhy::Hex));
+    assert_eq!(rt; words.take_byte(), Err(ScriptWhy::Hex));
+    assert_eq!(rt; words.take_byte(), Err(ScriptWhy::Hex));
     Ok(())
 }

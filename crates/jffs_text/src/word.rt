@@ -11,7 +11,7 @@ use std::alloc::Global;
 /// spaces have an empty word between them.
 #[derive(Clone, Copy)]
 pub struct Words<'a> {
-    /// How many words the text has that is left.
+    /// How many words are left: where there are any, one more than `rest` has spaces.
     count: usize,
     rest: &'a str,
 }
@@ -36,7 +36,7 @@ impl<'a> Words<'a> {
             return "";
         }
         self.count -= 1;
-        // No space stands in the last word, which may be long.
+        // The last word may be long, and no space is left to look for.
         if self.count == 0 {
             return self.rest;
         }
@@ -134,7 +134,7 @@ fn read_hex(digits: &[u8], bytes: &mut [u8]) -> bool
     requires { length digits.now ≡ 2 * length bytes.old }
     ensures { result ≡ true → hex bytes.new ≡ digits.now }
 {
-    // The loop has no way out at a digit that is none, so that the processor takes many at once.
+    // No early exit, so that the compiler can vectorize the loop.
     let mut all_read = true;
     for index in 0..bytes.len() {
         let high = digit_value(digits[2 * index]);

@@ -47,3 +47,4 @@ pub mod SameCells
 pub mod FileWritten
 pub mod Counted
 pub mod InodeWritten
+pub mod Appending

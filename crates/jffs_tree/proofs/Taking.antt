@@ -39,7 +39,7 @@ not_within p q k h = ⊎_elim
     by_first true t = ap not t
     by_first false t = refl
 
-none_within : (p q : ℕ) (es : Fragments) → AllByRecursion (λ e. (e.0 < p) ⊎ (q ≤ e.0)) es → outside p q es ≡ es
+pub none_within : (p q : ℕ) (es : Fragments) → AllByRecursion (λ e. (e.0 < p) ⊎ (q ≤ e.0)) es → outside p q es ≡ es
 none_within p q [] h = refl
 none_within p q (e ∷ es) h =
     ap (λ b. cond b (e ∷ outside p q es) (outside p q es)) (not_within p q e.0 h.0) ∙ ap (λ x. e ∷ x) (none_within p q es h.1)

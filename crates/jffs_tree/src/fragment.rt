@@ -110,6 +110,9 @@ pub(crate) fn write_over(
     ensures moved { OnOk result ((v i : ℕ) → mark_of marks.new v i + (if i == node.now.inode then amount_by v fragments.old.entries + brought_by v node.now else 0) ≡ mark_of marks.old v i + (if i == node.now.inode then amount_by v fragments.new.entries else 0)) }
     ensures err { OnErr result (SameCells fragments.old.entries fragments.new.entries × (marks.new ≡ marks.old)) }
 {
+    if size <= node.offset {
+        return append(fragments, size, node, marks);
+    }
     let amount = node.bytes.len() as u32;
     let reached = node.offset + amount;
     let moves = amount != node.rsize;
@@ -124,6 +127,28 @@ pub(crate) fn write_over(
         None if moves => Ok(reached),
         None => Ok(reached.max(size)),
     }
+}
+
+/// Writes a node over a file that ends where the node begins, or before: no fragment is in its way.
+fn append(
+    fragments: &mut Fragments,
+    size: u32,
+    node: &Node,
+    marks: &mut Marks,
+) -> Result<u32, AllocError>
+    requires laid { AreLaid 0 size fragments.old.entries }
+    requires fits { FitsFile node.now size × (size ≤ node.now.offset) }
+    requires marked { (v : ℕ) → amount_by v fragments.old.entries + brought_by v node.now ≤ mark_of marks.old v node.now.inode }
+    ensures ok { IfOk result (λ after. IsFileAfter node.now size fragments.old.entries after fragments.new.entries) }
+    ensures moved { OnOk result ((v i : ℕ) → mark_of marks.new v i + (if i == node.now.inode then amount_by v fragments.old.entries + brought_by v node.now else 0) ≡ mark_of marks.old v i + (if i == node.now.inode then amount_by v fragments.new.entries else 0)) }
+    ensures err { OnErr result ((fragments.new.entries ≡ fragments.old.entries) × (marks.new ≡ marks.old)) }
+{
+    if node.bytes.is_empty() {
+        return Ok(node.size.unwrap_or(node.offset));
+    }
+    let fragment = fragment_of(node)?;
+    put(fragments, node.offset, fragment, node.inode, marks)?;
+    Ok(node.size.unwrap_or(node.offset + node.bytes.len() as u32))
 }
 
 /// Cuts the fragments at both ends of what a node writes and at the size that it states, so that
@@ -182,6 +207,16 @@ fn take_one(fragments: &mut Fragments, first: u32, inode: u32, marks: &mut Marks
     }
 }
 
+/// The fragment of a node's data, which it shares. `AllocError` where no owner more can be counted.
+fn fragment_of(node: &Node) -> Result<Fragment, AllocError>
+    ensures { IfOk result (λ fragment. fragment ≡ record { bytes = node.now.bytes; writer = node.now.version }) }
+{
+    Ok(Fragment {
+        bytes: shared(&node.bytes)?,
+        writer: node.version,
+    })
+}
+
 /// Puts a fragment in at an offset. One that began there goes, and its marks. Where an allocation
 /// failed, nothing is changed.
 fn put(
@@ -222,10 +257,7 @@ pub(crate) fn overwrite(
         take_out(fragments, node.offset, end, node.inode, marks);
         return Ok(());
     }
-    let fragment = Fragment {
-        bytes: shared(&node.bytes)?,
-        writer: node.version,
-    };
+    let fragment = fragment_of(node)?;
     put(fragments, node.offset, fragment, node.inode, marks)?;
     take_out(fragments, node.offset + 1, end, node.inode, marks);
     Ok(())

@@ -22,16 +22,16 @@ put-requires-clause-short c = short_from_laid 0 file_max c.args.fragments.now.en
 
 pub take_out-requires-2-clause-short : goal.take_out-requires-2-clause-short
 take_out-requires-2-clause-short c =
-    let same : length c.in_ok-shared.field-0 ≡ length c.args.node.now.bytes = ap (λ (x : List ℕ). length x) c.in_ok-shared.ensures.same in
+    let same : length c.in_ok-fragment.fragment.bytes ≡ length c.args.node.now.bytes = ap (λ (f : Fragment). length f.bytes) c.in_ok-fragment.ensures in
     let range = c.requires.range in
     subst AreShort (sym c.in_ok-put.ensures.ok)
-    (short_inserted c.args.node.now.offset (record { bytes = c.in_ok-shared.field-0; writer = c.args.node.now.version }) c.args.fragments.now.entries
+    (short_inserted c.args.node.now.offset c.in_ok-fragment.fragment c.args.fragments.now.entries
     (short_from_laid 0 file_max c.args.fragments.now.entries c.requires.laid (omega arith)) (omega arith))
 
 pub take_out-requires-2-clause-marked : goal.take_out-requires-2-clause-marked
 take_out-requires-2-clause-marked c = λ v.
     let i = c.args.node.now.inode in
-    let part : Fragment = record { bytes = c.in_ok-shared.field-0; writer = c.args.node.now.version } in
+    let part : Fragment = c.in_ok-fragment.fragment in
     let was = amount_by v c.args.fragments.now.entries in
     let now = amount_by v c.put.new.fragments.entries in
     let t = eq-eqb i i refl in
@@ -39,7 +39,7 @@ take_out-requires-2-clause-marked c = λ v.
     let a : cond (eqb i i) (was + part_by v part) 0 ≡ was + part_by v part = ap (λ b. cond b (was + part_by v part) 0) t in
     let b : cond (eqb i i) now 0 ≡ now = ap (λ b. cond b now 0) t in
     let same : part_by v part ≡ brought_by v c.args.node.now =
-    ap (λ (x : List ℕ). part_by v (record { bytes = x; writer = c.args.node.now.version })) c.in_ok-shared.ensures.same ∙ brought_part v c.args.node.now in
+    ap (part_by v) c.in_ok-fragment.ensures ∙ brought_part v c.args.node.now in
     let has = c.requires.marked v in
     omega arith
 
@@ -50,6 +50,6 @@ returns-clause-ok c =
     let range = c.requires.range in
     let past : c.args.node.now.offset < c.args.end = omega arith in
     c.take_out-2.ensures.left
-    ∙ ap (outside (c.args.node.now.offset + 1) c.args.end) (c.in_ok-put.ensures.ok ∙ ap (λ (b : List ℕ). insert_entry nat_cmp c.args.fragments.now.entries c.args.node.now.offset (record { bytes = b; writer = c.args.node.now.version })) c.in_ok-shared.ensures.same)
+    ∙ ap (outside (c.args.node.now.offset + 1) c.args.end) (c.in_ok-put.ensures.ok ∙ ap (λ (f : Fragment). insert_entry nat_cmp c.args.fragments.now.entries c.args.node.now.offset f) c.in_ok-fragment.ensures)
     ∙ insert_outside 0 file_max c.args.node.now.offset c.args.end whole c.args.fragments.now.entries c.requires.laid past
     ∙ sym (some_data c.args.end c.args.node.now c.args.fragments.now.entries (sym c.if-is_empty.ensures))

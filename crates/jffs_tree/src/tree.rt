@@ -1,10 +1,11 @@
 //! The tree.
 
-ghost use Rattle.std.specs.Prelude.{◌≡◌, ◌+◌, ◌≤◌, ℕ, ◌∷◌, [], List, Some, IsSome, IsTrue, OnOk, OnErr, IfErr, option_map};
+ghost use Rattle.std.specs.Prelude.{◌≡◌, ◌+◌, ◌≤◌, ℕ, ◌∷◌, [], List, true, Some, IsSome, IsTrue, OnOk, OnErr, IfErr, option_map};
 ghost use Rattle.jffs_node.specs.declared.node.Node.{Node};
 ghost use Rattle.jffs_node.specs.Record.{file_max, is_lawful};
 ghost use Rattle.jffs_tree.specs.Origin.{tree_of};
 ghost use Rattle.jffs_tree.specs.After.{held_in, keeps_places_in, tree_after, without_inode, put_node, IsSmall, IsWritable, IsWritten};
+ghost use Rattle.jffs_tree.specs.Look.{parent_name_in};
 ghost use Rattle.jffs_tree.specs.Marks.{AreMarksOf, SameMarks, HasMarksIn, MovesMarksIn, held_marks};
 
 use crate::children::{Place, bears};
@@ -85,9 +86,48 @@ impl Tree {
         }
     }
 
-    /// Writes a node that isn't deleted over its inode, present or not. The new place is entered
-    /// first and the old one left last, so that a refused growth can be taken back.
+    /// Writes a node that isn't deleted over its inode, present or not. Where an allocation failed,
+    /// nothing is changed.
     fn write(&mut self, node: &Node, name: Name) -> Result<(), AllocError>
+        requires named { node.now.name ≡ Some name }
+        requires small { IsSmall node.now }
+        requires places { IsTrue (keeps_places_in self.old node.now) }
+        ensures ok { OnOk result (self.new ≡ put_node self.old node.now) }
+        ensures err { OnErr result (self.new ≡ self.old) }
+    {
+        if self.stands_at(node.inode, node.parent, &name) {
+            self.write_here(node, name)
+        } else {
+            self.write_elsewhere(node, name)
+        }
+    }
+
+    /// Whether the inode stands in that directory under that name.
+    fn stands_at(&self, inode: u32, parent: u32, name: &Name) -> bool
+        ensures { result ≡ true → parent_name_in self.now inode ≡ Some (parent, name.now) }
+    {
+        match self.inode(inode) {
+            Some(found) => found.is_child(parent, name),
+            None => false,
+        }
+    }
+
+    /// Writes a node over its inode, which stands where the node says.
+    fn write_here(&mut self, node: &Node, name: Name) -> Result<(), AllocError>
+        requires named { node.now.name ≡ Some name }
+        requires small { IsSmall node.now }
+        requires places { IsTrue (keeps_places_in self.old node.now) }
+        requires here { parent_name_in self.old node.now.inode ≡ Some (node.now.parent, name) }
+        ensures ok { OnOk result (self.new ≡ put_node self.old node.now) }
+        ensures err { OnErr result (self.new ≡ self.old) }
+    {
+        write_marked(self.alloc, &mut self.inodes, &mut self.marks, node, name)?;
+        Ok(())
+    }
+
+    /// Writes a node over its inode, whose place may change. The new place is entered first and the
+    /// old one left last, so that a refused growth can be taken back.
+    fn write_elsewhere(&mut self, node: &Node, name: Name) -> Result<(), AllocError>
         requires named { node.now.name ≡ Some name }
         requires small { IsSmall node.now }
         requires places { IsTrue (keeps_places_in self.old node.now) }

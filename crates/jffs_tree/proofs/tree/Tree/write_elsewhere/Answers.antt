@@ -8,7 +8,7 @@ use Rattle.jffs_tree.specs.Marks.{AreMarksOf}
 use Rattle.jffs_tree.proofs.Written.{put_there}
 use Rattle.jffs_tree.proofs.Marked.{same_marks_of}
 use Rattle.jffs_tree.proofs.Reindexed.{tied, by_place, restored, parted, stayed}
-use Rattle.jffs_tree.proofs.tree.Tree.write.Goals as goal
+use Rattle.jffs_tree.proofs.tree.Tree.write_elsewhere.Goals as goal
 
 pub invariant_of-self-then-is_new : goal.invariant_of-self-then-is_new
 invariant_of-self-then-is_new c =

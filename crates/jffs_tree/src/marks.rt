@@ -63,15 +63,14 @@ impl Marks {
         requires { count ≤ mark_of self.old version inode }
         ensures { HaveMore self.new self.old version inode count }
     {
-        let kept = self.at(version, inode);
-        if kept == count {
-            self.counts.remove(&(version, inode));
+        let Some(kept) = self.counts.get_mut(&(version, inode)) else {
+            return;
+        };
+        if count < *kept {
+            *kept -= count;
             return;
         }
-        match self.counts.get_mut(&(version, inode)) {
-            Some(place) => *place = kept - count,
-            None => unreachable!(),
-        }
+        self.counts.remove(&(version, inode));
     }
 
     /// The smallest inode where the version has marks.

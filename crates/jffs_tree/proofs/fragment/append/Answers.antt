@@ -29,9 +29,9 @@ returns-clause-ok c =
     let now = c.put.new.fragments.entries in
     let some = sym c.if-is_empty.ensures in
     let is : now ≡ es ++ fragment_of n =
-      c.in_ok-put.ensures.ok
-      ∙ ap (λ (f : Fragment). insert_entry nat_cmp es n.offset f) c.in_ok-fragment.ensures
-      ∙ put_last n.offset (record { bytes = n.bytes; writer = n.version }) 0 c.args.size es c.requires.laid c.requires.fits.1
-      ∙ ap (λ (x : Fragments). es ++ x) (sym (one_brought n some)) in
+    c.in_ok-put.ensures.ok
+    ∙ ap (λ (f : Fragment). insert_entry nat_cmp es n.offset f) c.in_ok-fragment.ensures
+    ∙ put_last n.offset (record { bytes = n.bytes; writer = n.version }) 0 c.args.size es c.requires.laid c.requires.fits.1
+    ∙ ap (λ (x : Fragments). es ++ x) (sym (one_brought n some)) in
     subst (λ k. IsFileAfter n c.args.size es k now) (ap (λ k. unwrap_or n.size (n.offset + k)) (sym c.len.ensures.value) ∙ sym c.unwrap_or-2.ensures)
     (file_appended n c.args.size es now c.requires.laid c.requires.fits.0 c.requires.fits.1 is)

@@ -1,17 +1,17 @@
 -- A node written at the end of a file or past it: its data come behind all fragments.
-use Rattle.std.proofs.Common.{◌≡◌, ◌≢◌, ℕ, max, ◌+◌, ◌<◌, ◌≤◌, true, false, cond, eqb, List, [], ◌∷◌, ◌++◌, length, ◌⊎◌, inl, inr, ⊎_elim, Option, Some, None, IfSome, unwrap_or, refl, sym, ap, subst, ◌∙◌, arith, nat_cmp}
+use Rattle.std.proofs.Common.{◌≡◌, ℕ, max, ◌+◌, ◌<◌, ◌≤◌, true, false, cond, eqb, [], ◌∷◌, ◌++◌, ◌⊎◌, inl, ⊎_elim, Option, Some, None, IfSome, unwrap_or, refl, sym, ap, subst, ◌∙◌, arith, nat_cmp}
 use Rattle.std.specs.List.{AllByRecursion}
 use Rattle.std.specs.Ordering.{match_ordering}
 use Rattle.std.specs.Cmp.{nat_cmp_is}
 use Rattle.std.specs.BTreeMap.{insert_entry}
 use Rattle.std.specs.declared.cmp.Ordering.{Ordering}
-use Rattle.std.specs.declared.cmp.Ordering.TheVariants.{Less, Equal, Greater}
+use Rattle.std.specs.declared.cmp.Ordering.TheVariants.{Greater}
 use Rattle.std.proofs.lemmas.Bool.{cases_eq}
 use Rattle.std.proofs.lemmas.List.{append-nil}
 use Rattle.jffs_node.specs.declared.node.Node.{Node}
 use Rattle.jffs_node.specs.Record.{dsize, file_max}
 use Rattle.jffs_tree.specs.declared.fragment.Fragment.{Fragment}
-use Rattle.jffs_tree.specs.Fragments.{Fragments, end_of, AreLaid, FitsFile, IsFileAfter, before, from, overwritten, fragment_of}
+use Rattle.jffs_tree.specs.Fragments.{Fragments, end_of, AreLaid, FitsFile, IsFileAfter, before, overwritten, fragment_of}
 use Rattle.jffs_tree.proofs.Fragments.{laid_bound, all_before, none_from}
 use Rattle.jffs_tree.proofs.Splitting.{cut_past}
 use Rattle.jffs_tree.proofs.Taking.{none_within}

@@ -1,15 +1,15 @@
 -- A node written over a file of fragments: the cells are spliced and sized as it says.
-use Rattle.std.proofs.Common.{◌≡◌, ◌≢◌, ℕ, zero, suc, max, ◌+◌, ◌-◌, ◌<◌, ◌≤◌, true, false, cond, eqb, List, [], ◌∷◌, ◌++◌, Bool, length, map, take, drop, replicate, ◌⊎◌, inl, inr, ⊎_elim, Option, Some, None, refl, sym, ap, subst, ◌∙◌, arith, append_assoc, length-append}
-use Rattle.std.specs.List.{AllByRecursion, filter}
+use Rattle.std.proofs.Common.{◌≡◌, ◌≢◌, ℕ, max, ◌+◌, ◌-◌, ◌<◌, ◌≤◌, true, false, cond, eqb, List, [], ◌∷◌, ◌++◌, Bool, length, map, take, drop, replicate, ◌⊎◌, inl, ⊎_elim, Option, Some, None, sym, ap, subst, ◌∙◌, arith, append_assoc, length-append}
+use Rattle.std.specs.List.{filter}
 use Rattle.std.proofs.lemmas.Bool.{cases_Bool, cases_lt, eqb-true, eqb-false}
-use Rattle.std.proofs.lemmas.List.{append-nil, nil_from_length, length-map, length-replicate, length-drop}
+use Rattle.std.proofs.lemmas.List.{append-nil, nil_from_length, length-replicate, length-drop}
 use Rattle.jffs_node.specs.declared.node.Node.{Node}
 use Rattle.jffs_node.specs.Record.{dsize, file_max}
 use Rattle.jffs_node.proofs.Each.{each_append}
 use Rattle.jffs_tree.specs.declared.fragment.Fragment.{Fragment}
-use Rattle.jffs_tree.specs.After.{padded_with, spliced_with, sized_with, IsSmall}
-use Rattle.jffs_tree.specs.Fragments.{Fragments, Cell, cells_of, end_of, laid, AreLaid, AreCut, FitsFile, IsFileAfter, SameCells, before, from, outside, overwritten, fragment_of}
-use Rattle.jffs_tree.proofs.Fragments.{laid_from_earlier, are_laid_append, laid_append, are_laid_grown, length-laid, none_from, Parted, parted, front_cells, back_cells}
+use Rattle.jffs_tree.specs.After.{padded_with, spliced_with, sized_with}
+use Rattle.jffs_tree.specs.Fragments.{Fragments, Cell, end_of, laid, AreLaid, AreCut, FitsFile, IsFileAfter, SameCells, before, from, outside, overwritten, fragment_of}
+use Rattle.jffs_tree.proofs.Fragments.{laid_from_earlier, are_laid_append, laid_append, length-laid, none_from, parted, front_cells, back_cells}
 use Rattle.jffs_tree.proofs.Overwriting.{outside_parts}
 
 abbrev pub node_cells : Node → List Cell

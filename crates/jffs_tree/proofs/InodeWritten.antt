@@ -1,11 +1,11 @@
 -- An inode's fields after a node is written over it.
-use Rattle.std.proofs.Common.{◌≡◌, ℕ, ◌+◌, List, [], length, map, replicate, Option, Some, None, unwrap_or, is_some, refl, sym, ap, ◌∙◌}
+use Rattle.std.proofs.Common.{◌≡◌, ℕ, List, [], map, Option, Some, None, unwrap_or, is_some, refl, sym, ap, ◌∙◌}
 use Rattle.jffs_node.specs.declared.node.Node.{Node}
-use Rattle.jffs_node.specs.Record.{dsize, name_bytes}
+use Rattle.jffs_node.specs.Record.{name_bytes}
 use Rattle.jffs_tree.specs.State.{splice, sized}
 use Rattle.jffs_tree.specs.Origin.{Held}
 use Rattle.jffs_tree.specs.After.{spliced_with, sized_with, writers_after, held_after}
-use Rattle.jffs_tree.specs.Fragments.{Fragments, Cell, byte_of, writer_of, laid, IsFileAfter}
+use Rattle.jffs_tree.specs.Fragments.{Fragments, byte_of, writer_of, laid, IsFileAfter}
 use Rattle.jffs_tree.proofs.Counted.{map_spliced, map_sized, bytes_of_cells, writers_of_cells}
 use Rattle.jffs_tree.proofs.FileWritten.{node_cells}
 

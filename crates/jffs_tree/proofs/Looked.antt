@@ -1,7 +1,6 @@
 -- What looks into a tree find.
-use Rattle.std.proofs.Common.{◌≡◌, ℕ, zero, suc, ◌-◌, ◌<◌, ◌≤◌, Bool, false, cond, ◌||◌, eqb, flat_map, option_map, List, [], ◌∷◌, get_or, Option, Some, None, refl, sym, ap, ◌∙◌, arith, ⊎_elim, nat_cmp}
-use Rattle.std.specs.List.{list_any}
-use Rattle.std.specs.Option.{option_to_list, unwrap_or, option_map_or}
+use Rattle.std.proofs.Common.{◌≡◌, ℕ, zero, suc, ◌-◌, ◌<◌, ◌≤◌, false, cond, ◌||◌, eqb, option_map, List, [], ◌∷◌, get_or, Option, Some, None, refl, sym, ap, ◌∙◌, arith, ⊎_elim, nat_cmp}
+use Rattle.std.specs.Option.{unwrap_or, option_map_or}
 use Rattle.std.specs.Ordering.{eq_by_cmp}
 use Rattle.jffs_node.specs.declared.node.Kind.TheVariants.{Directory}
 use Rattle.jffs_node.specs.Record.{is_directory}

@@ -1,14 +1,13 @@
 -- The marks of a tree, after one more node.
-use Rattle.std.proofs.Common.{◌≡◌, ℕ, ◌+◌, ◌≤◌, Bool, true, false, cond, ◌&&◌, eqb, leb, List, ◌∷◌, [], map, length, flat_map, count_by, is_some, Option, Some, None, option_map, refl, sym, ap, subst, ◌∙◌, arith, ⊎_elim}
-use Rattle.std.specs.Option.{option_map_or, option_to_list, unwrap_or}
-use Rattle.std.specs.List.{sum_by}
-use Rattle.std.proofs.lemmas.Bool.{cases_Bool, eqb-true, eq-eqb, or_right, le-leb}
+use Rattle.std.proofs.Common.{◌≡◌, ℕ, ◌+◌, ◌≤◌, Bool, true, false, cond, ◌&&◌, eqb, List, ◌∷◌, [], length, flat_map, count_by, Option, Some, None, option_map, refl, sym, ap, subst, ◌∙◌, arith, ⊎_elim}
+use Rattle.std.specs.Option.{option_map_or, option_to_list}
+use Rattle.std.proofs.lemmas.Bool.{cases_Bool, eqb-true, eq-eqb}
 use Rattle.std.proofs.lemmas.Option.{same_Some}
 use Rattle.std.proofs.lemmas.List.Sums.{sum_by-append, sum_by-cons}
 use Rattle.jffs_node.specs.declared.node.Node.{Node}
 use Rattle.jffs_node.specs.Record.{dsize}
 use Rattle.jffs_tree.specs.Origin.{Held, Tree, versions_held}
-use Rattle.jffs_tree.specs.After.{held_in, held_after, keeps_places_in, without_inode, IsWritten}
+use Rattle.jffs_tree.specs.After.{held_in, held_after, without_inode, IsWritten}
 use Rattle.jffs_tree.specs.Marks.{Counts, mark_of, HaveMore, SameMarks, places_by, brought_by, places_in, MovesMarks, MovesMarksIn, HasPlaces, LosesPlaces, held_marks, AreMarksOf}
 use Rattle.jffs_tree.proofs.Marking.{turned}
 use Rattle.jffs_tree.proofs.Pointwise.{find_without}

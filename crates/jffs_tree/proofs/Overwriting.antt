@@ -1,5 +1,5 @@
 -- A node's data in place of the fragments that they cover.
-use Rattle.std.proofs.Common.{◌≡◌, ℕ, suc, ◌+◌, ◌<◌, ◌≤◌, true, false, cond, not, ◌&&◌, eqb, leb, ltb, List, [], ◌∷◌, ◌++◌, length, ◌⊎◌, inl, inr, ⊎_elim, refl, sym, ap, subst, ◌∙◌, arith, nat_cmp}
+use Rattle.std.proofs.Common.{◌≡◌, ℕ, ◌+◌, ◌<◌, ◌≤◌, true, false, cond, eqb, [], ◌∷◌, ◌++◌, length, ◌⊎◌, inl, inr, ⊎_elim, refl, sym, ap, ◌∙◌, arith, nat_cmp}
 use Rattle.std.specs.Ordering.{match_ordering}
 use Rattle.std.specs.Cmp.{nat_cmp_is}
 use Rattle.std.specs.BTreeMap.{insert_entry}
@@ -10,7 +10,7 @@ use Rattle.jffs_node.specs.declared.node.Node.{Node}
 use Rattle.jffs_node.specs.Record.{dsize, file_max}
 use Rattle.jffs_tree.specs.declared.fragment.Fragment.{Fragment}
 use Rattle.jffs_tree.specs.Marks.{brought_by}
-use Rattle.jffs_tree.specs.Fragments.{Fragments, end_of, AreLaid, AreShort, before, from, outside, overwritten, fragment_of, part_by}
+use Rattle.jffs_tree.specs.Fragments.{Fragments, end_of, AreLaid, AreShort, before, from, outside, overwritten, part_by}
 use Rattle.jffs_tree.proofs.Fragments.{laid_bound, none_before}
 use Rattle.jffs_tree.proofs.Taking.{not_within, drop_within, same_test}
 

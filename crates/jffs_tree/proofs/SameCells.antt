@@ -1,6 +1,6 @@
 -- Fragments that say the same of all places.
-use Rattle.std.proofs.Common.{◌≡◌, refl, sym, ◌∙◌}
-use Rattle.jffs_tree.specs.Fragments.{Fragments, AreLaid, AreCut, SameCells}
+use Rattle.std.proofs.Common.{refl, ◌∙◌}
+use Rattle.jffs_tree.specs.Fragments.{Fragments, SameCells}
 
 pub same_cells : (es : Fragments) → SameCells es es
 same_cells es = record { stay = λ size h. h; cells = λ size h. refl; amounts = λ v. refl; cuts = λ q h. h }

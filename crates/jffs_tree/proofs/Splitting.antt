@@ -1,15 +1,13 @@
 -- Fragments found by their first offset, and one of them cut in two.
-use Rattle.std.proofs.Common.{◌≡◌, ℕ, suc, ◌+◌, ◌-◌, ◌<◌, ◌≤◌, Bool, true, false, cond, eqb, ltb, List, [], ◌∷◌, ◌++◌, length, map, take, drop, not, replicate, sum_by, ◌⊎◌, inl, inr, ⊎_elim, Option, Some, None, refl, sym, ap, subst, ◌∙◌, arith, append_assoc, length-take, length-drop, nat_cmp}
+use Rattle.std.proofs.Common.{◌≡◌, ℕ, ◌+◌, ◌-◌, ◌<◌, ◌≤◌, Bool, true, false, cond, eqb, [], ◌∷◌, ◌++◌, length, map, take, drop, replicate, sum_by, ◌⊎◌, inl, inr, ⊎_elim, Some, None, refl, sym, ap, subst, ◌∙◌, arith, append_assoc, length-take, length-drop, nat_cmp}
 use Rattle.std.specs.List.{AllByRecursion, filter}
 use Rattle.std.specs.Ordering.{is_le, match_ordering}
 use Rattle.std.specs.Cmp.{nat_cmp_is}
 use Rattle.std.specs.BTreeMap.Range.{range_contains}
 use Rattle.std.specs.declared.ops.Bound.TheVariants.{Unbounded, Excluded}
 use Rattle.std.specs.declared.cmp.Ordering.{Ordering}
-use Rattle.std.specs.declared.cmp.Ordering.TheVariants.{Less, Equal, Greater}
+use Rattle.std.specs.declared.cmp.Ordering.TheVariants.{Less, Greater}
 use Rattle.std.proofs.lemmas.Map.Keys.{le_from_is_le}
-use Rattle.std.proofs.lemmas.Map.Entries.{sum_by-insert_entry, sum_by-set_value}
-use Rattle.std.proofs.lemmas.Cmp.{nat_cmp_total}
 use Rattle.jffs_node.proofs.Each.{each_append, each_front}
 use Rattle.std.specs.Map.{lookup, set_value, values_of}
 use Rattle.std.proofs.lemmas.List.Sums.{sum_by-append, sum_by-cons}
@@ -20,7 +18,7 @@ use Rattle.std.proofs.lemmas.List.{map-append, take-append-drop}
 use Rattle.std.specs.Cmp.{unsigned_tied}
 use Rattle.jffs_tree.specs.declared.fragment.Fragment.{Fragment}
 use Rattle.jffs_tree.specs.Fragments.{Fragments, Cell, cells_of, end_of, laid, AreLaid, AreCut, SameCells, part_by, amount_by}
-use Rattle.jffs_tree.proofs.Fragments.{are_laid_append, laid_append, laid_bound, laid_from_earlier}
+use Rattle.jffs_tree.proofs.Fragments.{are_laid_append, laid_append, laid_bound}
 
 -- where the fragment of a first offset stands
 pub record Found (k : ℕ) (f : Fragment) (es : Fragments) : Type 0 where

@@ -1,25 +1,22 @@
 -- Fragments that are taken out or put in, and the marks that go with them.
-use Rattle.std.proofs.Common.{◌≡◌, ℕ, suc, ◌+◌, ◌-◌, ◌<◌, ◌≤◌, Bool, true, false, cond, not, ◌&&◌, eqb, leb, ltb, List, [], ◌∷◌, ◌++◌, length, map, sum_by, ◌⊎◌, inl, inr, ⊎_elim, Option, Some, None, unwrap_or, option_map, refl, sym, ap, subst, ◌∙◌, arith, nat_cmp}
+use Rattle.std.proofs.Common.{◌≡◌, ℕ, ◌+◌, ◌<◌, ◌≤◌, Bool, true, false, cond, not, ◌&&◌, eqb, leb, ltb, [], ◌∷◌, length, ◌⊎◌, inl, inr, ⊎_elim, Some, unwrap_or, option_map, refl, sym, ap, subst, ◌∙◌, arith, nat_cmp}
 use Rattle.std.specs.List.{AllByRecursion, filter}
 use Rattle.std.specs.List.Sorted.{IsStrictlySortedBy}
-use Rattle.std.specs.Ordering.{is_le, is_lt, match_ordering}
+use Rattle.std.specs.Ordering.{is_le, is_lt}
 use Rattle.std.specs.Cmp.{unsigned_tied, nat_cmp_is}
-use Rattle.std.specs.Map.{lookup, remove_entry, values_of, keys_of}
+use Rattle.std.specs.Map.{lookup, remove_entry, keys_of}
 use Rattle.std.specs.BTreeMap.{is_at, insert_entry}
 use Rattle.std.specs.BTreeMap.Range.{range_contains}
 use Rattle.std.specs.declared.ops.Bound.TheVariants.{Unbounded, Included}
-use Rattle.std.specs.declared.cmp.Ordering.{Ordering}
-use Rattle.std.specs.declared.cmp.Ordering.TheVariants.{Less, Equal, Greater}
+use Rattle.std.specs.declared.cmp.Ordering.TheVariants.{Less, Equal}
 use Rattle.std.proofs.lemmas.Bool.{cases_Bool, cases_lt, eqb-true, le-leb, lt-leb, lt-ltb, le-ltb, eq-eqb, ne_eqb, cases_eq}
 use Rattle.std.proofs.lemmas.Cmp.{nat_cmp_total}
-use Rattle.std.proofs.lemmas.Map.Keys.{le_from_is_le}
 use Rattle.std.proofs.lemmas.Map.Entries.{sum_by-insert_entry, sum_by-remove_entry}
 use Rattle.std.proofs.lemmas.Option.{none-some, same_Some}
 use Rattle.jffs_node.specs.Record.{file_max}
 use Rattle.jffs_tree.specs.declared.fragment.Fragment.{Fragment}
-use Rattle.jffs_tree.specs.Fragments.{Fragments, end_of, AreLaid, AreCut, AreShort, before, from, outside, part_by, amount_by, HasAmounts, MovesAmounts}
-use Rattle.jffs_tree.specs.Marks.{Counts, mark_of}
-use Rattle.jffs_tree.proofs.Fragments.{laid_bound, none_before, all_from}
+use Rattle.jffs_tree.specs.Fragments.{Fragments, AreShort, before, outside, part_by, amount_by, HasAmounts, MovesAmounts}
+use Rattle.jffs_tree.specs.Marks.{Counts}
 use Rattle.jffs_tree.proofs.Maps.{is_less}
 
 -- ---- which ones a range of offsets has

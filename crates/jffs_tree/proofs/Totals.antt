@@ -1,6 +1,5 @@
 -- All marks of a version: a walk over its entries, and a count over the tree.
-use Rattle.std.specs.Prelude.{⊤}
-use Rattle.std.proofs.Common.{◌≡◌, ◌≢◌, ℕ, ◌+◌, ◌<◌, ◌≤◌, min, Bool, true, false, cond, ◌&&◌, not, eqb, T, List, [], ◌∷◌, ◌++◌, map, flat_map, count_by, Option, Some, None, refl, sym, ap, subst, ◌∙◌, arith, ⊎_elim, nat_cmp}
+use Rattle.std.proofs.Common.{◌≡◌, ◌≢◌, ℕ, ◌+◌, ◌<◌, ◌≤◌, min, Bool, true, false, cond, ◌&&◌, not, eqb, T, [], ◌∷◌, map, flat_map, count_by, Option, Some, None, refl, sym, ap, subst, ◌∙◌, arith, ⊎_elim, nat_cmp}
 use Rattle.std.specs.List.{AllByRecursion, filter, sum_by}
 use Rattle.std.specs.List.Sorted.{IsStrictlySortedBy}
 use Rattle.std.specs.Option.{unwrap_or, option_map_or}
@@ -10,17 +9,15 @@ use Rattle.std.specs.declared.cmp.Ordering.TheVariants.{Less, Equal, Greater}
 use Rattle.std.specs.declared.ops.Bound.TheVariants.{Included, Unbounded}
 use Rattle.std.specs.Cmp.{unsigned_tied}
 use Rattle.std.specs.FinMap.Entries as entries
-use Rattle.std.specs.Map.{lookup, keys_of}
-use Rattle.std.specs.BTreeMap.{is_at}
 use Rattle.std.specs.BTreeMap.Range.{range_contains}
 use Rattle.std.proofs.lemmas.Bool.{cases_Bool, cases_eq, and_parts, and_from, eqb-true, eq-eqb, ne_eqb}
 use Rattle.std.proofs.lemmas.List.Sums.{sum_by-append, sum_by-cons}
 use Rattle.jffs_tree.specs.Origin.{Held, Tree, versions_held}
 use Rattle.jffs_tree.specs.After.{held_in}
 use Rattle.jffs_tree.specs.Look.{marks_in}
-use Rattle.jffs_tree.specs.Marks.{Counts, mark_cmp, mark_of, marks_of, AreKept, held_marks, AreMarksOf}
-use Rattle.jffs_tree.proofs.Maps.{found_by, sorted_by, t_true, tail_sorted, tail_behind, at_first, behind}
-use Rattle.jffs_tree.proofs.Marking.{mark_tied, mark_low, mark_from, turned}
+use Rattle.jffs_tree.specs.Marks.{Counts, mark_cmp, marks_of, held_marks, AreMarksOf}
+use Rattle.jffs_tree.proofs.Maps.{found_by, sorted_by, t_true, tail_sorted, at_first, behind}
+use Rattle.jffs_tree.proofs.Marking.{mark_tied, mark_low, mark_from}
 use Rattle.jffs_tree.proofs.PlaceOrder.{then_tied, nat_tied}
 
 -- Keys that the order doesn't tell apart are one.

@@ -1,6 +1,6 @@
-use Rattle.std.proofs.Common.{◌≡◌, ◌≤◌, ◌∙◌, ◌+◌, ℕ, length, [], sym, arith}
+use Rattle.std.proofs.Common.{◌∙◌, sym, arith}
 use Rattle.jffs_node.specs.Record.{file_max}
-use Rattle.jffs_tree.proofs.Splitting.{LastBefore, last_before, last_fits, cut_by_last, cut_if_all_from, none_begins_before}
+use Rattle.jffs_tree.proofs.Splitting.{last_before, last_fits, cut_by_last, cut_if_all_from, none_begins_before}
 use Rattle.jffs_tree.proofs.fragment.across.Goals as goal
 
 pub returns-in_default-clause-none : goal.returns-in_default-clause-none

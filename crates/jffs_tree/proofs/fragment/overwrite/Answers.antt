@@ -1,10 +1,10 @@
-use Rattle.std.proofs.Common.{◌≡◌, ◌≤◌, ◌+◌, ◌∙◌, ◌<◌, ℕ, List, length, cond, eqb, refl, sym, ap, subst, arith, nat_cmp}
+use Rattle.std.proofs.Common.{◌≡◌, ◌+◌, ◌∙◌, ◌<◌, length, cond, eqb, refl, sym, ap, subst, arith, nat_cmp}
 use Rattle.std.specs.BTreeMap.{insert_entry}
 use Rattle.std.proofs.lemmas.Bool.{eq-eqb, eqb-false}
 use Rattle.jffs_node.specs.Record.{file_max}
 use Rattle.jffs_tree.specs.declared.fragment.Fragment.{Fragment}
-use Rattle.jffs_tree.specs.Marks.{mark_of, brought_by}
-use Rattle.jffs_tree.specs.Fragments.{Fragments, AreShort, HasAmounts, outside, part_by, amount_by}
+use Rattle.jffs_tree.specs.Marks.{brought_by}
+use Rattle.jffs_tree.specs.Fragments.{AreShort, outside, part_by, amount_by}
 use Rattle.jffs_tree.proofs.Overwriting.{short_from_laid, short_inserted, outside_parts, insert_outside, no_data, some_data, brought_part}
 use Rattle.jffs_tree.proofs.fragment.overwrite.Goals as goal
 

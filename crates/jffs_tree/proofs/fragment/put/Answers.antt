@@ -1,9 +1,9 @@
-use Rattle.std.proofs.Common.{◌≡◌, ◌≤◌, ◌+◌, ◌∙◌, ◌&&◌, cond, eqb, ℕ, length, Option, Some, None, unwrap_or, option_map, sym, ap, arith, nat_cmp}
+use Rattle.std.proofs.Common.{◌≡◌, ◌+◌, ◌∙◌, ◌&&◌, cond, eqb, Option, Some, None, unwrap_or, option_map, sym, ap, arith, nat_cmp}
 use Rattle.std.specs.Map.{lookup}
 use Rattle.std.specs.BTreeMap.{is_at, insert_entry}
 use Rattle.jffs_tree.specs.Marks.{mark_of}
 use Rattle.jffs_tree.specs.declared.fragment.Fragment.{Fragment}
-use Rattle.jffs_tree.specs.Fragments.{Fragments, part_by, amount_by}
+use Rattle.jffs_tree.specs.Fragments.{part_by, amount_by}
 use Rattle.jffs_tree.proofs.Taking.{short_found, part_of_all, amount_inserted, one_put, same_in}
 use Rattle.jffs_tree.proofs.fragment.put.Goals as goal
 

@@ -1,4 +1,4 @@
-use Rattle.std.proofs.Common.{◌≡◌, ◌≤◌, ◌+◌, ◌∙◌, ◌&&◌, cond, eqb, ℕ, length, Option, Some, sym, ap, arith, nat_cmp}
+use Rattle.std.proofs.Common.{◌≡◌, ◌+◌, ◌∙◌, ◌&&◌, cond, eqb, Some, sym, ap, arith, nat_cmp}
 use Rattle.std.specs.Map.{lookup}
 use Rattle.std.specs.BTreeMap.{is_at}
 use Rattle.jffs_tree.specs.Marks.{mark_of}

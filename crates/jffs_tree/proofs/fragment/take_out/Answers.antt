@@ -1,4 +1,4 @@
-use Rattle.std.proofs.Common.{◌≡◌, ◌∙◌, sym, ap, subst, arith, nat_cmp}
+use Rattle.std.proofs.Common.{◌∙◌, sym, ap, subst, arith, nat_cmp}
 use Rattle.std.specs.BTreeMap.{is_at}
 use Rattle.jffs_tree.specs.Fragments.{AreShort, outside}
 use Rattle.jffs_tree.proofs.Taking.{short_removed, outside_removed, still_marked}

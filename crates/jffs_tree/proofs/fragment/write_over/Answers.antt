@@ -1,6 +1,6 @@
-use Rattle.std.proofs.Common.{◌≡◌, ◌≤◌, ◌∙◌, ◌+◌, ℕ, max, inl, inr, Option, IfSome, unwrap_or, ap, subst, sym, arith}
+use Rattle.std.proofs.Common.{◌≤◌, ◌+◌, ℕ, max, inl, inr, Option, IfSome, unwrap_or, subst, sym}
 use Rattle.jffs_node.specs.Record.{dsize, file_max}
-use Rattle.jffs_tree.specs.Fragments.{AreLaid, AreCut, IsFileAfter}
+use Rattle.jffs_tree.specs.Fragments.{AreCut, IsFileAfter}
 use Rattle.jffs_tree.proofs.FileWritten.{Ends, spliced_either, spliced_moved, spliced_stayed, file_plain, file_stated, cut_overwritten}
 use Rattle.jffs_tree.proofs.Fragments.{are_laid_grown}
 use Rattle.jffs_tree.proofs.Overwriting.{short_from_laid}

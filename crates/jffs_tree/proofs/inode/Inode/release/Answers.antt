@@ -1,5 +1,5 @@
-use Rattle.std.proofs.Common.{◌≡◌, ◌≤◌, ◌+◌, ◌∙◌, Bool, true, false, cond, eqb, ℕ, refl, sym, ap, arith}
-use Rattle.jffs_tree.specs.Marks.{mark_of, places_by}
+use Rattle.std.proofs.Common.{◌≡◌, ◌∙◌, Bool, true, false, cond, eqb, ℕ, refl, sym, ap, arith}
+use Rattle.jffs_tree.specs.Marks.{places_by}
 use Rattle.jffs_tree.specs.Shown.{held_of}
 use Rattle.jffs_tree.specs.Fragments.{amount_by}
 use Rattle.jffs_tree.proofs.Counted.{amount_counted}

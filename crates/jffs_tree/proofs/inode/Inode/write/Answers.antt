@@ -1,9 +1,8 @@
-use Rattle.std.proofs.Common.{◌≡◌, ◌≢◌, ◌≤◌, ◌∙◌, ◌+◌, ℕ, cond, eqb, length, map, Some, is_some, sym, ap, subst, arith}
+use Rattle.std.proofs.Common.{◌≡◌, ◌∙◌, ◌+◌, cond, eqb, length, map, Some, sym, ap, arith}
 use Rattle.std.proofs.lemmas.List.{length-map}
-use Rattle.jffs_node.specs.Record.{dsize}
 use Rattle.jffs_tree.specs.Origin.{Held}
 use Rattle.jffs_tree.specs.After.{held_after}
-use Rattle.jffs_tree.specs.Marks.{mark_of, places_by, brought_by}
+use Rattle.jffs_tree.specs.Marks.{places_by, brought_by}
 use Rattle.jffs_tree.specs.Shown.{held_of}
 use Rattle.jffs_tree.specs.Fragments.{byte_of, writer_of, laid, amount_by}
 use Rattle.jffs_tree.proofs.Counted.{amount_counted}

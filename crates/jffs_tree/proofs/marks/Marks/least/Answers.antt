@@ -1,4 +1,4 @@
-use Rattle.std.proofs.Common.{◌≡◌, ℕ, ◌<◌, ◌≤◌, subst, ap, arith}
+use Rattle.std.proofs.Common.{◌≡◌, ◌<◌, subst, ap, arith}
 use Rattle.std.specs.Option.{unwrap_or}
 use Rattle.jffs_tree.specs.Marks.{Counts, mark_of}
 use Rattle.jffs_tree.proofs.Marking.{first_has, none_before, mark_from}

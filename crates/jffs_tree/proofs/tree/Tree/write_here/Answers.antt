@@ -1,4 +1,3 @@
-use Rattle.std.proofs.Common.{◌≡◌}
 use Rattle.jffs_tree.proofs.Written.{put_there}
 use Rattle.jffs_tree.proofs.tree.Tree.write_here.Goals as goal
 

@@ -1,0 +1,150 @@
+"""Runs programs, with an allocation refused where that is wanted, and counts what passed."""
+import os
+import pathlib
+import re
+import shutil
+import subprocess
+import tempfile
+import threading
+import time
+from concurrent.futures import ThreadPoolExecutor
+
+from cases import TOP
+
+HERE = pathlib.Path(__file__).resolve().parent
+FAILURES_SHOWN = 40
+
+
+class Tally:
+    """What passed and failed, by part; failures are printed as they come, the first of them."""
+
+    def __init__(self):
+        self.lock, self.passed, self.failed = threading.Lock(), 0, 0
+
+    def add(self, what, why=None):
+        with self.lock:
+            if why is None:
+                self.passed += 1
+                return
+            self.failed += 1
+            if self.failed <= FAILURES_SHOWN:
+                print(f"FAILED {what}: {why}"[:2000], flush=True)
+
+    def note(self, text):
+        with self.lock:
+            print(text, flush=True)
+
+
+class Ran:
+    """How a program ended; `status` is None where it had to be stopped, and negative after a signal."""
+
+    def __init__(self, status, out, errors, refused, calls, seconds):
+        self.status, self.out, self.errors = status, out, errors
+        self.refused, self.calls, self.seconds = refused, calls, seconds
+
+    def crash(self):
+        """Why no answer of this run counts, or None."""
+        if self.status is None:
+            return "did not end"
+        return f"ended by signal {-self.status}" if self.status < 0 else None
+
+
+class Runner:
+    def __init__(self, options):
+        self.options, self.tally = options, Tally()
+        self.folder = pathlib.Path(tempfile.mkdtemp(prefix="sweep."))
+        self.library = self.folder / "refuse.so"
+        self.missing = set()
+
+    def close(self):
+        shutil.rmtree(self.folder, ignore_errors=True)
+
+    def build(self):
+        """The library that refuses; False where it can't be built."""
+        command = ["cc", "-O2", "-shared", "-fPIC", "-o", str(self.library), str(HERE / "refuse.c")]
+        try:
+            built = subprocess.run(command, capture_output=True, text=True, check=False)
+            why = None if built.returncode == 0 else built.stderr
+        except OSError as fault:
+            why = str(fault)
+        self.tally.add("cc refuse.c", why)
+        return why is None
+
+    def program(self, crate, name=None):
+        """The built program of a crate, or None; the first time one is missing it is counted."""
+        name = name or crate
+        path = self.options.built / "crates" / crate / "out" / name
+        if os.access(path, os.X_OK):
+            return path
+        if name not in self.missing:
+            self.missing.add(name)
+            how = "rt test" if name.endswith("_tests") else "rt run"
+            self.tally.add(name, f"not built: run `{how}` in crates/{crate}, or ./test")
+        return None
+
+    def run(self, words, text="", at=None, limit=20, cwd=TOP, processor=None):
+        """Runs a program; allocation number `at` is refused, and with 0 the allocations are only counted."""
+        own = self.folder / f"{threading.get_ident()}"
+        seen, count = own.with_suffix(".seen"), own.with_suffix(".count")
+        env = dict(os.environ)
+        if at is not None:
+            env.update(LD_PRELOAD=str(self.library), REFUSE_AT=str(at), REFUSE_SEEN=str(seen), REFUSE_COUNT=str(count))
+        if processor is not None:
+            words = ["taskset", "-c", str(processor)] + words
+        started = time.monotonic()
+        try:
+            ended = subprocess.run([str(word) for word in words], input=text.encode() if isinstance(text, str) else text,
+                                   capture_output=True, timeout=limit, cwd=cwd, env=env, close_fds=False, check=False)
+            status, out, errors = ended.returncode, ended.stdout, ended.stderr
+        except subprocess.TimeoutExpired:
+            status, out, errors = None, b"", b""
+        seconds = time.monotonic() - started
+        refused, calls = take(seen) is not None, take(count)
+        return Ran(status, out.decode("latin-1"), errors.decode("latin-1"), refused, int(calls or 0), seconds)
+
+    def each(self, subjects, work):
+        """Does the work for each subject, a few at a time."""
+        with ThreadPoolExecutor(self.options.jobs) as pool:
+            for done in [pool.submit(work, subject) for subject in subjects]:
+                done.result()
+
+    def refuse_each(self, what, run, judge):
+        """Refuses each allocation of a run in turn. `run(at, limit)` runs it, `judge(ran)` gives why it is wrong or None."""
+        plain = run(0, 120)
+        why = plain.crash() or judge(plain)
+        self.tally.add(f"{what}, nothing refused", why)
+        if why:
+            return
+        step = self.step(plain)
+        # Where threads race the number of allocations differs: go on until a run meets no refusal.
+        at, most, done = 1, 2 * plain.calls + 50, 0
+        while at <= most:
+            ran = run(at, 20 + 20 * plain.seconds)
+            self.tally.add(f"{what}, allocation {at} refused", ran.crash() or judge(ran))
+            done += ran.refused
+            if not ran.refused and at > plain.calls:
+                break
+            at += step if at < plain.calls else 1
+        thinned = f", one of {step}" if step > 1 else ""
+        self.tally.note(f"  {what}: {done} of {plain.calls} allocations refused{thinned}")
+
+    def step(self, plain):
+        """How many allocations to go on by, so that one subject takes no more than its time."""
+        least = self.options.thin
+        return max(least, round(plain.calls * max(plain.seconds, .002) / self.options.budget + .5))
+
+
+def take(path):
+    """The text of a file, which is removed; None where there is none."""
+    try:
+        text = path.read_text()
+        path.unlink()
+        return text
+    except OSError:
+        return None
+
+
+def tests_of(program):
+    """The names of a test program's tests."""
+    listed = subprocess.run([str(program), "--list"], capture_output=True, text=True, check=False, timeout=60).stdout
+    return re.findall(r"^(\S+): test$", listed, re.MULTILINE)

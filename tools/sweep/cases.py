@@ -1,11 +1,11 @@
-"""The scripts and the lists of operations that the sweep runs: the examples, and some from a generator with fixed seeds.
-
-Each writer works in a directory of its own, so the order of two writers' requests doesn't change the tree."""
+"""The scripts and the lists of operations that the sweep runs: the examples, and some from a generator with fixed
+seeds. Each writer works in a directory of its own, so the order of two writers' requests doesn't change the tree."""
 import pathlib
 import random
 
 TOP = pathlib.Path(__file__).resolve().parent.parent.parent
-FOLLOW_UP = ["mkdir /after", "create /after/f", "write /after/f 3 616263", "truncate /after/f 5", "remove /after/f", "remove /after"]
+FOLLOW_UP = ["mkdir /after", "create /after/f", "write /after/f 3 616263", "truncate /after/f 5", "remove /after/f",
+             "remove /after"]
 
 
 def hex_of(rand, length):
@@ -33,7 +33,9 @@ class Writer:
         if kind < .6:
             return self.write(path)
         if kind < .7:
-            return f"truncate {path} {rand.choice([0, rand.randrange(300), rand.randrange(3000), 1 << 20, (1 << 20) + 1])}"
+            sizes = [0, rand.randrange(300), rand.randrange(3000), (1 << 20) + 1]
+            # A file of 1 MiB takes a line of 2 MiB in each dump, so it is seldom.
+            return f"truncate {path} {rand.choice(sizes * 10 + [1 << 20])}"
         if kind < .82:
             return f"rename {rand.choice(self.spots)} {rand.choice(self.spots)}"
         if kind < .95:
@@ -58,8 +60,8 @@ class Writer:
         """A file that grows until the volume is full, is cut, and grows again."""
         yield f"create {self.home}/a"
         for turn in range(count):
-            cut = turn % 14 == 13
-            yield f"truncate {self.home}/a 0" if cut else f"fill {self.home}/a {turn * self.most} {self.most} {turn % 256:02x}"
+            grow = f"fill {self.home}/a {turn * self.most} {self.most} {turn % 256:02x}"
+            yield f"truncate {self.home}/a 0" if turn % 14 == 13 else grow
 
 
 def commands_of(rand, home, sector_size, count, kind):
@@ -79,18 +81,22 @@ def script(seed, count):
     if seed % 2 == 0:
         lines.append(f"cleaner {rand.choice([10, 1000])}")
     for _ in range(rand.choice([0, 1, 3])):
-        writer = rand.randrange(1, writers + 1)
-        path = rand.choice(["a", "b", "d/x"])
-        lines.append(f"reader {writer} {rand.randrange(1, count // writers + 3)} /w{rand.choice([writer, writer, 1])}/{path}")
+        writer, number = rand.randrange(1, writers + 1), rand.randrange(1, count // writers + 3)
+        home, name = rand.choice([writer, writer, 1]), rand.choice(["a", "b", "d/x"])
+        lines.append(f"reader {writer} {number} /w{home}/{name}")
     for writer in range(1, writers + 1):
         lines += ["writer"] + commands_of(rand, f"/w{writer}", size, max(count // writers, 3), seed % 3)
     return "\n".join(lines) + "\n"
 
 
-def scripts(count, length):
-    """The examples by name, and so many from the generator."""
-    found = [(path.name, path.read_text()) for path in sorted((TOP / "examples").glob("*.script"))]
-    return found + [(f"script {seed} of {length}", script(seed, length)) for seed in range(1, count + 1)]
+def examples():
+    """The examples, each with its name."""
+    return [(path.name, path.read_text()) for path in sorted((TOP / "examples").glob("*.script"))]
+
+
+def scripts(seeds, length):
+    """Scripts from the generator, each with a name."""
+    return [(f"script {seed} of {length}", script(seed, length)) for seed in seeds]
 
 
 def operations_of(script):
@@ -107,10 +113,10 @@ def requests(commands, writer, first=1):
     return [f"request {writer} {number} {command}" for number, command in enumerate(commands, first)]
 
 
-def with_fuse(begin, body, end="unmount"):
-    """Flash, what stands before the fuse, `fuse ?`, a mount that may fail, what may fail, and that the volume goes on."""
-    close = [f"request 10 1 {end}"]
-    return begin + ["fuse ?", "mount"] + body + ["mount"] + requests(FOLLOW_UP, 3) + close + ["mount"]
+def with_fuse(begin, body):
+    """What stands before the fuse, `fuse ?`, a mount and requests that may fail, and a mount after which all works."""
+    after = requests(FOLLOW_UP, 3) + ["request 10 1 unmount", "mount"]
+    return begin + ["fuse ?", "mount"] + body + ["mount"] + after
 
 
 def generated(seed):
@@ -145,8 +151,8 @@ def stored():
 def operation_lists(count, script_of):
     """The operations of the examples, by name, and so many lists from the generator."""
     found = list(stored())
-    for path in sorted((TOP / "examples").glob("*.script")):
-        example = script_of(path.read_text())
+    for name, text in examples():
+        example = script_of(text)
         begin = [f"flash {example.sectors} {example.sector_size}"]
-        found.append((path.name, with_fuse(begin, operations_of(example))))
+        found.append((name, with_fuse(begin, operations_of(example))))
     return found + [(f"operations {seed}", generated(seed)) for seed in range(1, count + 1)]

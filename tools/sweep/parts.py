@@ -12,8 +12,8 @@ from script_judge import Script, Wrong
 
 # Where the stored input of jffs_replay finds its image.
 DATA = TOP / "crates/jffs_replay/data"
-# A test whose own values lack memory gives up with an error that says so.
-GAVE_UP = re.compile(r"error: .*(memory|AllocError)", re.IGNORECASE)
+# A test whose own values lack memory gives up with an error that says so; any other failure counts.
+GAVE_UP = re.compile(r"\Aerror: \S*(memory|out of memory|AllocError)\S*\nthe test failed: its result", re.I)
 FUSES = [(which, what) for which in ("Writes", "All") for what in ("Nothing", "Half")]
 MOST_CALLS = 5000
 
@@ -35,6 +35,7 @@ def memory(runner):
     subjects = [subject for crate in crates_with_tests() for subject in tests(runner, crate)]
     subjects += jffs_scripts(runner) + replays(runner) + images(runner)
     runner.each(subjects, lambda subject: runner.refuse_each(*subject))
+    runner.tally.tell("allocations refused")
 
 
 def crates_with_tests():
@@ -49,12 +50,12 @@ def tests(runner, crate):
     for name in tests_of(program) if program else []:
         def run(at, limit, name=name):
             return runner.run([program, name], at=at, limit=limit)
-        yield f"{crate} {name}", run, judge_test
+        yield crate, name, run, judge_test
 
 
 def judge_test(ran):
     text = ran.out + ran.errors
-    if ran.status == 0 or ran.refused and ran.status == 1 and GAVE_UP.search(text):
+    if ran.status == 0 or ran.refused and ran.status == 101 and GAVE_UP.search(text):
         return None
     return f"status {ran.status}: {text[-300:]!r}"
 
@@ -62,7 +63,7 @@ def judge_test(ran):
 def jffs_scripts(runner):
     program = runner.program("jffs")
     subjects = []
-    for name, text in cases.scripts(20, 24) if program else []:
+    for name, text in cases.examples() + cases.scripts(range(1, 21), 24) if program else []:
         script = Script(text)
 
         def run(at, limit, text=text):
@@ -70,7 +71,7 @@ def jffs_scripts(runner):
 
         def judge(ran, script=script):
             return why_wrong(script_judge.judge, script, ran.status, ran.out, ran.refused)
-        subjects.append((f"jffs, {name}", run, judge))
+        subjects.append(("jffs", name, run, judge))
     return subjects
 
 
@@ -85,7 +86,7 @@ def replays(runner):
 
         def judge(ran, lines=lines):
             return why_wrong(replay_judge.judge, lines, ran.status, ran.out, ran.errors, ran.refused)
-        subjects.append((f"jffs_replay, {name}", run, judge))
+        subjects.append(("jffs_replay", name, run, judge))
     return subjects
 
 
@@ -93,7 +94,8 @@ def images(runner):
     program, subjects = runner.program("jffs_image"), []
     stored = TOP / "crates/jffs_image"
     words = (stored / "args").read_text().split()
-    for name, sizes, path in [("stored input", words, stored / "stdin"), ("old.image", ["6", "1024"], DATA / "old.image")]:
+    inputs = [("stored input", words, stored / "stdin"), ("old.image", ["6", "1024"], DATA / "old.image")]
+    for name, sizes, path in inputs:
         wanted = []
 
         def run(at, limit, sizes=sizes, path=path):
@@ -102,7 +104,7 @@ def images(runner):
         def judge(ran, wanted=wanted):
             return judge_image(ran, wanted)
         if program:
-            subjects.append((f"jffs_image, {name}", run, judge))
+            subjects.append(("jffs_image", name, run, judge))
     return subjects
 
 
@@ -124,6 +126,7 @@ def device(runner):
     lists = cases.operation_lists(24, Script) if program else []
     subjects = [(name, lines, fuse) for name, lines in lists for fuse in FUSES]
     runner.each(subjects, lambda subject: fail_each_call(runner, program, *subject))
+    runner.tally.tell("calls failed")
 
 
 def fail_each_call(runner, program, name, lines, fuse):
@@ -134,7 +137,7 @@ def fail_each_call(runner, program, name, lines, fuse):
         if blown is None or not blown:
             break
         failed += 1
-    runner.tally.note(f"  {what}: {failed} calls failed")
+    runner.tally.count(" ".join(fuse), failed)
 
 
 def play(runner, program, what, lines):
@@ -162,9 +165,9 @@ def threads(runner):
         return
     processor = min(os.sched_getaffinity(0))
     runs = []
-    for name, text in cases.scripts(21, 240):
+    for name, text in cases.examples() + cases.scripts(range(1, 16), 240) + cases.scripts(range(16, 22), 1500):
         script = Script(text)
-        runs += [(name, script, where) for where in (processor, None)] * max(1, 8 // runner.options.thin)
+        runs += [(name, script, where) for where in (processor, None)] * (24 // runner.options.thin)
     for load in (False, True):
         busy = start_load(processor) if load else []
         try:
@@ -173,7 +176,8 @@ def threads(runner):
             for process in busy:
                 process.kill()
                 process.wait()
-    runner.tally.note(f"  threads: {len(runs)} runs alone and {len(runs)} under load, half of them on one processor")
+        runner.tally.count("under load" if load else "alone", len(runs))
+    runner.tally.tell(f"runs, half of them on processor {processor},")
 
 
 def start_load(processor):

@@ -6,7 +6,7 @@ from model import Tree, sure_room, tree_of
 from script_judge import Wrong, ensure
 
 TOTALS = re.compile(r" ; erased (\d+) erases \d+ weight (\d+) next \S+ \S+\Z")
-MOUNTED = re.compile(r"mounted (clean|unclean) next \S+ \S+((?: \| [^|]+)*)\Z")
+MOUNTED = re.compile(r"mounted (clean|unclean) next \S+ \S+")
 STOPPED = re.compile(r"jffs_replay: line \d+: (.*)\n\Z")
 COPY_CAUSES = {"NotFound", "NotNeeded", "Stale", "DataLong", "FileLong"}
 
@@ -51,13 +51,13 @@ class Replay:
             ensure(fused if line == "refused Device" else self.refused, f"{line!r} at a mount")
             self.mounted, self.blown = False, self.blown or line == "refused Device"
             return
-        found = MOUNTED.fullmatch(line)
+        head, *lines = line.split(" | ")
+        found = MOUNTED.fullmatch(head)
         ensure(found, f"{line!r} at a mount")
-        lines = found[2].split(" | ")[1:]
         wanted = [tree.dump() for tree in self.trees]
         ensure(not wanted or lines in wanted, f"tree is {lines}, wanted one of {wanted}")
         clean = found[1] == "clean"
-        ensure(self.clean in (None, clean), f"{line!r}: the volume is {found[1]}")
+        ensure(self.clean in (None, clean), f"{head!r}, wanted {'clean' if self.clean else 'unclean'}")
         self.forget([tree_of(lines, self.size[1])] if not wanted else [self.trees[wanted.index(lines)]], clean)
         self.mounted, self.is_fused = True, fused
 
@@ -138,7 +138,8 @@ def judge(operations, status, out, errors, refused):
             return replay.blown
         if not lines:
             stopped = STOPPED.fullmatch(errors)
-            ensure(refused and status == 1 and (stopped or not errors), f"status {status} and {errors!r} at {operation!r}")
+            told = stopped or not errors
+            ensure(refused and status == 1 and told, f"status {status} and {errors!r} at {operation!r}")
             return replay.blown
         try:
             replay.check(words, lines.pop(0))

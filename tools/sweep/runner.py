@@ -19,7 +19,7 @@ class Tally:
     """What passed and failed, by part; failures are printed as they come, the first of them."""
 
     def __init__(self):
-        self.lock, self.passed, self.failed = threading.Lock(), 0, 0
+        self.lock, self.passed, self.failed, self.groups = threading.Lock(), 0, 0, {}
 
     def add(self, what, why=None):
         with self.lock:
@@ -30,9 +30,17 @@ class Tally:
             if self.failed <= FAILURES_SHOWN:
                 print(f"FAILED {what}: {why}"[:2000], flush=True)
 
-    def note(self, text):
+    def count(self, group, done, of=None):
+        """In a group that is told of at the part's end: so many were refused or failed, of so many."""
         with self.lock:
-            print(text, flush=True)
+            was = self.groups.setdefault(group, [0, 0, 0])
+            self.groups[group] = [was[0] + 1, was[1] + done, was[2] + (done if of is None else of)]
+
+    def tell(self, what):
+        """The groups' lines: with `of` where not all were taken in turn."""
+        for group, (subjects, done, of) in self.groups.items():
+            print(f"  {group}: {done}{f' of {of}' if of > done else ''} {what} in {subjects}", flush=True)
+        self.groups = {}
 
 
 class Ran:
@@ -88,13 +96,15 @@ class Runner:
         seen, count = own.with_suffix(".seen"), own.with_suffix(".count")
         env = dict(os.environ)
         if at is not None:
-            env.update(LD_PRELOAD=str(self.library), REFUSE_AT=str(at), REFUSE_SEEN=str(seen), REFUSE_COUNT=str(count))
+            env.update(LD_PRELOAD=str(self.library), REFUSE_AT=str(at))
+            env.update(REFUSE_SEEN=str(seen), REFUSE_COUNT=str(count))
         if processor is not None:
             words = ["taskset", "-c", str(processor)] + words
         started = time.monotonic()
         try:
-            ended = subprocess.run([str(word) for word in words], input=text.encode() if isinstance(text, str) else text,
-                                   capture_output=True, timeout=limit, cwd=cwd, env=env, close_fds=False, check=False)
+            given = text.encode() if isinstance(text, str) else text
+            ended = subprocess.run([str(word) for word in words], input=given, capture_output=True, timeout=limit,
+                                   cwd=cwd, env=env, close_fds=False, check=False)
             status, out, errors = ended.returncode, ended.stdout, ended.stderr
         except subprocess.TimeoutExpired:
             status, out, errors = None, b"", b""
@@ -108,30 +118,26 @@ class Runner:
             for done in [pool.submit(work, subject) for subject in subjects]:
                 done.result()
 
-    def refuse_each(self, what, run, judge):
-        """Refuses each allocation of a run in turn. `run(at, limit)` runs it, `judge(ran)` gives why it is wrong or None."""
-        plain = run(0, 120)
+    def refuse_each(self, group, name, run, judge):
+        """Refuses each allocation in turn. `run(at, limit)` runs the program, `judge(ran)` gives why it is wrong."""
+        what, plain = f"{group}, {name}", run(0, 120)
         why = plain.crash() or judge(plain)
         self.tally.add(f"{what}, nothing refused", why)
         if why:
             return
-        step = self.step(plain)
+        # The quickest of three, since the machine may have other work.
+        seconds = min([plain.seconds] + [run(0, 120).seconds for _ in range(2) if plain.seconds < 2])
+        step = max(self.options.thin, int(plain.calls * seconds / self.options.budget) + 1)
         # Where threads race the number of allocations differs: go on until a run meets no refusal.
-        at, most, done = 1, 2 * plain.calls + 50, 0
-        while at <= most:
+        at, done, last = 1, 0, time.monotonic() + 3 * self.options.budget
+        while time.monotonic() < last:
             ran = run(at, 20 + 20 * plain.seconds)
             self.tally.add(f"{what}, allocation {at} refused", ran.crash() or judge(ran))
             done += ran.refused
             if not ran.refused and at > plain.calls:
                 break
             at += step if at < plain.calls else 1
-        thinned = f", one of {step}" if step > 1 else ""
-        self.tally.note(f"  {what}: {done} of {plain.calls} allocations refused{thinned}")
-
-    def step(self, plain):
-        """How many allocations to go on by, so that one subject takes no more than its time."""
-        least = self.options.thin
-        return max(least, round(plain.calls * max(plain.seconds, .002) / self.options.budget + .5))
+        self.tally.count(group, done, plain.calls)
 
 
 def take(path):

@@ -56,15 +56,12 @@ def judge_lines(script, lines, refused, whole):
         for number, commands in enumerate(script.writers):
             ensure(len(answers[number]) == len(commands), f"writer {number + 1} lacks answers")
     tree, seen = play(script, answers, refused)
-    ends = [lambda line, r=r: judge_reader(script, r, line, seen, refused) for r in range(len(script.readers))]
-    closed = []
-    ends.append(lambda line: judge_closed(line, closed, refused))
-    ends.append(lambda line: ensure(line == ("scan clean" if closed[0] else "scan unclean"), f"{line!r} is not as closed"))
-    for judge_line, line in zip(ends, lines[at:]):
-        judge_line(line)
-    printed, wanted = lines[at + len(ends):], tree.dump()
+    readers, ends = lines[at:at + len(script.readers)], lines[at + len(script.readers):]
+    for reader, line in enumerate(readers):
+        judge_reader(script, reader, line, seen, refused)
+    judge_end(ends[:2], refused)
+    printed, wanted = ends[2:], tree.dump()
     if whole:
-        ensure(len(lines) >= at + len(ends), "lines are missing")
         ensure(printed == wanted, f"tree is {printed}, wanted {wanted}")
     else:
         ensure(printed == wanted[:len(printed)], f"tree begins {printed}, wanted {wanted}")
@@ -84,8 +81,8 @@ def answers_of(script, lines):
 
 
 def play(script, answers, refused):
-    """The tree that the granted requests make, writer after writer, which work in directories of their own; and of each
-    reader's path what it held after each request."""
+    """The tree that the granted requests make, writer after writer, since each works in a directory of its own; and of
+    each reader's path what it held after each request."""
     tree, no_space, bound = Tree(script.sector_size), [], 0
     seen = [[(0, 0, "none")] for _ in script.readers]
     for writer, outcomes in enumerate(answers, 1):
@@ -134,7 +131,9 @@ def judge_reader(script, reader, line, seen, refused):
     ensure(line[len(start):] in may, f"{line!r}, which it never held")
 
 
-def judge_closed(line, closed, refused):
+def judge_end(lines, refused):
+    """The unmount and the scan say the same: a volume is clean after it was closed, and not else."""
     may = {"closed"} | ({"not closed Memory", "not closed Ended", "not closed NoSpace"} if refused else set())
-    ensure(line in may, f"{line!r} where the end of the session should stand")
-    closed.append(line == "closed")
+    ensure(not lines or lines[0] in may, f"{lines[:1]} where the end of the session should stand")
+    clean = "scan clean" if lines[:1] == ["closed"] else "scan unclean"
+    ensure(lines[1:] in ([], [clean]), f"{lines}: the scan is not as the end")

@@ -7,7 +7,8 @@ from script_judge import Wrong, ensure
 
 TOTALS = re.compile(r" ; erased (\d+) erases \d+ weight (\d+) next \S+ \S+\Z")
 MOUNTED = re.compile(r"mounted (clean|unclean) next \S+ \S+")
-STOPPED = re.compile(r"jffs_replay: line \d+: (.*)\n\Z")
+# What stands on standard error where memory is refused: to a line, or already to the words that it was called with.
+STOPPED = re.compile(r"jffs_replay: line \d+: .*\n|Error: Kind\(OutOfMemory\)\n|")
 COPY_CAUSES = {"NotFound", "NotNeeded", "Stale", "DataLong", "FileLong"}
 
 
@@ -137,8 +138,7 @@ def judge(operations, status, out, errors, refused):
             ensure(status == 2 and not lines, f"status {status} and {lines[:1]} at {operation!r}")
             return replay.blown
         if not lines:
-            stopped = STOPPED.fullmatch(errors)
-            told = stopped or not errors
+            told = STOPPED.fullmatch(errors)
             ensure(refused and status == 1 and told, f"status {status} and {errors!r} at {operation!r}")
             return replay.blown
         try:

@@ -1,6 +1,7 @@
 """The three parts of the sweep: refused memory, failing devices, threads that have little of a processor."""
 import os
 import re
+import signal
 import subprocess
 
 import cases
@@ -12,8 +13,9 @@ from script_judge import Script, Wrong
 
 # Where the stored input of jffs_replay finds its image.
 DATA = TOP / "crates/jffs_replay/data"
-# A test whose own values lack memory gives up with an error that says so; any other failure counts.
-GAVE_UP = re.compile(r"\Aerror: \S*(memory|out of memory|AllocError)\S*\nthe test failed: its result", re.I)
+# Tests that bear each refusal: they pass, or give up with an error that tells of memory.
+STEADFAST = re.compile(r"jffs_(tree|flash|node|line) |jffs_core tests::refusals::")
+GAVE_UP = re.compile(r"\Aerror: [^\n]*(memory|AllocError)[^\n]*\nthe test failed: its result", re.IGNORECASE)
 FUSES = [(which, what) for which in ("Writes", "All") for what in ("Nothing", "Half")]
 MOST_CALLS = 5000
 
@@ -50,14 +52,22 @@ def tests(runner, crate):
     for name in tests_of(program) if program else []:
         def run(at, limit, name=name):
             return runner.run([program, name], at=at, limit=limit)
-        yield crate, name, run, judge_test
+
+        def judge(ran, steadfast=STEADFAST.match(f"{crate} {name}")):
+            return judge_test(ran, steadfast)
+        yield crate, name, run, judge
 
 
-def judge_test(ran):
+def judge_test(ran, steadfast):
+    """Other tests compare with what comes where memory is there: they may end by an assertion or an error of their
+    own, but by nothing else."""
     text = ran.out + ran.errors
     if ran.status == 0 or ran.refused and ran.status == 101 and GAVE_UP.search(text):
         return None
-    return f"status {ran.status}: {text[-300:]!r}"
+    ran.asserted = ran.status == 101 or ran.status == -signal.SIGABRT and "assertion" in ran.errors
+    if ran.refused and ran.asserted and not steadfast:
+        return None
+    return ran.crash() or f"status {ran.status}: {text[-300:]!r}"
 
 
 def jffs_scripts(runner):
@@ -70,7 +80,7 @@ def jffs_scripts(runner):
             return runner.run([program], text, at=at, limit=limit)
 
         def judge(ran, script=script):
-            return why_wrong(script_judge.judge, script, ran.status, ran.out, ran.refused)
+            return ran.crash() or why_wrong(script_judge.judge, script, ran.status, ran.out, ran.refused)
         subjects.append(("jffs", name, run, judge))
     return subjects
 
@@ -85,7 +95,8 @@ def replays(runner):
             return runner.run([program], "\n".join(lines) + "\n", at=at, limit=limit, cwd=DATA)
 
         def judge(ran, lines=lines):
-            return why_wrong(replay_judge.judge, lines, ran.status, ran.out, ran.errors, ran.refused)
+            sound = why_wrong(replay_judge.judge, lines, ran.status, ran.out, ran.errors, ran.refused)
+            return ran.crash() or sound
         subjects.append(("jffs_replay", name, run, judge))
     return subjects
 
@@ -116,7 +127,7 @@ def judge_image(ran, wanted):
         return None
     if ran.refused and ran.status == 1 and wanted[0].startswith(ran.out):
         return None
-    return f"status {ran.status}, {ran.out[-200:]!r}, {ran.errors!r}"
+    return ran.crash() or f"status {ran.status}, {ran.out[-200:]!r}, {ran.errors!r}"
 
 
 # Failing devices.

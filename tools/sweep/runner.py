@@ -30,16 +30,19 @@ class Tally:
             if self.failed <= FAILURES_SHOWN:
                 print(f"FAILED {what}: {why}"[:2000], flush=True)
 
-    def count(self, group, done, of=None):
-        """In a group that is told of at the part's end: so many were refused or failed, of so many."""
+    def count(self, group, done, of=None, asserted=0):
+        """In a group that is told of at the part's end: so many were refused or failed, of so many; and how many tests
+        ended by an assertion of theirs."""
         with self.lock:
-            was = self.groups.setdefault(group, [0, 0, 0])
-            self.groups[group] = [was[0] + 1, was[1] + done, was[2] + (done if of is None else of)]
+            was = self.groups.setdefault(group, [0, 0, 0, 0])
+            more = [1, done, done if of is None else of, asserted]
+            self.groups[group] = [now + new for now, new in zip(was, more)]
 
     def tell(self, what):
         """The groups' lines: with `of` where not all were taken in turn."""
-        for group, (subjects, done, of) in self.groups.items():
-            print(f"  {group}: {done}{f' of {of}' if of > done else ''} {what} in {subjects}", flush=True)
+        for group, (subjects, done, of, asserted) in self.groups.items():
+            ends = f", {asserted} of these ended by an assertion of the test" if asserted else ""
+            print(f"  {group}: {done}{f' of {of}' if of > done else ''} {what} in {subjects}{ends}", flush=True)
         self.groups = {}
 
 
@@ -49,6 +52,7 @@ class Ran:
     def __init__(self, status, out, errors, refused, calls, seconds):
         self.status, self.out, self.errors = status, out, errors
         self.refused, self.calls, self.seconds = refused, calls, seconds
+        self.asserted = False
 
     def crash(self):
         """Why no answer of this run counts, or None."""
@@ -121,7 +125,7 @@ class Runner:
     def refuse_each(self, group, name, run, judge):
         """Refuses each allocation in turn. `run(at, limit)` runs the program, `judge(ran)` gives why it is wrong."""
         what, plain = f"{group}, {name}", run(0, 120)
-        why = plain.crash() or judge(plain)
+        why = judge(plain)
         self.tally.add(f"{what}, nothing refused", why)
         if why:
             return
@@ -129,15 +133,15 @@ class Runner:
         seconds = min([plain.seconds] + [run(0, 120).seconds for _ in range(2) if plain.seconds < 2])
         step = max(self.options.thin, int(plain.calls * seconds / self.options.budget) + 1)
         # Where threads race the number of allocations differs: go on until a run meets no refusal.
-        at, done, last = 1, 0, time.monotonic() + 3 * self.options.budget
+        at, done, asserted, last = 1, 0, 0, time.monotonic() + 3 * self.options.budget
         while time.monotonic() < last:
             ran = run(at, 20 + 20 * plain.seconds)
-            self.tally.add(f"{what}, allocation {at} refused", ran.crash() or judge(ran))
-            done += ran.refused
+            self.tally.add(f"{what}, allocation {at} refused", judge(ran))
+            done, asserted = done + ran.refused, asserted + ran.asserted
             if not ran.refused and at > plain.calls:
                 break
             at += step if at < plain.calls else 1
-        self.tally.count(group, done, plain.calls)
+        self.tally.count(group, done, plain.calls, asserted)
 
 
 def take(path):

@@ -37,7 +37,7 @@ def memory(runner):
     subjects = [subject for crate in crates_with_tests() for subject in tests(runner, crate)]
     subjects += jffs_scripts(runner) + replays(runner) + images(runner)
     runner.each(subjects, lambda subject: runner.refuse_each(*subject))
-    runner.tally.tell("allocations refused")
+    runner.tally.tell("allocations refused", "tests or inputs")
 
 
 def crates_with_tests():
@@ -137,7 +137,7 @@ def device(runner):
     lists = cases.operation_lists(24, Script) if program else []
     subjects = [(name, lines, fuse) for name, lines in lists for fuse in FUSES]
     runner.each(subjects, lambda subject: fail_each_call(runner, program, *subject))
-    runner.tally.tell("calls failed")
+    runner.tally.tell("calls failed", "lists of operations")
 
 
 def fail_each_call(runner, program, name, lines, fuse):
@@ -175,10 +175,9 @@ def threads(runner):
     if program is None:
         return
     processor = min(os.sched_getaffinity(0))
-    runs = []
-    for name, text in cases.examples() + cases.scripts(range(1, 16), 240) + cases.scripts(range(16, 22), 1500):
-        script = Script(text)
-        runs += [(name, script, where) for where in (processor, None)] * (24 // runner.options.thin)
+    texts = cases.examples() + cases.scripts(range(1, 16), 240) + cases.scripts(range(16, 22), 1500)
+    scripts, rounds = [(name, Script(text)) for name, text in texts], 24 // runner.options.thin
+    runs = [(name, script, where) for name, script in scripts for where in (processor, None)] * rounds
     for load in (False, True):
         busy = start_load(processor) if load else []
         try:
@@ -187,8 +186,9 @@ def threads(runner):
             for process in busy:
                 process.kill()
                 process.wait()
-        runner.tally.count("under load" if load else "alone", len(runs))
-    runner.tally.tell(f"runs, half of them on processor {processor},")
+        for _ in scripts:
+            runner.tally.count("under load" if load else "alone", 2 * rounds)
+    runner.tally.tell("runs", f"scripts, half of them on processor {processor}")
 
 
 def start_load(processor):

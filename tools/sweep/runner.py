@@ -38,11 +38,11 @@ class Tally:
             more = [1, done, done if of is None else of, asserted]
             self.groups[group] = [now + new for now, new in zip(was, more)]
 
-    def tell(self, what):
-        """The groups' lines: with `of` where not all were taken in turn."""
+    def tell(self, what, where):
+        """The groups' lines: with `of` where not all were taken in turn. `where` names a group's subjects."""
         for group, (subjects, done, of, asserted) in self.groups.items():
             ends = f", {asserted} of these ended by an assertion of the test" if asserted else ""
-            print(f"  {group}: {done}{f' of {of}' if of > done else ''} {what} in {subjects}{ends}", flush=True)
+            print(f"  {group}: {done}{f' of {of}' if of > done else ''} {what} in {subjects} {where}{ends}", flush=True)
         self.groups = {}
 
 

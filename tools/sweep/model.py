@@ -1,5 +1,5 @@
 """What requests do, in words of files and directories: a second opinion, written from docs/SCRIPT.md and
-docs/FORMAT.md (section 8) and not from the code."""
+docs/FORMAT.md (section 8). It has none of our code."""
 
 FILE_MAX = 1 << 20
 HEADER = 64

@@ -1,0 +1,205 @@
+"""The three parts of the sweep: refused memory, failing devices, threads that have little of a processor."""
+import os
+import re
+import signal
+import subprocess
+
+import cases
+import replay_judge
+import script_judge
+from cases import TOP
+from runner import tests_of
+from script_judge import Script, Wrong
+
+# Where the stored input of jffs_replay finds its image.
+DATA = TOP / "crates/jffs_replay/data"
+# Tests that bear each refusal: they pass, or give up with an error that tells of memory.
+STEADFAST = re.compile(r"jffs_(tree|flash|node|line) |jffs_core tests::refusals::")
+GAVE_UP = re.compile(r"\Aerror: [^\n]*(memory|AllocError)[^\n]*\nthe test failed: its result", re.IGNORECASE)
+FUSES = [(which, what) for which in ("Writes", "All") for what in ("Nothing", "Half")]
+MOST_CALLS = 5000
+
+
+def why_wrong(check, *arguments):
+    """What a judge says against a run, or None."""
+    try:
+        check(*arguments)
+        return None
+    except Wrong as wrong:
+        return str(wrong)
+
+
+# Refused memory.
+
+def memory(runner):
+    if not runner.build():
+        return
+    subjects = [subject for crate in crates_with_tests() for subject in tests(runner, crate)]
+    subjects += jffs_scripts(runner) + replays(runner) + images(runner)
+    runner.each(subjects, lambda subject: runner.refuse_each(*subject))
+    runner.tally.tell("allocations refused", "tests or inputs")
+
+
+def crates_with_tests():
+    """The crates that have tests, which `rt test` leaves as a program."""
+    for folder in sorted((TOP / "crates").iterdir()):
+        if any("#[test]" in path.read_text() for path in folder.glob("src/**/*.rt")):
+            yield folder.name
+
+
+def tests(runner, crate):
+    program = runner.program(crate, crate + "_tests")
+    for name in tests_of(program) if program else []:
+        def run(at, limit, name=name):
+            return runner.run([program, name], at=at, limit=limit)
+
+        def judge(ran, steadfast=STEADFAST.match(f"{crate} {name}")):
+            return judge_test(ran, steadfast)
+        yield crate, name, run, judge
+
+
+def judge_test(ran, steadfast):
+    """Other tests compare with what comes where memory is there: they may end by an assertion or an error of their
+    own, but by nothing else."""
+    text = ran.out + ran.errors
+    if ran.status == 0 or ran.refused and ran.status == 101 and GAVE_UP.search(text):
+        return None
+    ran.asserted = ran.status == 101 or ran.status == -signal.SIGABRT and "assertion" in ran.errors
+    if ran.refused and ran.asserted and not steadfast:
+        return None
+    return ran.crash() or f"status {ran.status}: {text[-300:]!r}"
+
+
+def jffs_scripts(runner):
+    program = runner.program("jffs")
+    subjects = []
+    for name, text in cases.examples() + cases.scripts(range(1, 21), 24) if program else []:
+        script = Script(text)
+
+        def run(at, limit, text=text):
+            return runner.run([program], text, at=at, limit=limit)
+
+        def judge(ran, script=script):
+            return ran.crash() or why_wrong(script_judge.judge, script, ran.status, ran.out, ran.refused)
+        subjects.append(("jffs", name, run, judge))
+    return subjects
+
+
+def replays(runner):
+    program = runner.program("jffs_replay")
+    subjects = []
+    for name, lines in cases.operation_lists(6, Script) if program else []:
+        lines = [line for line in lines if line != "fuse ?"]
+
+        def run(at, limit, lines=lines):
+            return runner.run([program], "\n".join(lines) + "\n", at=at, limit=limit, cwd=DATA)
+
+        def judge(ran, lines=lines):
+            sound = why_wrong(replay_judge.judge, lines, ran.status, ran.out, ran.errors, ran.refused)
+            return ran.crash() or sound
+        subjects.append(("jffs_replay", name, run, judge))
+    return subjects
+
+
+def images(runner):
+    program, subjects = runner.program("jffs_image"), []
+    stored = TOP / "crates/jffs_image"
+    words = (stored / "args").read_text().split()
+    inputs = [("stored input", words, stored / "stdin"), ("old.image", ["6", "1024"], DATA / "old.image")]
+    for name, sizes, path in inputs:
+        wanted = []
+
+        def run(at, limit, sizes=sizes, path=path):
+            return runner.run([program] + sizes, path.read_bytes(), at=at, limit=limit)
+
+        def judge(ran, wanted=wanted):
+            return judge_image(ran, wanted)
+        if program:
+            subjects.append(("jffs_image", name, run, judge))
+    return subjects
+
+
+def judge_image(ran, wanted):
+    """What the first run printed, whole; or status 1 after a part of it, where memory was refused."""
+    if not wanted:
+        wanted.append(ran.out)
+    if ran.status == 0 and ran.out == wanted[0] and ran.out.startswith("mounted "):
+        return None
+    if ran.refused and ran.status == 1 and wanted[0].startswith(ran.out):
+        return None
+    return ran.crash() or f"status {ran.status}, {ran.out[-200:]!r}, {ran.errors!r}"
+
+
+# Failing devices.
+
+def device(runner):
+    program = runner.program("jffs_replay")
+    lists = cases.operation_lists(24, Script) if program else []
+    subjects = [(name, lines, fuse) for name, lines in lists for fuse in FUSES]
+    runner.each(subjects, lambda subject: fail_each_call(runner, program, *subject))
+    runner.tally.tell("calls failed", "lists of operations")
+
+
+def fail_each_call(runner, program, name, lines, fuse):
+    what, failed = f"{name}, {' '.join(fuse)}", 0
+    for calls in range(0, MOST_CALLS, runner.options.thin):
+        fused = [f"fuse {calls} {' '.join(fuse)}" if line == "fuse ?" else line for line in lines]
+        blown = play(runner, program, f"{what} after {calls} calls", fused)
+        if blown is None or not blown:
+            break
+        failed += 1
+    runner.tally.count(" ".join(fuse), failed)
+
+
+def play(runner, program, what, lines):
+    """Whether a call of the device failed; None where the run was wrong."""
+    ran, blown = runner.run([program], "\n".join(lines) + "\n", cwd=DATA), None
+    why = ran.crash()
+    if why is None:
+        try:
+            blown = replay_judge.judge(lines, ran.status, ran.out, ran.errors, False)
+        except Wrong as wrong:
+            why = str(wrong)
+    runner.tally.add(what, why)
+    fuse_at = next(at for at, line in enumerate(lines) if line.startswith("fuse"))
+    if ran.status == 2 and why is None and lines[fuse_at + 2] != "mount":
+        # The mount itself met the fault: the next one has to find all that was there.
+        play(runner, program, what + ", mounted twice", lines[:fuse_at + 2] + lines[fuse_at + 1:])
+    return blown
+
+
+# Threads.
+
+def threads(runner):
+    program = runner.program("jffs")
+    if program is None:
+        return
+    processor = min(os.sched_getaffinity(0))
+    texts = cases.examples() + cases.scripts(range(1, 16), 240) + cases.scripts(range(16, 22), 1500)
+    scripts, rounds = [(name, Script(text)) for name, text in texts], 24 // runner.options.thin
+    runs = [(name, script, where) for name, script in scripts for where in (processor, None)] * rounds
+    for load in (False, True):
+        busy = start_load(processor) if load else []
+        try:
+            runner.each(runs, lambda run: run_threads(runner, program, load, *run))
+        finally:
+            for process in busy:
+                process.kill()
+                process.wait()
+        for _ in scripts:
+            runner.tally.count("under load" if load else "alone", 2 * rounds)
+    runner.tally.tell("runs", f"scripts, half of them on processor {processor}")
+
+
+def start_load(processor):
+    """Processes that do nothing but take time: two on the one processor, and one anywhere."""
+    loop = ["sh", "-c", "while :; do :; done"]
+    pinned = ["taskset", "-c", str(processor)] + loop
+    return [subprocess.Popen(words, stdin=subprocess.DEVNULL) for words in (pinned, pinned, loop)]
+
+
+def run_threads(runner, program, load, name, script, processor):
+    ran = runner.run([program], script.text, limit=60, processor=processor)
+    why = ran.crash() or why_wrong(script_judge.judge, script, ran.status, ran.out, False)
+    where = " on one processor" if processor is not None else ""
+    runner.tally.add(f"{name}{where}{' under load' if load else ''}", why)

@@ -16,3 +16,4 @@ pub mod Copying
 pub mod Turning
 pub mod Called
 pub mod Scanning
+pub mod Handed

@@ -10,7 +10,8 @@ use Rattle.jffs_log.specs.declared.book.Book.{Book}
 use Rattle.jffs_log.specs.Image.{records_in, log_sectors, nodes_of, past_of, is_free, is_clean, is_clean_tail, ends_with_unmount as log_ends}
 use Rattle.jffs_log.specs.Volume.{split, sectors_in}
 use Rattle.jffs_log.specs.Scan.{Scanned}
-use Rattle.jffs_log.specs.ScanFound.{IsFound}
+use Rattle.jffs_log.specs.LogState.{LogState}
+use Rattle.jffs_log.specs.ScanFound.{IsFound, IsMounted}
 use Rattle.jffs_log.specs.Live.{live_log}
 use Rattle.jffs_log.specs.Book.{IsBook, log_in, layout_in}
 use Rattle.jffs_log.specs.RoomLaws.{IsSound}
@@ -21,7 +22,8 @@ use Rattle.jffs_log.proofs.MountHistory.{mounts_are_histories}
 use Rattle.jffs_log.proofs.Histories.{histories_are_scanned, turned_round}
 use Rattle.jffs_core.specs.Standing.{Standing}
 use Rattle.jffs_core.specs.Step.{ends_with_unmount}
-use Rattle.jffs_core.specs.Past.{IsPast, HasBook, IsFresh}
+use Rattle.jffs_flash.specs.Device.{Device}
+use Rattle.jffs_core.specs.Past.{IsPast, HasBook, IsFresh, IsLeftBy}
 use Rattle.jffs_core.proofs.Contents.{no_growth}
 
 abbrev pub Bytes : List ℕ → Type 0
@@ -55,32 +57,31 @@ by_book : (count len : ℕ) (image : List ℕ) (b : Book) (tree : Tree) (clean :
 by_book count len image b tree clean limits h =
     subst (λ k. IsFound b.sectors k image b tree clean limits) h.sizes.1 (subst (λ k. IsFound k len image b tree clean limits) h.sizes.0 h)
 
-pub found_book : (count len : ℕ) (image found : List ℕ) (many size : ℕ) (b : Book) (tree : Tree) (clean : Bool) (limits : Limits) → IsFound count len image b tree clean limits → many ≡ count → size ≡ len → found ≡ image
-    → HasBook false many size found b tree limits clean
-found_book count len image found many size b tree clean limits h same_count same_len same_image = record {
-  sizes = (same_count ∙ h.sizes.0, same_len ∙ h.sizes.1);
-  book = λ works. subst (λ (xs : List ℕ). IsBook xs b) (sym same_image) h.book;
-  past = λ works. (past_of (log_in image b), subst (λ (xs : List ℕ). IsPast (past_of (log_in image b)) xs b tree limits clean) (sym same_image) (found_past image b tree clean limits (by_book count len image b tree clean limits h)));
-}
-
-pub found_fresh : (count len : ℕ) (image : List ℕ) (faults : ℕ) (erase_failed : Bool) (c : Standing) → IsFound count len image c.book c.tree c.clean c.limits → c.image ≡ image → c.faults ≡ faults → c.erase_failed ≡ erase_failed
-    → c.failed ≡ false → c.closed ≡ false → c.answers ≡ [] → IsFresh count len image faults erase_failed c
-found_fresh count len image faults erase_failed c h same_image same_faults same_erases works not_closed none =
-    let past = past_of (log_in image c.book) in
+pub found_book : (device : Device) (log : LogState) (tree : Tree) (clean : Bool) (limits : Limits) → IsMounted device log tree clean limits
+    → HasBook log.failed log.device.sectors log.device.sector_size log.device.image log.book tree limits clean
+found_book device log tree clean limits m =
+    let h = subst (λ (d : Device). IsFound d.sectors d.sector_size d.image log.book tree clean limits) (sym m.device_is) m.found in
     record {
-      scanned = record { log = log_in image c.book; tree = c.tree; clean = c.clean };
+      sizes = h.sizes;
+      book = λ works. h.book;
+      past = λ works. (past_of (log_in log.device.image log.book), found_past log.device.image log.book tree clean limits (by_book log.device.sectors log.device.sector_size log.device.image log.book tree clean limits h));
+    }
+
+pub found_fresh : (device : Device) (c : Standing) → IsFound device.sectors device.sector_size device.image c.book c.tree c.clean c.limits → IsLeftBy c device
+    → c.failed ≡ false → c.closed ≡ false → c.answers ≡ [] → IsFresh device c
+found_fresh device c h left works not_closed none =
+    let past = past_of (log_in device.image c.book) in
+    record {
+      scanned = record { log = log_in device.image c.book; tree = c.tree; clean = c.clean };
       found = h.answer;
       stands = record {
         grown = no_growth past;
         stands = record {
-          working = λ w. subst (λ (xs : List ℕ). IsPast past xs c.book c.tree c.limits c.clean) (sym same_image) (found_past image c.book c.tree c.clean c.limits (by_book count len image c.book c.tree c.clean c.limits h));
+          working = λ w. subst (λ (xs : List ℕ). IsPast past xs c.book c.tree c.limits c.clean) left.image_is (found_past device.image c.book c.tree c.clean c.limits (by_book device.sectors device.sector_size device.image c.book c.tree c.clean c.limits h));
           broken = λ f. absurd (both_ways c.failed works f);
         };
       };
-      image_is = same_image;
-      faults_are = same_faults;
-      erases_are = same_erases;
-      sizes = h.sizes;
+      device_is = left;
       erases = h.erases;
       works = works;
       not_closed = not_closed;

@@ -1,9 +1,9 @@
 -- One node more: what the core knows then.
-use Rattle.std.proofs.Common.{◌≡◌, ℕ, ◌<◌, Bool, true, ◌&&◌, List, [], ◌∷◌, max, fold, refl, sym, ap, subst, ◌∙◌, arith}
+use Rattle.std.proofs.Common.{◌≡◌, ℕ, ◌<◌, ◌≤◌, ◌/◌, ◌==◌, Bool, true, ◌&&◌, List, [], ◌∷◌, max, fold, refl, sym, ap, subst, ◌∙◌, arith}
 use Rattle.std.specs.List.{list_all, AllByRecursion}
 use Rattle.std.proofs.lemmas.Bool.{and_parts, and_from}
 use Rattle.jffs_node.specs.declared.node.Node.{Node}
-use Rattle.jffs_node.specs.Record.{record_len, is_lawful}
+use Rattle.jffs_node.specs.Record.{record_len, dsize, is_lawful, is_unmount}
 use Rattle.jffs_tree.specs.Origin.{Tree, tree_of}
 use Rattle.jffs_tree.specs.Check.{each_fits, check}
 use Rattle.jffs_tree.specs.After.{keeps_places_in}
@@ -12,10 +12,13 @@ use Rattle.jffs_tree.proofs.Entries.{fits_parts}
 use Rattle.jffs_tree.proofs.Tested.{trees_test_as_nodes}
 use Rattle.jffs_log.specs.declared.book.Book.{Book}
 use Rattle.jffs_log.specs.declared.room.Room.{Room}
+use Rattle.jffs_log.specs.declared.room.Room.TheVariants as rooms
+use Rattle.jffs_flash.specs.Device.{Device as FlashDevice}
+use Rattle.jffs_log.specs.LogState.{LogState, IsSameLog, MayAppend, Appended}
 use Rattle.jffs_log.specs.Room.{has_room, following, next_inode, limits as limits_of}
 use Rattle.jffs_log.specs.Book.{HasSizes, IsSameBook, layout_in}
 use Rattle.jffs_log.specs.Cleaning.{Layout, put, is_history, versions_fall, keeps_length}
-use Rattle.jffs_log.specs.RoomLaws.{IsSound}
+use Rattle.jffs_log.specs.RoomLaws.{IsSound, suits_room}
 use Rattle.jffs_log.specs.History.{IsHistory, IsLawfulHistory, KeepsRules}
 use Rattle.jffs_log.proofs.MountedLog.{lawful_keeps}
 use Rattle.jffs_log.proofs.Bound.{puts_keep_sound}
@@ -77,6 +80,15 @@ same_past past image b c tree limits clean sectors size h = record {
   clean_is = h.clean_is ∙ ap (λ k. is_clean_in image (record b { sectors = k })) sectors ∙ ap (λ k. is_clean_in image (record c { sector_size = k })) size;
 }
 
+-- A log that is the same but for places has the same layout and history.
+pub mid_layout : (old mid : LogState) → IsSameLog old mid → layout_in mid.device.image mid.book ≡ layout_in old.device.image old.book
+mid_layout old mid same =
+    ap (λ (d : FlashDevice). layout_in d.image mid.book) same.device ∙ same_layout old.device.image mid.book old.book same.book.sectors same.book.sector_size
+
+pub mid_history : (past : List Node) (old mid : LogState) → IsSameLog old mid → IsHistory old.device.image old.book past → IsHistory mid.device.image mid.book past
+mid_history past old mid same h =
+    subst (λ (d : FlashDevice). IsHistory d.image mid.book past) (sym same.device) (same_history old.device.image old.book mid.book past (sym same.book.sectors) (sym same.book.sector_size) h)
+
 -- A node was put.
 module _ (past : List Node) (room : Room) (n : Node) (old new : List ℕ) (b c d : Book) (before after : Tree) (limits next : Limits) (was clean : Bool)
     (h : IsPast past old b before limits was) (may : MayPut past b.sector_size room n) (same : IsSameBook b c) (sizes : HasSizes c.sectors c.sector_size d) where
@@ -98,6 +110,32 @@ module _ (past : List Node) (room : Room) (n : Node) (old new : List ℕ) (b c d
     where
       put_log : layout_in new d ≡ put c.sector_size room n (layout_in old c) → layout_in new d ≡ put b.sector_size room n (layout_in old b)
       put_log e = e ∙ ap (λ k. put k room n (layout_in old c)) same.sector_size ∙ ap (put b.sector_size room n) (same_layout old c b same.sectors same.sector_size)
+
+-- The core knows the history with the node, once its record is in the log.
+pub put_known : (past : List Node) (room : Room) (n : Node) (old mid new : LogState) (before after : Tree) (limits next : Limits) (was clean : Bool) → IsPast past old.device.image old.book before limits was
+    → MayPut past old.book.sector_size room n → IsSameLog old mid → has_room room (record_len n) (layout_in old.device.image old.book).free (layout_in old.device.image old.book).erased ≡ true
+    → Appended room n mid new → after ≡ tree_of (n ∷ past) → next ≡ limits_of old.book.sector_size (n ∷ past) → clean ≡ is_unmount n.kind → IsPast (n ∷ past) new.device.image new.book after next clean
+put_known past room n old mid new before after limits next was clean h may same had e tree numbers ends =
+    let image : mid.device.image ≡ old.device.image = ap (λ (d : FlashDevice). d.image) same.device in
+    put_past past room n old.device.image new.device.image old.book mid.book new.book before after limits next was clean h may same.book e.numbers.sizes had
+    (e.history past (mid_history past old mid same h.history) may.rules)
+    (e.layout_is ∙ ap (λ (xs : List ℕ). put mid.book.sector_size room n (layout_in xs mid.book)) image)
+    tree numbers (ends ∙ sym e.clean)
+
+-- the node's record may be appended, where it has room
+pub may_append : (past : List Node) (room : Room) (n : Node) (old mid : LogState) → MayPut past old.book.sector_size room n → IsSameLog old mid
+    → has_room room (record_len n) (layout_in old.device.image old.book).free (layout_in old.device.image old.book).erased ≡ true → MayAppend room n mid
+may_append past room n old mid may same had = record {
+  lawful = may.rules.lawful.each.0;
+  short = subst (λ k. record_len n ≤ k / 4) (sym same.book.sector_size) may.short;
+  has_room = ap (λ (l : Layout). has_room room (record_len n) l.free l.erased) (mid_layout old mid same) ∙ had;
+  unmounts = suits room n may.suits;
+}
+  where
+    suits : (r : Room) (n : Node) → suits_room r n ≡ true → r ≡ rooms.Unmount → is_unmount n.kind ≡ true
+    suits rooms.Fresh n h e = cc
+    suits rooms.Copy n h e = cc
+    suits rooms.Unmount n h e = (and_parts (is_unmount n.kind) (dsize n == 0) h).0
 
 -- The device failed while a node was put.
 pub put_failed : (room : Room) (n : Node) (cause : Cause) (old new : Standing) → cause ≡ Device → new.failed ≡ true → old.faults < new.faults → ((past : List Node) → Knows past old → MayPut past old.book.sector_size room n → HasFailed (λ m. m ≡ n) past new) → PutRefused room n cause old new

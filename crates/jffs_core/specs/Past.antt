@@ -7,7 +7,9 @@ use Rattle.jffs_log.specs.declared.book.Book.{Book}
 use Rattle.jffs_log.specs.declared.room.Room.{Room}
 use Rattle.jffs_log.specs.Image.{is_clean, past_of}
 use Rattle.jffs_log.specs.Volume.{split, sectors_in}
+use Rattle.jffs_flash.specs.Device.{Device}
 use Rattle.jffs_log.specs.Scan.{Scanned, scan}
+use Rattle.jffs_log.specs.ScanFound.{scan_of}
 use Rattle.jffs_log.specs.Room.{limits as limits_of, has_room}
 use Rattle.jffs_log.specs.Book.{IsBook, HasSizes, layout_in}
 use Rattle.jffs_log.specs.History.{IsHistory}
@@ -67,15 +69,19 @@ pub record StandsFor (mounted past : List Node) (c : Standing) : Type 0 where
   pub grown : Grows mounted past
   pub stands : HasPast past c
 
--- What a mount gives: a core that stands for the log that a scan of the image finds, and has answered nothing.
-pub record IsFresh (count len : ℕ) (image : List ℕ) (faults : ℕ) (erase_failed : Bool) (c : Standing) : Type 0 where
+-- The device is as a core has it: of the same sizes, with its image and its count of faults, and an erase failed where one did.
+pub record IsLeftBy (c : Standing) (device : Device) : Type 0 where
+  pub sizes : HasSizes device.sectors device.sector_size c.book
+  pub image_is : device.image ≡ c.image
+  pub faults_are : device.faults ≡ c.faults
+  pub erases_are : device.erase_failed ≡ c.erase_failed
+
+-- What a mount of the device gives: a core that stands for the log that a scan finds, and has answered nothing.
+pub record IsFresh (device : Device) (c : Standing) : Type 0 where
   pub scanned : Scanned
-  pub found : scan len (split count len image) ≡ Ok scanned
+  pub found : scan_of device ≡ Ok scanned
   pub stands : StandsFor (past_of scanned.log) (past_of scanned.log) c
-  pub image_is : c.image ≡ image
-  pub faults_are : c.faults ≡ faults
-  pub erases_are : c.erase_failed ≡ erase_failed
-  pub sizes : HasSizes count len c.book
+  pub device_is : IsLeftBy c device
   pub erases : c.book.erases ≡ 0
   pub works : c.failed ≡ false
   pub not_closed : c.closed ≡ false

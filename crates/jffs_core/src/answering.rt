@@ -68,7 +68,7 @@ impl<F: Flash> Core<F> {
         ensures erases { ErasesAtMost self.old.book.sectors self.old self.new }
         ensures few { self.new.book.erases ≤ self.old.book.erases + self.old.book.sectors }
     {
-        let answered = if self.failed {
+        let answered = if self.log.failed() {
             Answered {
                 outcome: Outcome::Refused(Cause::Failed),
                 node: None,

@@ -43,17 +43,10 @@ impl<F: Flash> Core<F> {
         }
         self.log.reserve()?;
         self.tree.apply(node)?;
-        match self.log.append(room, node) {
-            Ok(()) => {
-                count(&mut self.limits, node);
-                self.clean = node.kind.is_unmount();
-                Ok(())
-            }
-            Err(cause) => {
-                self.failed = true;
-                Err(cause)
-            }
-        }
+        self.log.append(room, node)?;
+        count(&mut self.limits, node);
+        self.clean = node.kind.is_unmount();
+        Ok(())
     }
 }
 

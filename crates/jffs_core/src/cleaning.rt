@@ -47,7 +47,7 @@ impl<F: Flash> Core<F> {
         ensures sizes { HasSizes self.old.book.sectors self.old.book.sector_size self.new.book }
         ensures erases { self.new.book.erases ≤ self.old.book.erases + 1 }
     {
-        if self.failed {
+        if self.log.failed() {
             return Err(Cause::Failed);
         }
         self.clean_one()
@@ -66,7 +66,7 @@ impl<F: Flash> Core<F> {
         ensures erases { ErasesAtMost 0 self.old self.new }
         ensures tree { KeepsTree self.old self.new }
     {
-        if self.failed {
+        if self.log.failed() {
             return Err(Cause::Failed);
         }
         self.erase_while_dead()
@@ -230,14 +230,7 @@ impl<F: Flash> Core<F> {
         ensures sizes { HasSizes self.old.book.sectors self.old.book.sector_size self.new.book }
         ensures erases { self.new.book.erases ≡ self.old.book.erases }
     {
-        match self.log.oldest_nodes(self.alloc) {
-            Ok(nodes) => Ok(nodes),
-            Err(Cause::Device) => {
-                self.failed = true;
-                Err(Cause::Device)
-            }
-            Err(_) => Err(Cause::Memory),
-        }
+        self.log.oldest_nodes(self.alloc)
     }
 
     /// Erases the oldest sector. It isn't the tail and holds no live record: the caller's conditions.
@@ -255,12 +248,6 @@ impl<F: Flash> Core<F> {
         ensures erases { ErasesAtMost 0 self.old self.new }
         ensures few { self.new.book.erases ≤ self.old.book.erases + 1 }
     {
-        match self.log.erase_oldest(&self.tree) {
-            Ok(()) => Ok(()),
-            Err(cause) => {
-                self.failed = true;
-                Err(cause)
-            }
-        }
+        self.log.erase_oldest(&self.tree)
     }
 }

@@ -14,10 +14,10 @@ impl<F: Flash> Core<F> {
     pub fn wants_cleaning(&self) -> bool
         ensures { result ≡ wants_cleaning self.now }
     {
-        if self.failed {
+        if self.log.failed() {
             return false;
         }
-        self.log.held() >= 2 && self.log.erased() <= self.log.book.sectors / 2
+        self.log.held() >= 2 && self.log.erased() <= self.log.sectors() / 2
     }
 
     /// The bytes of the oldest sector, read from the device. The log has a sector: the caller's
@@ -30,16 +30,9 @@ impl<F: Flash> Core<F> {
         ensures works { OnOk result ((self.new.failed ≡ false) × (self.new ≡ self.old)) }
         ensures refused { IfErr result (λ cause. ReadRefused cause self.old self.new) }
     {
-        if self.failed {
+        if self.log.failed() {
             return Err(Cause::Failed);
         }
-        match self.log.oldest_image(self.alloc) {
-            Ok(bytes) => Ok(bytes),
-            Err(Cause::Device) => {
-                self.failed = true;
-                Err(Cause::Device)
-            }
-            Err(_) => Err(Cause::Memory),
-        }
+        self.log.oldest_image(self.alloc)
     }
 }

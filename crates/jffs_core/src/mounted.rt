@@ -1,7 +1,6 @@
 //! A mounted device.
 
-ghost use Rattle.std.specs.Prelude.{◌≡◌, false, IfOk};
-ghost use Rattle.jffs_log.specs.Book.{IsBook, HasSizes};
+ghost use Rattle.std.specs.Prelude.{◌≡◌, IfOk};
 
 use crate::answer::Answer;
 use jffs_flash::Flash;
@@ -20,8 +19,6 @@ pub struct Core<F: Flash> {
     pub(crate) limits: Limits,
     /// Whether the log ends with an unmount node, and nothing was programmed behind it.
     pub(crate) clean: bool,
-    /// Whether the device failed. The log's book tells of nothing from then on.
-    pub(crate) failed: bool,
     pub(crate) closed: bool,
     pub(crate) answers: Vec<Answer>,
 }
@@ -34,30 +31,30 @@ impl<F: Flash> Model for Core<F> {
     ghost Value = { Standing };
 
     ghost view = { λ c. record {
-      image = F.image c.log.flash;
-      faults = F.fault_count c.log.flash;
-      erase_failed = F.erase_failed c.log.flash;
+      image = c.log.device.image;
+      faults = c.log.device.faults;
+      erase_failed = c.log.device.erase_failed;
       book = c.log.book;
       tree = c.tree;
       limits = c.limits;
       clean = c.clean;
-      failed = c.failed;
+      failed = c.log.failed;
       closed = c.closed;
       answers = c.answers.items;
       places = vec_capacity c.answers;
     } };
 
-    ghost invariant = { λ c. HasBook c.failed (F.sector_count c.log.flash) (F.sector_len c.log.flash) (F.image c.log.flash) c.log.book c.tree c.limits c.clean };
+    ghost invariant = { λ c. HasBook c.log.failed c.log.device.sectors c.log.device.sector_size c.log.device.image c.log.book c.tree c.limits c.clean };
 }
 
 impl<F: Flash> Core<F> {
-    ghost use Rattle.jffs_core.specs.Past.{IsFresh};
+    ghost use Rattle.jffs_core.specs.Past.{IsFresh, IsLeftBy};
 
     /// Mounts a device. A refusal hands it back.
     ///
     /// The core stands for the log that was found, without answers.
     pub fn mount(alloc: Global, flash: F) -> Result<Core<F>, ScanFault<F>>
-        ensures mounted { IfOk result (λ c. IsFresh (F.sector_count flash) (F.sector_len flash) (F.image flash) (F.fault_count flash) (F.erase_failed flash) c) }
+        ensures mounted { IfOk result (λ c. IsFresh (F.device flash) c) }
     {
         let Mounted {
             log,
@@ -71,7 +68,6 @@ impl<F: Flash> Core<F> {
             tree,
             limits,
             clean,
-            failed: false,
             closed: false,
             answers: Vec::new(alloc),
         })
@@ -102,7 +98,7 @@ impl<F: Flash> Core<F> {
     pub fn failed(&self) -> bool
         ensures { result ≡ self.now.failed }
     {
-        self.failed
+        self.log.failed()
     }
 
     /// The answers since the mount, in order.
@@ -121,19 +117,16 @@ impl<F: Flash> Core<F> {
 
     /// The log.
     pub fn log(&self) -> &Log<F>
-        ensures image { F.image result.now.flash ≡ self.now.image }
+        ensures image { result.now.device.image ≡ self.now.image }
         ensures book { result.now.book ≡ self.now.book }
-        ensures standing { self.now.failed ≡ false → IsBook (F.image result.now.flash) result.now.book }
+        ensures failed { result.now.failed ≡ self.now.failed }
     {
         &self.log
     }
 
     /// Gives the device back.
     pub fn into_flash(self) -> F
-        ensures image { F.image result ≡ self.image }
-        ensures faults { F.fault_count result ≡ self.faults }
-        ensures erases { F.erase_failed result ≡ self.erase_failed }
-        ensures sizes { HasSizes (F.sector_count result) (F.sector_len result) self.book }
+        ensures { IsLeftBy self (F.device result) }
     {
         let (flash, _) = self.into_parts();
         flash
@@ -141,10 +134,7 @@ impl<F: Flash> Core<F> {
 
     /// Gives the device and the answers back.
     pub fn into_parts(self) -> (F, Vec<Answer>)
-        ensures image { F.image result.0 ≡ self.image }
-        ensures faults { F.fault_count result.0 ≡ self.faults }
-        ensures erases { F.erase_failed result.0 ≡ self.erase_failed }
-        ensures sizes { HasSizes (F.sector_count result.0) (F.sector_len result.0) self.book }
+        ensures device { IsLeftBy self (F.device result.0) }
         ensures answers { result.1.items ≡ self.answers }
     {
         let Core {
@@ -153,7 +143,6 @@ impl<F: Flash> Core<F> {
             tree: _,
             limits: _,
             clean: _,
-            failed: _,
             closed: _,
             answers,
         } = self;

@@ -7,10 +7,10 @@ use Rattle.jffs_flash.specs.declared.fuse.Fail.TheVariants.{Nothing, Half}
 use Rattle.jffs_flash.specs.Device.{Device, with_image}
 use Rattle.jffs_flash.specs.Image.{window, replaced, programmed, erased_byte}
 
--- the device inside, how many fused calls still pass, which calls are fused, what a failing call does, how many failed,
+-- the device inside, which never fails, how many fused calls still pass, which calls are fused, what a failing call does, how many failed,
 -- and whether an erase did
 pub record Fuse : Type 0 where
-  pub device : Device
+  pub inner : Device
   pub calls_left : ℕ
   pub fused : Fused
   pub fail : Fail
@@ -20,7 +20,11 @@ pub record Fuse : Type 0 where
 -- a new fuse over a device
 abbrev pub fuse_of : Device → ℕ → Fused → Fail → Fuse
 fuse_of device calls fused fail =
-    record { device = device; calls_left = calls; fused = fused; fail = fail; faults = 0; erase_failed = false }
+    record { inner = device; calls_left = calls; fused = fused; fail = fail; faults = 0; erase_failed = false }
+
+-- the device as its callers see it
+abbrev pub seen_device : Fuse → Device
+seen_device fuse = record fuse.inner { faults = fuse.faults; erase_failed = fuse.erase_failed }
 
 -- the last value that the count of faults can have
 abbrev pub last_fault_count : ℕ
@@ -37,11 +41,11 @@ is_blown fuse = fuse.calls_left == 0 && nat_lt fuse.faults last_fault_count
 
 -- after a fused call that passed and left this image
 abbrev pub after_pass : Fuse → List ℕ → Fuse
-after_pass fuse image = record fuse { device = with_image fuse.device image; calls_left = fuse.calls_left - 1 }
+after_pass fuse image = record fuse { inner = with_image fuse.inner image; calls_left = fuse.calls_left - 1 }
 
 -- after a fused call that failed and left this image
 abbrev pub after_fault : Fuse → List ℕ → Fuse
-after_fault fuse image = record fuse { device = with_image fuse.device image; faults = fuse.faults + 1 }
+after_fault fuse image = record fuse { inner = with_image fuse.inner image; faults = fuse.faults + 1 }
 
 -- after an erase that failed and left this image
 abbrev pub after_failed_erase : Fuse → List ℕ → Fuse
@@ -50,7 +54,7 @@ after_failed_erase fuse image = record (after_fault fuse image) { erase_failed =
 -- after a read that passed: it is counted where reads are fused
 abbrev pub after_read : Fused → Fuse → Fuse
 after_read Writes fuse = fuse
-after_read All fuse = after_pass fuse fuse.device.image
+after_read All fuse = after_pass fuse fuse.inner.image
 
 -- what a failing program leaves of the image: the first half of its bytes, rounded down, may be programmed
 abbrev pub program_left : Fail → ℕ → List ℕ → List ℕ → List ℕ

@@ -1,8 +1,9 @@
 //! Flash that fails from a chosen call on.
 
-ghost use Rattle.std.specs.Prelude.{◌≡◌, ◌+◌, ◌*◌, ◌<◌, ◌≤◌, ◌↔◌, ◌&&◌, true, length, MatchResult, OnOk, OnErr, IfErr, IsErr, IsTrue};
-ghost use Rattle.jffs_flash.specs.Image.{window, programmed, IsHalfProgrammed, erased, IsHalfErased};
-ghost use Rattle.jffs_flash.specs.Fuse.{is_blown, fuses_reads, after_pass, after_read, after_fault, after_failed_erase, program_left, erase_left, read_left, fuse_of};
+ghost use Rattle.std.specs.Prelude.{◌≡◌, ◌+◌, ◌<◌, ◌≤◌, ◌↔◌, ◌&&◌, length, OnOk, OnErr, IsErr, IsTrue};
+ghost use Rattle.jffs_flash.specs.Device.{Reads, Programs, Erases};
+ghost use Rattle.jffs_flash.specs.Image.{window, programmed, erased};
+ghost use Rattle.jffs_flash.specs.Fuse.{seen_device, is_blown, fuses_reads, after_pass, after_read, after_fault, after_failed_erase, program_left, erase_left, read_left, fuse_of};
 
 use crate::flash::{Flash, FlashFault};
 use crate::memory::MemoryFlash;
@@ -44,7 +45,7 @@ impl Model for FuseFlash {
 
     ghost Value = { Fuse };
 
-    ghost view = { λ f. record { device = f.inner; calls_left = f.calls_left; fused = f.fused; fail = f.fail; faults = f.faults; erase_failed = f.erase_failed } };
+    ghost view = { λ f. record { inner = f.inner; calls_left = f.calls_left; fused = f.fused; fail = f.fail; faults = f.faults; erase_failed = f.erase_failed } };
 }
 
 impl FuseFlash {
@@ -66,14 +67,14 @@ impl FuseFlash {
 
     /// The flash inside, with the bytes that the calls left.
     pub fn into_inner(self) -> MemoryFlash
-        ensures { result ≡ self.device }
+        ensures { result ≡ self.inner }
     {
         self.inner
     }
 
     /// The flash inside, to be looked at: no call of the device is counted.
     pub fn inner(&self) -> &MemoryFlash
-        ensures { result.now ≡ self.now.device }
+        ensures { result.now ≡ self.now.inner }
     {
         &self.inner
     }
@@ -87,7 +88,7 @@ impl FuseFlash {
 
     /// Counts a fused call that passed.
     fn count_pass(&mut self)
-        ensures { self.new ≡ after_pass self.old self.old.device.image }
+        ensures { self.new ≡ after_pass self.old self.old.inner.image }
     {
         self.calls_left = self.calls_left.saturating_sub(1);
     }
@@ -95,17 +96,17 @@ impl FuseFlash {
     /// Counts a fused call that failed.
     fn count_fault(&mut self)
         requires { IsTrue (is_blown self.old) }
-        ensures { self.new ≡ after_fault self.old self.old.device.image }
+        ensures { self.new ≡ after_fault self.old self.old.inner.image }
     {
         self.faults += 1;
     }
 
     /// A read that fails.
     fn fail_read(&mut self, at: u32, buffer: &mut [u8])
-        requires inside { at + length buffer.old ≤ length self.old.device.image }
+        requires inside { at + length buffer.old ≤ length self.old.inner.image }
         requires blown { IsTrue (is_blown self.old) }
-        ensures fuse { self.new ≡ after_fault self.old self.old.device.image }
-        ensures left { buffer.new ≡ read_left self.old.fail at buffer.old self.old.device.image }
+        ensures fuse { self.new ≡ after_fault self.old self.old.inner.image }
+        ensures left { buffer.new ≡ read_left self.old.fail at buffer.old self.old.inner.image }
     {
         match self.fail {
             Fail::Nothing => {}
@@ -119,9 +120,9 @@ impl FuseFlash {
 
     /// A program that fails.
     fn fail_program(&mut self, at: u32, bytes: &[u8])
-        requires inside { at + length bytes.now ≤ length self.old.device.image }
+        requires inside { at + length bytes.now ≤ length self.old.inner.image }
         requires blown { IsTrue (is_blown self.old) }
-        ensures { self.new ≡ after_fault self.old (program_left self.old.fail at bytes.now self.old.device.image) }
+        ensures { self.new ≡ after_fault self.old (program_left self.old.fail at bytes.now self.old.inner.image) }
     {
         match self.fail {
             Fail::Nothing => {}
@@ -132,10 +133,10 @@ impl FuseFlash {
 
     /// An erase that fails.
     fn fail_erase(&mut self, sector: u32)
-        requires inside { sector < self.old.device.sectors }
+        requires inside { sector < self.old.inner.sectors }
         requires blown { IsTrue (is_blown self.old) }
         ensures { self.new ≡ after_failed_erase self.old
-            (erase_left self.old.fail self.old.device.sector_size sector self.old.device.image) }
+            (erase_left self.old.fail self.old.inner.sector_size sector self.old.inner.image) }
     {
         match self.fail {
             Fail::Nothing => {}
@@ -150,15 +151,7 @@ impl FuseFlash {
 }
 
 impl Flash for FuseFlash {
-    ghost image = { λ f. f.device.image };
-
-    ghost sector_count = { λ f. f.device.sectors };
-
-    ghost sector_len = { λ f. f.device.sector_size };
-
-    ghost fault_count = { λ f. f.faults };
-
-    ghost erase_failed = { λ f. f.erase_failed };
+    ghost device = { seen_device };
 
     fn sectors(&self) -> u32 {
         self.inner.sectors()
@@ -174,21 +167,15 @@ impl Flash for FuseFlash {
 
     /// Fails exactly where reads are fused and the fuse is blown. The buffer then holds what the fuse's failure left.
     fn read(&mut self, at: u32, buffer: &mut [u8]) -> Result<(), FlashFault>
-        requires { at + length buffer.old ≤ length self.old.device.image }
+        requires { at + length buffer.old ≤ length self.old.inner.image }
         ensures fails { IsErr result ↔ IsTrue (fuses_reads self.old.fused && is_blown self.old) }
         ensures passed { OnOk result (self.new ≡ after_read self.old.fused self.old) }
-        ensures failed { OnErr result (self.new ≡ after_fault self.old self.old.device.image) }
-        ensures left { OnErr result (buffer.new ≡ read_left self.old.fail at buffer.old self.old.device.image) }
+        ensures failed { OnErr result (self.new ≡ after_fault self.old self.old.inner.image) }
+        ensures left { OnErr result (buffer.new ≡ read_left self.old.fail at buffer.old self.old.inner.image) }
 
         // What each device promises.
-        ensures kept { self.new.device.image ≡ self.old.device.image }
-        ensures filled { OnOk result (buffer.new ≡ window at (length buffer.old) self.old.device.image) }
-        ensures sectors { self.new.device.sectors ≡ self.old.device.sectors }
-        ensures size { self.new.device.sector_size ≡ self.old.device.sector_size }
-        ensures faults { MatchResult result
-            (λ _. self.new.faults ≡ self.old.faults)
-            (λ _. self.old.faults < self.new.faults) }
-        ensures erase_failed { self.new.erase_failed ≡ self.old.erase_failed }
+        ensures device { Reads result (seen_device self.old) (seen_device self.new) }
+        ensures filled { OnOk result (buffer.new ≡ window at (length buffer.old) self.old.inner.image) }
     {
         if self.fused == Fused::Writes {
             self.inner.copy_out(at, buffer);
@@ -205,21 +192,14 @@ impl Flash for FuseFlash {
 
     /// Fails exactly where the fuse is blown, and then leaves what the fuse's failure says.
     fn program(&mut self, at: u32, bytes: &[u8]) -> Result<(), FlashFault>
-        requires { at + length bytes.now ≤ length self.old.device.image }
+        requires { at + length bytes.now ≤ length self.old.inner.image }
         ensures fails { IsErr result ↔ IsTrue (is_blown self.old) }
-        ensures passed { OnOk result (self.new ≡ after_pass self.old (programmed at bytes.now self.old.device.image)) }
+        ensures passed { OnOk result (self.new ≡ after_pass self.old (programmed at bytes.now self.old.inner.image)) }
         ensures failed { OnErr result
-            (self.new ≡ after_fault self.old (program_left self.old.fail at bytes.now self.old.device.image)) }
+            (self.new ≡ after_fault self.old (program_left self.old.fail at bytes.now self.old.inner.image)) }
 
         // What each device promises.
-        ensures done { OnOk result (self.new.device.image ≡ programmed at bytes.now self.old.device.image) }
-        ensures half { IfErr result (λ _. IsHalfProgrammed at bytes.now self.old.device.image self.new.device.image) }
-        ensures sectors { self.new.device.sectors ≡ self.old.device.sectors }
-        ensures size { self.new.device.sector_size ≡ self.old.device.sector_size }
-        ensures faults { MatchResult result
-            (λ _. self.new.faults ≡ self.old.faults)
-            (λ _. self.old.faults < self.new.faults) }
-        ensures erase_failed { self.new.erase_failed ≡ self.old.erase_failed }
+        ensures device { Programs at bytes.now result (seen_device self.old) (seen_device self.new) }
     {
         if self.is_blown() {
             self.fail_program(at, bytes);
@@ -232,26 +212,15 @@ impl Flash for FuseFlash {
 
     /// Fails exactly where the fuse is blown, and then leaves what the fuse's failure says.
     fn erase(&mut self, sector: u32) -> Result<(), FlashFault>
-        requires { sector < self.old.device.sectors }
+        requires { sector < self.old.inner.sectors }
         ensures fails { IsErr result ↔ IsTrue (is_blown self.old) }
         ensures passed { OnOk result
-            (self.new ≡ after_pass self.old (erased self.old.device.sector_size sector self.old.device.image)) }
+            (self.new ≡ after_pass self.old (erased self.old.inner.sector_size sector self.old.inner.image)) }
         ensures failed { OnErr result
-            (self.new ≡ after_failed_erase self.old (erase_left self.old.fail self.old.device.sector_size sector self.old.device.image)) }
+            (self.new ≡ after_failed_erase self.old (erase_left self.old.fail self.old.inner.sector_size sector self.old.inner.image)) }
 
         // What each device promises.
-        ensures done { OnOk result
-            (self.new.device.image ≡ erased self.old.device.sector_size sector self.old.device.image) }
-        ensures half { IfErr result (λ _.
-            IsHalfErased (sector * self.old.device.sector_size) self.old.device.sector_size self.old.device.image self.new.device.image) }
-        ensures sectors { self.new.device.sectors ≡ self.old.device.sectors }
-        ensures size { self.new.device.sector_size ≡ self.old.device.sector_size }
-        ensures faults { MatchResult result
-            (λ _. self.new.faults ≡ self.old.faults)
-            (λ _. self.old.faults < self.new.faults) }
-        ensures erase_failed { MatchResult result
-            (λ _. self.new.erase_failed ≡ self.old.erase_failed)
-            (λ _. self.new.erase_failed ≡ true) }
+        ensures device { Erases sector result (seen_device self.old) (seen_device self.new) }
     {
         let size = self.inner.sector_size();
         if self.is_blown() {

@@ -3,7 +3,7 @@
 ghost use Rattle.std.specs.Prelude.{◌≡◌, ◌+◌, ◌*◌, ◌≤◌, ◌<◌, ◌↔◌, false, length, vec_len, replicate, IsTrue, IfOk, OnOk, IsErrOf};
 ghost use Rattle.jffs_flash.specs.Sizes.{is_geometry as allows_geometry};
 ghost use Rattle.jffs_flash.specs.Image.{window, replaced, programmed, both_bits, erased_byte};
-ghost use Rattle.jffs_flash.specs.Device.{with_image, device_of, erased_device};
+ghost use Rattle.jffs_flash.specs.Device.{IsWhole, with_image, device_of, erased_device};
 
 use crate::flash::{ERASED_BYTE, Flash, FlashFault};
 use crate::sizes::is_geometry;
@@ -124,15 +124,7 @@ fn keep_both_bits(old: &mut [u8], bytes: &[u8])
 }
 
 impl Flash for MemoryFlash {
-    ghost image = { λ f. f.image };
-
-    ghost sector_count = { λ f. f.sectors };
-
-    ghost sector_len = { λ f. f.sector_size };
-
-    ghost fault_count = { λ f. 0 };
-
-    ghost erase_failed = { λ f. false };
+    ghost device = { λ f. device_of f.sectors f.sector_size f.image };
 
     fn sectors(&self) -> u32 {
         self.sectors
@@ -140,7 +132,7 @@ impl Flash for MemoryFlash {
 
     fn sector_size(&self) -> u32
         ensures size { result ≡ self.now.sector_size }
-        ensures whole { length self.now.image ≡ self.now.sectors * self.now.sector_size }
+        ensures whole { IsWhole self.now }
     {
         self.sector_size
     }

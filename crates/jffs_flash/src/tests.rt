@@ -8,7 +8,7 @@ use std::test::Fail as TestFail;
 
 /// Whether the device has so many bytes from `at` on.
 fn has_range<F: Flash>(flash: &F, at: u32, len: usize) -> bool
-    ensures { IsTrue result ↔ (at + len ≤ length (F.image flash.now)) }
+    ensures { IsTrue result ↔ (at + len ≤ length (F.device flash.now).image) }
 {
     let whole = flash.sectors() as usize * flash.sector_size() as usize;
     len <= whole && at as usize <= whole - len

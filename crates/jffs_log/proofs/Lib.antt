@@ -38,3 +38,7 @@ pub mod ScanFold
 pub mod ScanBook
 pub mod ScanFound
 pub mod OldestNodes
+pub mod Seen
+pub mod TailPut
+pub mod NextPut
+pub mod Putting

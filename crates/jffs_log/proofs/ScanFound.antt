@@ -3,6 +3,7 @@ use Rattle.std.proofs.Common.{◌≡◌, ◌⊎◌, inl, inr, ℕ, ◌-◌, ◌/
 use Rattle.std.specs.List.{list_any, last_or}
 use Rattle.std.proofs.lemmas.List.FromFn.{length-enumerate_from}
 use Rattle.jffs_node.specs.declared.node.Node.{Node}
+use Rattle.jffs_flash.specs.Device.{Device as FlashDevice}
 use Rattle.jffs_flash.specs.Sizes.{is_geometry}
 use Rattle.jffs_tree.specs.declared.wish.Limits.{Limits}
 use Rattle.jffs_tree.specs.Origin.{Tree, tree_of}
@@ -15,7 +16,7 @@ use Rattle.jffs_log.specs.Volume.{split, sectors_in}
 use Rattle.jffs_log.specs.Scan.{Scanned, first_bad, versions_rise, or_refuse, unless, scan_sectors, scan}
 use Rattle.jffs_log.specs.ScanRead.{oldest_sector, AreRead, IsReadFault}
 use Rattle.jffs_log.specs.Room.{following, limits as limits_after}
-use Rattle.jffs_log.specs.ScanFound.{greatest_inode, last_version, IsCause, IsFound}
+use Rattle.jffs_log.specs.ScanFound.{greatest_inode, last_version, scan_of, IsCause, IsFound, IsRefused}
 use Rattle.jffs_log.proofs.Ring.{Numbered, sectors_of, sectors_numbered, ring_lengths}
 use Rattle.jffs_log.proofs.Volume.{length-split}
 use Rattle.jffs_log.proofs.Live.{geometry_passed, bad_passed, rest_of_causes, answer_on, scan_reads}
@@ -123,6 +124,10 @@ module _ (count len : ℕ) (image : List ℕ) (first : ℕ) (held : List Numbere
 -- The sizes are those of the device.
 pub cause_at : (why : ScanWhy) (before after count many len size : ℕ) (image : List ℕ) → count ≡ many → len ≡ size → IsCause why before after (answer count len image) → IsCause why before after (answer many size image)
 cause_at why before after count many len size image same_count same_len h = subst (λ k. IsCause why before after (answer many k image)) same_len (subst (λ k. IsCause why before after (answer k len image)) same_count h)
+
+-- No call has failed.
+pub unmoved : (why : ScanWhy) (device after : FlashDevice) → after ≡ device → IsCause why device.faults device.faults (scan_of device) → IsRefused device why after
+unmoved why device after same cause = subst (λ (d : FlashDevice). IsRefused device why d) (sym same) (record { cause = cause; rest = refl })
 
 pub found_at : (count many len size : ℕ) (image : List ℕ) (book : Book) (tree : Tree) (clean : Bool) (limits : Limits) → count ≡ many → len ≡ size → IsFound count len image book tree clean limits → IsFound many size image book tree clean limits
 found_at count many len size image book tree clean limits same_count same_len h =

@@ -2,6 +2,7 @@ pub mod Image
 pub mod Sector
 pub mod Volume
 pub mod Live
+pub mod LogState
 pub mod Gate
 pub mod Book
 pub mod Ring

@@ -1,5 +1,5 @@
 -- What a scan answers: the book and the numbers that come next, or the cause of its refusal.
-use Rattle.std.specs.Prelude.{◌≡◌, ℕ, ◌<◌, Bool, not, ◌||◌, max, List, [], ◌∷◌, get_or, is_some, Result, Ok, Err}
+use Rattle.std.specs.Prelude.{◌≡◌, ℕ, ◌<◌, Bool, false, not, ◌||◌, max, List, [], ◌∷◌, get_or, is_some, Result, Ok, Err}
 use Rattle.std.specs.List.{AllByRecursion}
 use Rattle.jffs_node.specs.declared.node.Node.{Node}
 use Rattle.jffs_node.specs.Record.{is_file}
@@ -10,6 +10,8 @@ use Rattle.jffs_log.specs.declared.scanning.ScanWhy.{ScanWhy}
 use Rattle.jffs_log.specs.declared.scanning.ScanWhy.TheVariants.{Device, Memory}
 use Rattle.jffs_log.specs.Image.{past_of}
 use Rattle.jffs_log.specs.Room.{limits as limits_after}
+use Rattle.jffs_flash.specs.Device.{Device as FlashDevice}
+use Rattle.jffs_log.specs.LogState.{LogState}
 use Rattle.jffs_log.specs.Volume.{split}
 use Rattle.jffs_log.specs.Book.{IsBook, HasSizes, log_in}
 use Rattle.jffs_log.specs.Scan.{Scanned, scan}
@@ -43,3 +45,18 @@ abbrev pub IsCause : ScanWhy → ℕ → ℕ → Result Scanned ScanWhy → Type
 IsCause Device before after answer = before < after
 IsCause Memory before after answer = after ≡ before
 IsCause why before after answer = (answer ≡ Err why) × (after ≡ before)
+
+-- what a scan of the device gives by the definition
+abbrev pub scan_of : FlashDevice → Result Scanned ScanWhy
+scan_of device = scan device.sector_size (split device.sectors device.sector_size device.image)
+
+-- the log on the device, which no call changed
+pub record IsMounted (device : FlashDevice) (log : LogState) (tree : Tree) (clean : Bool) (limits : Limits) : Type 0 where
+  pub device_is : log.device ≡ device
+  pub works : log.failed ≡ false
+  pub found : IsFound device.sectors device.sector_size device.image log.book tree clean limits
+
+-- no log was found, and nothing but the count of faults has changed
+pub record IsRefused (device : FlashDevice) (why : ScanWhy) (after : FlashDevice) : Type 0 where
+  pub cause : IsCause why device.faults after.faults (scan_of device)
+  pub rest : after ≡ record device { faults = after.faults }

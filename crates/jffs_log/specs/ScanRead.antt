@@ -3,10 +3,11 @@ use Rattle.std.specs.Prelude.{◌≡◌, ℕ, ◌/◌, ◌<◌, not, List, lengt
 use Rattle.std.specs.List.{list_any, enumerate_from, AllByRecursion}
 use Rattle.jffs_node.specs.Record.{record_len, is_lawful}
 use Rattle.jffs_node.specs.Reading.{reading, reading_len, found}
+use Rattle.jffs_flash.specs.Device.{Device as FlashDevice}
 use Rattle.jffs_log.specs.declared.sector.SectorRead.TheInside.{Inside}
 use Rattle.jffs_log.specs.declared.scanning.ScanWhy.{ScanWhy}
 use Rattle.jffs_log.specs.declared.scanning.ScanWhy.TheVariants.{Device, Memory, NoErased, Scattered}
-use Rattle.jffs_log.specs.Image.{Sector, starts, is_one_run, oldest_of}
+use Rattle.jffs_log.specs.Image.{Sector, sector_of, starts, is_one_run, oldest_of}
 use Rattle.jffs_log.specs.Sector.{HoldsNodes}
 use Rattle.jffs_log.specs.Volume.{sector_bytes, sectors_in}
 use Rattle.jffs_log.specs.Scan.{first_bad, bad_record}
@@ -61,3 +62,14 @@ number_of_tail (Some tail) = tail.0
 abbrev pub used_of_tail : Option (ℕ × Sector) → ℕ
 used_of_tail None = 0
 used_of_tail (Some tail) = reading_len tail.1.reading
+
+-- sectors couldn't be read, and nothing but the count of faults has changed
+pub record IsUnread (why : ScanWhy) (old new : FlashDevice) (bad : Option ScanWhy) : Type 0 where
+  pub cause : IsReadFault why old.faults new.faults bad
+  pub rest : new ≡ record old { faults = new.faults }
+
+-- a sector of these bytes was read, and has no bad record
+pub record HasRead (s : ℕ × Sector) (number : ℕ) (bytes : List ℕ) : Type 0 where
+  pub read : s ≡ (number, sector_of bytes)
+  pub spelled : IsSpelled bytes
+  pub sound : bad_in s ≡ None

@@ -1,7 +1,7 @@
 //! Whether the oldest sector holds no live record.
 
 ghost use Rattle.std.specs.Prelude.{◌≡◌, ◌<◌, ◌==◌, ◌&&◌, ◌↔◌, true, false, not, nat_le, length, slice_index_or, Contains, IsTrue};
-ghost use Rattle.std.specs.List.{AllByRecursion, list_all, take_while};
+ghost use Rattle.std.specs.List.{list_all, take_while};
 ghost use Rattle.jffs_tree.specs.Look.{holds_version};
 ghost use Rattle.jffs_log.specs.declared.book.Kept.{Kept as KeptValue};
 
@@ -12,7 +12,7 @@ use jffs_tree::Tree;
 use std::collections::VecDeque;
 
 impl<F: Flash> Log<F> {
-    ghost use Rattle.jffs_log.specs.Book.{IsBook, oldest_in, lives_in};
+    ghost use Rattle.jffs_log.specs.LogState.{OldestIsDead};
 
     /// Whether no record of the sector that was begun first lives in the tree of all nodes.
     ///
@@ -22,8 +22,8 @@ impl<F: Flash> Log<F> {
     /// answered. Only of a tree that isn't made of this log's nodes is each record asked for. (A sector may hold no
     /// record, after a write that was cut off: then the walk has none to ask for.)
     pub(crate) fn oldest_has_no_live(&self, tree: &Tree) -> bool
-        requires book { IsBook (F.image self.now.flash) self.now.book }
-        ensures { IsTrue result ↔ AllByRecursion (λ p. lives_in tree.now p ≡ false) (oldest_in (F.image self.now.flash) self.now.book) }
+        requires working { self.now.failed ≡ false }
+        ensures { IsTrue result ↔ OldestIsDead tree.now self.now }
     {
         let records = &self.book.records;
         let sector = self.book.first;

@@ -7,7 +7,7 @@ ghost use Rattle.jffs_log.specs.Image.{Sector, sector_of, records_in, turned, is
 ghost use Rattle.jffs_log.specs.Volume.{sectors_in, sector_bytes};
 ghost use Rattle.jffs_log.specs.Scan.{first_bad};
 ghost use Rattle.jffs_log.specs.Book.{kept};
-ghost use Rattle.jffs_log.specs.ScanRead.{oldest_sector, AreRead, IsSpelled, IsReadFault, bad_in, number_of_tail, used_of_tail};
+ghost use Rattle.jffs_log.specs.ScanRead.{oldest_sector, AreRead, HasRead, IsUnread, bad_in, number_of_tail, used_of_tail};
 
 use crate::book::Kept;
 use crate::scanning::ScanWhy;
@@ -25,15 +25,11 @@ pub(crate) fn read_sectors<F: Flash>(
     sector_size: u32,
 ) -> Result<Vec<SectorRead>, ScanWhy>
     requires small { sectors * sector_size < 2 ^ 32 }
-    requires whole { length (F.image flash.old) ≡ sectors * sector_size }
-    ensures read { IfOk result (λ found. AreRead sectors sector_size (F.image flash.old) found.items) }
-    ensures refused { IfErr result (λ why.
-        IsReadFault why (F.fault_count flash.old) (F.fault_count flash.new) (first_bad 0 (sectors_in sectors sector_size (F.image flash.old)))) }
-    ensures image { F.image flash.new ≡ F.image flash.old }
-    ensures count { F.sector_count flash.new ≡ F.sector_count flash.old }
-    ensures size { F.sector_len flash.new ≡ F.sector_len flash.old }
-    ensures faults { IfOk result (λ _. F.fault_count flash.new ≡ F.fault_count flash.old) }
-    ensures erase_failed { F.erase_failed flash.new ≡ F.erase_failed flash.old }
+    requires whole { length (F.device flash.old).image ≡ sectors * sector_size }
+    ensures read { IfOk result (λ found. AreRead sectors sector_size (F.device flash.old).image found.items) }
+    ensures same { IfOk result (λ _. F.device flash.new ≡ F.device flash.old) }
+    ensures refused { IfErr result (λ why. IsUnread why (F.device flash.old) (F.device flash.new)
+        (first_bad 0 (sectors_in sectors sector_size (F.device flash.old).image))) }
 {
     let mut found = Vec::new(alloc);
     let mut buffer = vec![in alloc; 0u8; sector_size as usize]?;
@@ -51,18 +47,12 @@ fn read_one<F: Flash>(
     sector: u32,
     buffer: &mut [u8],
 ) -> Result<SectorRead, ScanWhy>
-    requires inside { sector * length buffer.old + length buffer.old ≤ length (F.image flash.old) }
+    requires inside { sector * length buffer.old + length buffer.old ≤ length (F.device flash.old).image }
     requires small { sector * length buffer.old + length buffer.old < 2 ^ 32 }
-    ensures read { IfOk result (λ s. s ≡ (sector, sector_of (sector_bytes (length buffer.old) sector (F.image flash.old)))) }
-    ensures spelled { IfOk result (λ _. IsSpelled (sector_bytes (length buffer.old) sector (F.image flash.old))) }
-    ensures sound { IfOk result (λ s. bad_in s ≡ None) }
-    ensures refused { IfErr result (λ why.
-        IsReadFault why (F.fault_count flash.old) (F.fault_count flash.new) (bad_in (sector, sector_of (sector_bytes (length buffer.old) sector (F.image flash.old))))) }
-    ensures image { F.image flash.new ≡ F.image flash.old }
-    ensures count { F.sector_count flash.new ≡ F.sector_count flash.old }
-    ensures size { F.sector_len flash.new ≡ F.sector_len flash.old }
-    ensures faults { IfOk result (λ _. F.fault_count flash.new ≡ F.fault_count flash.old) }
-    ensures erase_failed { F.erase_failed flash.new ≡ F.erase_failed flash.old }
+    ensures read { IfOk result (λ s. HasRead s sector (sector_bytes (length buffer.old) sector (F.device flash.old).image)) }
+    ensures same { IfOk result (λ _. F.device flash.new ≡ F.device flash.old) }
+    ensures refused { IfErr result (λ why. IsUnread why (F.device flash.old) (F.device flash.new)
+        (bad_in (sector, sector_of (sector_bytes (length buffer.old) sector (F.device flash.old).image)))) }
     ensures length { length buffer.new ≡ length buffer.old }
 {
     let len = buffer.len() as u32;

@@ -1,9 +1,7 @@
 //! A scan of a whole image.
 
-ghost use Rattle.std.specs.Prelude.{◌≡◌, IfOk, IfErr, MatchResult};
-ghost use Rattle.jffs_log.specs.Volume.{split};
-ghost use Rattle.jffs_log.specs.Scan.{scan as scan_of};
-ghost use Rattle.jffs_log.specs.ScanFound.{IsFound, IsCause};
+ghost use Rattle.std.specs.Prelude.{◌≡◌, IfOk, IfErr};
+ghost use Rattle.jffs_log.specs.ScanFound.{IsFound, IsMounted, IsRefused};
 
 use crate::book::Book;
 use crate::finding::{Tail, is_clean, keep_log, list_records, nodes_of, oldest, read_sectors};
@@ -87,7 +85,7 @@ impl From<FlashFault> for ScanWhy {
 
 /// What a scan finds on a device.
 #[derive(Drop)]
-pub struct Mounted<F> {
+pub struct Mounted<F: Flash> {
     pub log: Log<F>,
     /// The tree that all nodes of the log make.
     pub tree: Tree,
@@ -110,25 +108,15 @@ pub struct ScanFault<F> {
 /// Each refusal hands the device back. Its cause is in the image and none that is tried before it is, but for `Device`,
 /// where a read failed, and `Memory`, where a growth was refused.
 pub fn scan<F: Flash>(alloc: Global, mut flash: F) -> Result<Mounted<F>, ScanFault<F>>
-    ensures found { IfOk result (λ m.
-        IsFound (F.sector_count flash) (F.sector_len flash) (F.image flash) m.log.book m.tree m.clean m.limits) }
-    ensures refused { IfErr result (λ f.
-        IsCause f.why (F.fault_count flash) (F.fault_count f.flash)
-        (scan_of (F.sector_len flash) (split (F.sector_count flash) (F.sector_len flash) (F.image flash)))) }
-    ensures image { MatchResult result (λ m. F.image m.log.flash ≡ F.image flash) (λ f. F.image f.flash ≡ F.image flash) }
-    ensures sectors { MatchResult result
-        (λ m. F.sector_count m.log.flash ≡ F.sector_count flash) (λ f. F.sector_count f.flash ≡ F.sector_count flash) }
-    ensures size { MatchResult result
-        (λ m. F.sector_len m.log.flash ≡ F.sector_len flash) (λ f. F.sector_len f.flash ≡ F.sector_len flash) }
-    ensures faults { IfOk result (λ m. F.fault_count m.log.flash ≡ F.fault_count flash) }
-    ensures erase_failed { MatchResult result
-        (λ m. F.erase_failed m.log.flash ≡ F.erase_failed flash) (λ f. F.erase_failed f.flash ≡ F.erase_failed flash) }
+    ensures found { IfOk result (λ m. IsMounted (F.device flash) m.log m.tree m.clean m.limits) }
+    ensures refused { IfErr result (λ f. IsRefused (F.device flash) f.why (F.device f.flash)) }
 {
     match find(alloc, &mut flash) {
         Ok(found) => Ok(Mounted {
             log: Log {
                 flash,
                 book: found.book,
+                failed: false,
             },
             tree: found.tree,
             clean: found.clean,
@@ -149,16 +137,10 @@ struct Found {
 
 /// The steps of a scan, in the order of its refusals.
 fn find<F: Flash>(alloc: Global, flash: &mut F) -> Result<Found, ScanWhy>
-    ensures found { IfOk result (λ found.
-        IsFound (F.sector_count flash.old) (F.sector_len flash.old) (F.image flash.old) found.book found.tree found.clean found.limits) }
-    ensures refused { IfErr result (λ why.
-        IsCause why (F.fault_count flash.old) (F.fault_count flash.new)
-        (scan_of (F.sector_len flash.old) (split (F.sector_count flash.old) (F.sector_len flash.old) (F.image flash.old)))) }
-    ensures image { F.image flash.new ≡ F.image flash.old }
-    ensures sectors { F.sector_count flash.new ≡ F.sector_count flash.old }
-    ensures size { F.sector_len flash.new ≡ F.sector_len flash.old }
-    ensures faults { IfOk result (λ _. F.fault_count flash.new ≡ F.fault_count flash.old) }
-    ensures erase_failed { F.erase_failed flash.new ≡ F.erase_failed flash.old }
+    ensures found { IfOk result (λ found. IsFound (F.device flash.old).sectors (F.device flash.old).sector_size (F.device flash.old).image
+        found.book found.tree found.clean found.limits) }
+    ensures same { IfOk result (λ _. F.device flash.new ≡ F.device flash.old) }
+    ensures refused { IfErr result (λ why. IsRefused (F.device flash.old) why (F.device flash.new)) }
 {
     let sectors = flash.sectors();
     let sector_size = flash.sector_size();

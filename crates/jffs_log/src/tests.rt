@@ -1,8 +1,5 @@
 //! The log on concrete devices: what each call leaves, seen by a further scan.
 
-ghost use Rattle.std.specs.Prelude.{OnOk};
-ghost use Rattle.jffs_log.specs.Book.{IsBook, HasSizes};
-
 use super::*;
 use jffs_flash::{Fail, Flash, FuseFlash, Fused, MemoryFlash};
 use jffs_node::{Bytes, Kind, Name, Node, record_len};
@@ -31,10 +28,7 @@ fn written(alloc: Global, version: u32, amount: u32) -> Result<Node, AllocError>
     })
 }
 
-fn mount<F: Flash + Drop>(rt: &(impl Abort + AllocGlobal), flash: F) -> Mounted<F>
-    ensures book { IsBook (F.image result.log.flash) result.log.book }
-    ensures sizes { HasSizes (F.sector_count result.log.flash) (F.sector_len result.log.flash) result.log.book }
-{
+fn mount<F: Flash + Drop>(rt: &(impl Abort + AllocGlobal), flash: F) -> Mounted<F> {
     match scan(rt.alloc(), flash) {
         Ok(mounted) => mounted,
         Err(fault) => panic!(rt; "{}", fault.why),
@@ -47,16 +41,11 @@ fn append<F: Flash>(
     log: &mut Log<F>,
     tree: &Tree,
     node: &Node,
-) -> Result<(), Cause>
-    requires book { IsBook (F.image log.old.flash) log.old.book }
-    requires sizes { HasSizes (F.sector_count log.old.flash) (F.sector_len log.old.flash) log.old.book }
-    ensures book { OnOk result (IsBook (F.image log.new.flash) log.new.book) }
-    ensures sizes { HasSizes (F.sector_count log.new.flash) (F.sector_len log.new.flash) log.new.book }
-{
+) -> Result<(), Cause> {
     log.reserve()?;
     assert!(rt; tree.can_apply(node) && node.bytes.len() <= RECORD_MAX);
     let len = record_len(node);
-    assert!(rt; len <= log.book.sector_size / 4 && log.room(Room::Fresh, len));
+    assert!(rt; !log.failed() && len <= log.record_max() && log.room(Room::Fresh, len));
     log.append(Room::Fresh, node)
 }
 
@@ -153,13 +142,8 @@ fn half_record_does_not_count(rt: HostRuntime) -> Result<(), TestFail> {
 }
 
 /// Erases the oldest sector once all conditions are tested.
-fn erase<F: Flash>(rt: &impl Abort, log: &mut Log<F>, tree: &Tree) -> Result<(), Cause>
-    requires book { IsBook (F.image log.old.flash) log.old.book }
-    requires sizes { HasSizes (F.sector_count log.old.flash) (F.sector_len log.old.flash) log.old.book }
-    ensures book { OnOk result (IsBook (F.image log.new.flash) log.new.book) }
-    ensures sizes { HasSizes (F.sector_count log.new.flash) (F.sector_len log.new.flash) log.new.book }
-{
-    assert!(rt; log.oldest_dead(tree));
+fn erase<F: Flash>(rt: &impl Abort, log: &mut Log<F>, tree: &Tree) -> Result<(), Cause> {
+    assert!(rt; !log.failed() && log.oldest_dead(tree));
     log.erase_oldest(tree)
 }
 

@@ -20,7 +20,8 @@ use Rattle.jffs_run.specs.Looking.{HasSeen}
 use Rattle.jffs_text.specs.Wishes.{wishes_of}
 use Rattle.jffs_run.specs.Numbered.{numbered}
 use Rattle.jffs_run.specs.Ends.{EachFrom, AreCopies, commands_at, accepted_by, all_hands, HandedIn, HandedInAll}
-use Rattle.jffs_run.specs.Device.{Device, IsLeftBy}
+use Rattle.jffs_flash.specs.Device.{Device}
+use Rattle.jffs_core.specs.Past.{IsLeftBy}
 use Rattle.jffs_run.specs.Account.{Account}
 use Rattle.jffs_run.specs.Headline.{IsRun, requests_in, numbers_of}
 use Rattle.jffs_node.specs.declared.node.Node.{Node}

@@ -32,7 +32,8 @@ use Rattle.jffs_run.specs.declared.crew.Crew.{Crew}
 use Rattle.jffs_run.specs.Ends.{EachFrom, end_of, all_hands}
 use Rattle.jffs_run.specs.Crew.{HasHandedIn, crew_hands}
 use Rattle.jffs_run.specs.Looking.{HasSeen, IsWhole}
-use Rattle.jffs_run.specs.Device.{Device, IsLeftBy}
+use Rattle.jffs_flash.specs.Device.{Device}
+use Rattle.jffs_core.specs.Past.{IsLeftBy}
 use Rattle.jffs_run.specs.Headline.{IsRun, requests_in}
 use Rattle.jffs_run.proofs.Headlines.{account_with, is_run}
 

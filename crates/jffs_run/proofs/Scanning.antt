@@ -13,7 +13,9 @@ use Rattle.jffs_serve.specs.Answered.{RunsTo, volume_of, IsRequested, any_failur
 use Rattle.jffs_serve.specs.Replies.{Reply, AllReply, answer_in}
 use Rattle.jffs_serve.proofs.Turns.{replies_are_lawful}
 use Rattle.jffs_serve.proofs.Running.{failures_are_faults}
-use Rattle.jffs_run.specs.Device.{Device, IsLeftBy, scan_of}
+use Rattle.jffs_flash.specs.Device.{Device}
+use Rattle.jffs_log.specs.ScanFound.{scan_of}
+use Rattle.jffs_core.specs.Past.{IsLeftBy}
 use Rattle.jffs_run.specs.Headline.{requests_in}
 use Rattle.jffs_run.specs.Scanned.{RunsLeaveContents, FailedRunsLeaveHistory, RunsWithoutFaults}
 
@@ -67,7 +69,7 @@ runs_without_faults before start account fresh run same =
     let mounted = past_of fresh.scanned.log in
     let ran = run.lawful mounted mounted fresh.stands in
     let left = run.left in
-    let still : run.core.faults ≡ start.faults = sym left.faults_are ∙ (same ∙ sym fresh.faults_are) in
+    let still : run.core.faults ≡ start.faults = sym left.faults_are ∙ (same ∙ fresh.device_is.faults_are) in
     let works : run.core.failed ≡ false = elim (cases_Bool run.core.failed) [
       | inl fails ↦ absurd (let risen = ran.faults fresh.works fails in omega (arith, still, risen))
       | inr works ↦ works

@@ -9,7 +9,7 @@ use Rattle.jffs_text.specs.declared.script.Writer.{Writer}
 use Rattle.jffs_text.specs.declared.script.ReaderStatement.{ReaderStatement}
 use Rattle.jffs_run.specs.declared.outcome.Run.{Run}
 use Rattle.jffs_run.specs.declared.reader.ReaderEnd.{ReaderEnd}
-use Rattle.jffs_run.specs.Device.{Device, device_of}
+use Rattle.jffs_flash.specs.Device.{Device}
 
 -- The writers and the readers' statements of a script; what each sender had accepted, all answers, what waits, what became of each reader, what was served, and the device at the end.
 pub record Account : Type 0 where
@@ -32,5 +32,5 @@ account_of g script accepted run = record {
   waiting = run.waiting.items;
   ends = run.readers.items;
   served = run.served;
-  device = device_of g run.flash;
+  device = g.device run.flash;
 }

@@ -14,7 +14,7 @@ use Rattle.jffs_text.specs.Wishes.{wishes_of}
 use Rattle.jffs_run.specs.Numbered.{numbered}
 use Rattle.jffs_run.specs.Ends.{EachFrom, commands_at, AreCopies}
 use Rattle.jffs_run.specs.Looking.{HasSeen}
-use Rattle.jffs_run.specs.Device.{IsLeftBy}
+use Rattle.jffs_core.specs.Past.{IsLeftBy}
 use Rattle.jffs_run.specs.Account.{Account}
 
 -- the requests that were answered, in order

@@ -14,7 +14,8 @@ use Rattle.jffs_core.specs.Step.{decision}
 use Rattle.jffs_serve.specs.Answered.{volume_of}
 use Rattle.jffs_serve.specs.Replies.{Reply}
 use Rattle.jffs_serve.specs.Turns.{IsReplied, AreReplied, has_two, all_keep_two}
-use Rattle.jffs_run.specs.Device.{Device, MountsTo}
+use Rattle.jffs_flash.specs.Device.{Device}
+use Rattle.jffs_core.specs.Past.{IsFresh}
 use Rattle.jffs_run.specs.Account.{Account}
 use Rattle.jffs_run.specs.Headline.{IsRun}
 
@@ -29,6 +30,6 @@ pub record TakenWhenHeavy (start : Standing) (mounted : List Node) (before : Lis
 
 -- From a mount on that found two sectors erased, and while each answer keeps two, NoSpace is answered only so.
 abbrev pub RunsHaveRoom : Type 0
-RunsHaveRoom = (before : Device) (start : Standing) (account : Account) (fresh : MountsTo before start) (run : IsRun start account)
+RunsHaveRoom = (before : Device) (start : Standing) (account : Account) (fresh : IsFresh before start) (run : IsRun start account)
     → (first later : List Reply) (r : Reply) → has_two start ≡ true → run.replies ≡ first ++ r ∷ later → all_keep_two first ≡ true → r.step.outcome ≡ Refused NoSpace
     → TakenWhenHeavy start (past_of fresh.scanned.log) first r

@@ -4,7 +4,6 @@ pub mod Started
 pub mod Crew
 pub mod Serving
 pub mod Looking
-pub mod Device
 pub mod Account
 pub mod Headline
 pub mod Accepted

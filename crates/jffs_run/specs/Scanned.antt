@@ -11,7 +11,9 @@ use Rattle.jffs_core.specs.Finding.{FindsWith}
 use Rattle.jffs_core.specs.Run.{IsLawful}
 use Rattle.jffs_serve.specs.Answered.{volume_of, any_failure, IsRequested}
 use Rattle.jffs_serve.specs.Replies.{Reply}
-use Rattle.jffs_run.specs.Device.{Device, MountsTo, scan_of}
+use Rattle.jffs_flash.specs.Device.{Device}
+use Rattle.jffs_log.specs.ScanFound.{scan_of}
+use Rattle.jffs_core.specs.Past.{IsFresh}
 use Rattle.jffs_run.specs.Account.{Account}
 use Rattle.jffs_run.specs.Headline.{IsRun, requests_in}
 
@@ -33,15 +35,15 @@ pub record LeavesHistory (start : Standing) (mounted : List Node) (replies : Lis
 
 -- A run from a mount on, over a device that works, leaves the contents.
 abbrev pub RunsLeaveContents : Type 0
-RunsLeaveContents = (before : Device) (start : Standing) (account : Account) (fresh : MountsTo before start) (run : IsRun start account)
+RunsLeaveContents = (before : Device) (start : Standing) (account : Account) (fresh : IsFresh before start) (run : IsRun start account)
     → run.core.failed ≡ false → LeavesContents start (past_of fresh.scanned.log) (requests_in run.replies) account
 
 -- Over a device that failed, but not in an erase, it leaves the state before or after the request in hand.
 abbrev pub FailedRunsLeaveHistory : Type 0
-FailedRunsLeaveHistory = (before : Device) (start : Standing) (account : Account) (fresh : MountsTo before start) (run : IsRun start account)
+FailedRunsLeaveHistory = (before : Device) (start : Standing) (account : Account) (fresh : IsFresh before start) (run : IsRun start account)
     → run.core.failed ≡ true → account.device.erase_failed ≡ false → LeavesHistory start (past_of fresh.scanned.log) run.replies account
 
 -- Where the device's count of faults is at the end what it was at the mount, nothing was answered Device or Failed, and the run leaves the contents.
 abbrev pub RunsWithoutFaults : Type 0
-RunsWithoutFaults = (before : Device) (start : Standing) (account : Account) (fresh : MountsTo before start) (run : IsRun start account)
+RunsWithoutFaults = (before : Device) (start : Standing) (account : Account) (fresh : IsFresh before start) (run : IsRun start account)
     → account.device.faults ≡ before.faults → (any_failure account.answers ≡ false) × LeavesContents start (past_of fresh.scanned.log) (requests_in run.replies) account

@@ -13,7 +13,8 @@ use Rattle.jffs_text.specs.declared.script.Writer.{Writer}
 use Rattle.jffs_text.specs.Wishes.{wishes_of}
 use Rattle.jffs_run.specs.Numbered.{numbered}
 use Rattle.jffs_run.specs.Ends.{commands_at}
-use Rattle.jffs_run.specs.Device.{Device, MountsTo}
+use Rattle.jffs_flash.specs.Device.{Device}
+use Rattle.jffs_core.specs.Past.{IsFresh}
 use Rattle.jffs_run.specs.Account.{Account}
 use Rattle.jffs_run.specs.Headline.{IsRun}
 
@@ -35,5 +36,5 @@ FitsEnd served.Memory script accepted replies = Unit {0}
 
 -- Each run from a mount on ends so.
 abbrev pub RunsEndUnmounted : Type 0
-RunsEndUnmounted = (before : Device) (start : Standing) (account : Account) (fresh : MountsTo before start) (run : IsRun start account)
+RunsEndUnmounted = (before : Device) (start : Standing) (account : Account) (fresh : IsFresh before start) (run : IsRun start account)
     → FitsEnd account.served account.script account.accepted run.replies

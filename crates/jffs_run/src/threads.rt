@@ -8,7 +8,7 @@ ghost use Rattle.jffs_line.specs.Requests.{of, IsNumbered};
 ghost use Rattle.jffs_run.specs.Ends.{all_hands, accepted_by, end_of};
 ghost use Rattle.jffs_run.specs.Crew.{IsNewLine};
 ghost use Rattle.jffs_core.specs.Standing.{Standing};
-ghost use Rattle.jffs_run.specs.Device.{device_of, IsLeftBy, MountsTo};
+ghost use Rattle.jffs_core.specs.Past.{IsFresh, IsLeftBy};
 ghost use Rattle.jffs_run.specs.Account.{account_of};
 ghost use Rattle.jffs_run.specs.Headline.{IsRun};
 ghost use Rattle.jffs_run.specs.Accepted.{accepted_of};
@@ -134,7 +134,7 @@ fn settle_all<R: Wait, F: Flash + Drop, T: Settle, W: Wait + Drop>(
     ensures fault { IfErr result (λ fault. fault.flash ≡ None → fault.why ≡ RunWhy.Spawn) }
     ensures rest { IfOk result (λ run. (run.answers.items ≡ finished.log.side.session.core.answers) × (run.readers ≡ finished.readers) × (run.served ≡ finished.log.served)) }
     ensures settled { IfOk result (λ run. All (λ h. T.taken finished.log.side.taker (T.Of.sender h) ++ of (T.Of.sender h) run.waiting.items ≡ T.Of.accepted h) (all_hands T.Of.Hand finished.hands)) }
-    ensures left { IfOk result (λ run. IsLeftBy finished.log.side.session.core (device_of F.Flash run.flash)) }
+    ensures left { IfOk result (λ run. IsLeftBy finished.log.side.session.core (F.device run.flash)) }
     ensures numbered { IfOk result (λ _. All (λ h. IsNumbered (T.Of.accepted h)) (all_hands T.Of.Hand finished.hands)) }
     ensures others { IfOk result (λ run. (w : ℕ) → ¬ (Contains (map T.Of.sender (all_hands T.Of.Hand finished.hands)) w) → T.taken finished.log.side.taker w ++ of w run.waiting.items ≡ []) }
 {
@@ -170,7 +170,7 @@ pub fn run_threads<R: Threads + Wait + Sync, F: Flash + Send + Drop, G: Gate + S
     gate: &G,
 ) -> Result<Run<F>, RunFault<F>>
     ensures fault { IfErr result (λ fault. fault.flash ≡ None → fault.why ≡ RunWhy.Spawn) }
-    ensures run { IfOk result (λ run. (start : Standing) × MountsTo (device_of F.Flash flash) start × IsRun start (account_of F.Flash script.now (accepted_of run.accepted) run)) }
+    ensures run { IfOk result (λ run. (start : Standing) × IsFresh (F.device flash) start × IsRun start (account_of F.Flash script.now (accepted_of run.accepted) run)) }
 {
     let core = match Core::mount(alloc, flash) {
         Ok(core) => core,

@@ -50,7 +50,7 @@ fn print_mounted<W: Write>(
     let log = &mounted.log;
     print_line(mounted_text(mounted.clean), out)?;
     print_line(next_text(alloc, &mounted.limits)?.as_str(), out)?;
-    let sectors = sectors_text(alloc, log.oldest(), log.held(), log.book.sectors)?;
+    let sectors = sectors_text(alloc, log.oldest(), log.held(), log.sectors())?;
     print_line(sectors.as_str(), out)?;
     for kept in log.records().iter() {
         let live = mounted.tree.live(kept.inode, kept.version);

@@ -143,7 +143,7 @@ impl Replay {
         match &self.device {
             Device::Absent => Err(ToolFault::NoFlash),
             Device::Bare(flash) => Ok(flash.bytes()),
-            Device::Mounted(core) => Ok(core.log().flash.inner().bytes()),
+            Device::Mounted(core) => Ok(core.log().flash().inner().bytes()),
         }
     }
 

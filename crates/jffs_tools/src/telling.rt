@@ -74,7 +74,7 @@ pub(crate) fn last_place(core: &Core<FuseFlash>) -> u64
 {
     let log = core.log();
     match log.records().back() {
-        Some(kept) => place_in_image(kept.sector, log.book.sector_size, kept.place),
+        Some(kept) => place_in_image(kept.sector, log.sector_size(), kept.place),
         None => 0,
     }
 }

@@ -13,56 +13,60 @@ use Rattle.jffs_log.specs.Book.{kept}
 use Rattle.jffs_log.specs.Scan.{versions_rise}
 use Rattle.jffs_log.specs.ScanRead.{number_of_tail, used_of_tail, oldest_sector}
 use Rattle.jffs_log.specs.Room.{limits as limits_after}
-use Rattle.jffs_log.specs.ScanFound.{IsCause, greatest_inode, last_version}
+use Rattle.jffs_log.specs.ScanFound.{IsRefused, greatest_inode, last_version}
 use Rattle.jffs_log.proofs.Ring.{Numbered}
 use Rattle.jffs_log.proofs.Appended.{sizes_small}
 use Rattle.jffs_log.proofs.Results.{err_from}
 use Rattle.jffs_log.proofs.ScanSectors.{all_split}
 use Rattle.jffs_log.proofs.ScanBook.{kept_is}
-use Rattle.jffs_log.proofs.ScanFound.{answer, cause_at, found_at, geometry_refused, read_refused, oldest_refused, order_refused, tree_refused, scan_is, IsAll, log_nodes, located_in, kept_in, first_below, held_below, limits_are}
+use Rattle.jffs_log.proofs.ScanFound.{unmoved, cause_at, found_at, geometry_refused, read_refused, oldest_refused, order_refused, tree_refused, scan_is, IsAll, log_nodes, located_in, kept_in, first_below, held_below, limits_are}
 use Rattle.jffs_log.proofs.scanning.find.Goals as goal
 
 pub returns-then-not-is_geometry-clause-refused : goal.returns-then-not-is_geometry-clause-refused
 returns-then-not-is_geometry-clause-refused g c =
-    let image = g.F.Flash.image c.args.flash.now in
-    let faults = g.F.Flash.fault_count c.args.flash.now in
-    cause_at Geometry faults faults c.sectors-sectors.result _ c.sector_size-sector_size.result _ image c.sectors-sectors.ensures.count c.sector_size-sector_size.ensures
-    (geometry_refused c.sectors-sectors.result c.sector_size-sector_size.result image faults faults (false_from_ne_true _ (λ t. false≢true (c.if-not-is_geometry.ensures.1 t))) refl)
+    let image = (g.F.Flash.device c.args.flash.now).image in
+    let faults = (g.F.Flash.device c.args.flash.now).faults in
+    unmoved Geometry (g.F.Flash.device c.args.flash.now) _ refl
+    (cause_at Geometry faults faults c.sectors-sectors.result _ c.sector_size-sector_size.result _ image c.sectors-sectors.ensures.count c.sector_size-sector_size.ensures
+    (geometry_refused c.sectors-sectors.result c.sector_size-sector_size.result image faults faults (false_from_ne_true _ (λ t. false≢true (c.if-not-is_geometry.ensures.1 t))) refl))
 
 pub returns-in_err-held-clause-refused : goal.returns-in_err-held-clause-refused
 returns-in_err-held-clause-refused g c =
     let count = c.sectors-sectors.result in
     let len = c.sector_size-sector_size.result in
-    let image = g.F.Flash.image c.args.flash.now in
-    let before = g.F.Flash.fault_count c.args.flash.now in
-    let after = g.F.Flash.fault_count c.read_sectors.new.flash in
+    let image = (g.F.Flash.device c.args.flash.now).image in
+    let device = g.F.Flash.device c.args.flash.now in
+    let after = g.F.Flash.device c.read_sectors.new.flash in
     let sizes = c.if-not-is_geometry.ensures.0 refl in
-    err_from c.from_residual.result c.in_err-held.field-0.0 (λ (v : ScanWhy). IsCause v before after (answer (g.F.Flash.sector_count c.args.flash.now) (g.F.Flash.sector_len c.args.flash.now) image)) c.from_residual.ensures.1
-    (cause_at c.in_err-held.field-0.0 before after count _ len _ image c.sectors-sectors.ensures.count c.sector_size-sector_size.ensures
-    (read_refused c.in_err-held.field-0.0 count len image before after sizes c.in_err-held.ensures.refused))
+    err_from c.from_residual.result c.in_err-held.field-0.0 (λ (v : ScanWhy). IsRefused device v after) c.from_residual.ensures.1
+    (record {
+      cause = cause_at c.in_err-held.field-0.0 device.faults after.faults count _ len _ image c.sectors-sectors.ensures.count c.sector_size-sector_size.ensures
+          (read_refused c.in_err-held.field-0.0 count len image device.faults after.faults sizes c.in_err-held.ensures.refused.cause);
+      rest = c.in_err-held.ensures.refused.rest;
+    })
 
 pub returns-in_err-first-clause-refused : goal.returns-in_err-first-clause-refused
 returns-in_err-first-clause-refused g c =
     let count = c.sectors-sectors.result in
     let len = c.sector_size-sector_size.result in
-    let image = g.F.Flash.image c.args.flash.now in
-    let before = g.F.Flash.fault_count c.args.flash.now in
-    let after = g.F.Flash.fault_count c.read_sectors.new.flash in
+    let image = (g.F.Flash.device c.args.flash.now).image in
+    let device = g.F.Flash.device c.args.flash.now in
+    let after = g.F.Flash.device c.read_sectors.new.flash in
     let sizes = c.if-not-is_geometry.ensures.0 refl in
     let list = c.in_ok-held.held.items in
     let oldest : oldest_sector (map (λ (s : Numbered). s.1) list) ≡ Err c.in_err-first.field-0.0 =
     ap (λ (xs : List Numbered). oldest_sector (map (λ (s : Numbered). s.1) xs)) (sym c.deref.ensures.value) ∙ sym c.in_err-first.ensures in
-    err_from c.from_residual-in_err-first.result c.in_err-first.field-0.0 (λ (v : ScanWhy). IsCause v before after (answer (g.F.Flash.sector_count c.args.flash.now) (g.F.Flash.sector_len c.args.flash.now) image)) c.from_residual-in_err-first.ensures.1
-    (cause_at c.in_err-first.field-0.0 before after count _ len _ image c.sectors-sectors.ensures.count c.sector_size-sector_size.ensures
-    (oldest_refused c.in_err-first.field-0.0 count len image list before after sizes c.in_ok-held.ensures.read oldest c.in_ok-held.ensures.faults))
+    err_from c.from_residual-in_err-first.result c.in_err-first.field-0.0 (λ (v : ScanWhy). IsRefused device v after) c.from_residual-in_err-first.ensures.1
+    (unmoved _ device after c.in_ok-held.ensures.same (cause_at c.in_err-first.field-0.0 device.faults device.faults count _ len _ image c.sectors-sectors.ensures.count c.sector_size-sector_size.ensures
+    (oldest_refused c.in_err-first.field-0.0 count len image list device.faults device.faults sizes c.in_ok-held.ensures.read oldest refl)))
 
 pub keep_log-requires-clause-inside : goal.keep_log-requires-clause-inside
 keep_log-requires-clause-inside g c =
     let count = c.sectors-sectors.result in
     let len = c.sector_size-sector_size.result in
-    let image = g.F.Flash.image c.args.flash.now in
-    let before = g.F.Flash.fault_count c.args.flash.now in
-    let after = g.F.Flash.fault_count c.read_sectors.new.flash in
+    let image = (g.F.Flash.device c.args.flash.now).image in
+    let device = g.F.Flash.device c.args.flash.now in
+    let after = g.F.Flash.device c.read_sectors.new.flash in
     let sizes = c.if-not-is_geometry.ensures.0 refl in
     let list = c.in_ok-held.held.items in
     let oldest : Ok c.in_ok-first.first ≡ oldest_sector (map (λ (s : Numbered). s.1) list) = c.in_ok-first.ensures ∙ ap (λ (xs : List Numbered). oldest_sector (map (λ (s : Numbered). s.1) xs)) c.deref.ensures.value in
@@ -75,9 +79,9 @@ pub keep_log-requires-clause-ring : goal.keep_log-requires-clause-ring
 keep_log-requires-clause-ring g c =
     let count = c.sectors-sectors.result in
     let len = c.sector_size-sector_size.result in
-    let image = g.F.Flash.image c.args.flash.now in
-    let before = g.F.Flash.fault_count c.args.flash.now in
-    let after = g.F.Flash.fault_count c.read_sectors.new.flash in
+    let image = (g.F.Flash.device c.args.flash.now).image in
+    let device = g.F.Flash.device c.args.flash.now in
+    let after = g.F.Flash.device c.read_sectors.new.flash in
     let sizes = c.if-not-is_geometry.ensures.0 refl in
     let list = c.in_ok-held.held.items in
     let oldest : Ok c.in_ok-first.first ≡ oldest_sector (map (λ (s : Numbered). s.1) list) = c.in_ok-first.ensures ∙ ap (λ (xs : List Numbered). oldest_sector (map (λ (s : Numbered). s.1) xs)) c.deref.ensures.value in
@@ -87,9 +91,9 @@ pub overflow_cast-many : goal.overflow_cast-many
 overflow_cast-many g c =
     let count = c.sectors-sectors.result in
     let len = c.sector_size-sector_size.result in
-    let image = g.F.Flash.image c.args.flash.now in
-    let before = g.F.Flash.fault_count c.args.flash.now in
-    let after = g.F.Flash.fault_count c.read_sectors.new.flash in
+    let image = (g.F.Flash.device c.args.flash.now).image in
+    let device = g.F.Flash.device c.args.flash.now in
+    let after = g.F.Flash.device c.read_sectors.new.flash in
     let sizes = c.if-not-is_geometry.ensures.0 refl in
     let list = c.in_ok-held.held.items in
     let oldest : Ok c.in_ok-first.first ≡ oldest_sector (map (λ (s : Numbered). s.1) list) = c.in_ok-first.ensures ∙ ap (λ (xs : List Numbered). oldest_sector (map (λ (s : Numbered). s.1) xs)) c.deref.ensures.value in
@@ -105,9 +109,9 @@ pub overflow_cast-book : goal.overflow_cast-book
 overflow_cast-book g c =
     let count = c.sectors-sectors.result in
     let len = c.sector_size-sector_size.result in
-    let image = g.F.Flash.image c.args.flash.now in
-    let before = g.F.Flash.fault_count c.args.flash.now in
-    let after = g.F.Flash.fault_count c.read_sectors.new.flash in
+    let image = (g.F.Flash.device c.args.flash.now).image in
+    let device = g.F.Flash.device c.args.flash.now in
+    let after = g.F.Flash.device c.read_sectors.new.flash in
     let sizes = c.if-not-is_geometry.ensures.0 refl in
     let list = c.in_ok-held.held.items in
     let oldest : Ok c.in_ok-first.first ≡ oldest_sector (map (λ (s : Numbered). s.1) list) = c.in_ok-first.ensures ∙ ap (λ (xs : List Numbered). oldest_sector (map (λ (s : Numbered). s.1) xs)) c.deref.ensures.value in
@@ -119,9 +123,9 @@ pub returns-in_err-numbers-clause-refused : goal.returns-in_err-numbers-clause-r
 returns-in_err-numbers-clause-refused g c =
     let count = c.sectors-sectors.result in
     let len = c.sector_size-sector_size.result in
-    let image = g.F.Flash.image c.args.flash.now in
-    let before = g.F.Flash.fault_count c.args.flash.now in
-    let after = g.F.Flash.fault_count c.read_sectors.new.flash in
+    let image = (g.F.Flash.device c.args.flash.now).image in
+    let device = g.F.Flash.device c.args.flash.now in
+    let after = g.F.Flash.device c.read_sectors.new.flash in
     let sizes = c.if-not-is_geometry.ensures.0 refl in
     let list = c.in_ok-held.held.items in
     let oldest : Ok c.in_ok-first.first ≡ oldest_sector (map (λ (s : Numbered). s.1) list) = c.in_ok-first.ensures ∙ ap (λ (xs : List Numbered). oldest_sector (map (λ (s : Numbered). s.1) xs)) c.deref.ensures.value in
@@ -130,17 +134,17 @@ returns-in_err-numbers-clause-refused g c =
     let nodes = c.in_ok-nodes.nodes.items in
     let all : IsAll count len image c.in_ok-first.first held nodes = record { sizes = sizes; list = list; read = c.in_ok-held.ensures.read; log = log; nodes_are = c.in_ok-nodes.ensures.value } in
     let refused = c.in_err-numbers.ensures.refused in
-    err_from c.from_residual-in_err-numbers.result c.in_err-numbers.field-0.0 (λ (v : ScanWhy). IsCause v before after (answer (g.F.Flash.sector_count c.args.flash.now) (g.F.Flash.sector_len c.args.flash.now) image)) c.from_residual-in_err-numbers.ensures.1
-    (cause_at c.in_err-numbers.field-0.0 before after count _ len _ image c.sectors-sectors.ensures.count c.sector_size-sector_size.ensures
-    (order_refused count len image c.in_ok-first.first held nodes all c.in_err-numbers.field-0.0 before after (refused.0, ap versions_rise (sym c.deref-5.ensures.value) ∙ refused.1) c.in_ok-held.ensures.faults))
+    err_from c.from_residual-in_err-numbers.result c.in_err-numbers.field-0.0 (λ (v : ScanWhy). IsRefused device v after) c.from_residual-in_err-numbers.ensures.1
+    (unmoved _ device after c.in_ok-held.ensures.same (cause_at c.in_err-numbers.field-0.0 device.faults device.faults count _ len _ image c.sectors-sectors.ensures.count c.sector_size-sector_size.ensures
+    (order_refused count len image c.in_ok-first.first held nodes all c.in_err-numbers.field-0.0 device.faults device.faults (refused.0, ap versions_rise (sym c.deref-5.ensures.value) ∙ refused.1) refl)))
 
 pub returns-in_err-tree-clause-refused : goal.returns-in_err-tree-clause-refused
 returns-in_err-tree-clause-refused g c =
     let count = c.sectors-sectors.result in
     let len = c.sector_size-sector_size.result in
-    let image = g.F.Flash.image c.args.flash.now in
-    let before = g.F.Flash.fault_count c.args.flash.now in
-    let after = g.F.Flash.fault_count c.read_sectors.new.flash in
+    let image = (g.F.Flash.device c.args.flash.now).image in
+    let device = g.F.Flash.device c.args.flash.now in
+    let after = g.F.Flash.device c.read_sectors.new.flash in
     let sizes = c.if-not-is_geometry.ensures.0 refl in
     let list = c.in_ok-held.held.items in
     let oldest : Ok c.in_ok-first.first ≡ oldest_sector (map (λ (s : Numbered). s.1) list) = c.in_ok-first.ensures ∙ ap (λ (xs : List Numbered). oldest_sector (map (λ (s : Numbered). s.1) xs)) c.deref.ensures.value in
@@ -150,17 +154,17 @@ returns-in_err-tree-clause-refused g c =
     let all : IsAll count len image c.in_ok-first.first held nodes = record { sizes = sizes; list = list; read = c.in_ok-held.ensures.read; log = log; nodes_are = c.in_ok-nodes.ensures.value } in
     let rise = ap versions_rise (sym c.deref-5.ensures.value) ∙ c.in_ok-numbers.ensures.rise in
     let refused = subst (λ (xs : List Node). (c.in_err-tree.field-0.0 ≡ Memory) ⊎ ((c.in_err-tree.field-0.0 ≡ BadTree) × (makes_tree (reverse xs) ≡ false))) c.deref-6.ensures.value c.in_err-tree.ensures.refused in
-    err_from c.from_residual-in_err-tree.result c.in_err-tree.field-0.0 (λ (v : ScanWhy). IsCause v before after (answer (g.F.Flash.sector_count c.args.flash.now) (g.F.Flash.sector_len c.args.flash.now) image)) c.from_residual-in_err-tree.ensures.1
-    (cause_at c.in_err-tree.field-0.0 before after count _ len _ image c.sectors-sectors.ensures.count c.sector_size-sector_size.ensures
-    (tree_refused count len image c.in_ok-first.first held nodes all c.in_err-tree.field-0.0 before after rise refused c.in_ok-held.ensures.faults))
+    err_from c.from_residual-in_err-tree.result c.in_err-tree.field-0.0 (λ (v : ScanWhy). IsRefused device v after) c.from_residual-in_err-tree.ensures.1
+    (unmoved _ device after c.in_ok-held.ensures.same (cause_at c.in_err-tree.field-0.0 device.faults device.faults count _ len _ image c.sectors-sectors.ensures.count c.sector_size-sector_size.ensures
+    (tree_refused count len image c.in_ok-first.first held nodes all c.in_err-tree.field-0.0 device.faults device.faults rise refused refl)))
 
 pub returns-clause-found : goal.returns-clause-found
 returns-clause-found g c =
     let count = c.sectors-sectors.result in
     let len = c.sector_size-sector_size.result in
-    let image = g.F.Flash.image c.args.flash.now in
-    let before = g.F.Flash.fault_count c.args.flash.now in
-    let after = g.F.Flash.fault_count c.read_sectors.new.flash in
+    let image = (g.F.Flash.device c.args.flash.now).image in
+    let device = g.F.Flash.device c.args.flash.now in
+    let after = g.F.Flash.device c.read_sectors.new.flash in
     let sizes = c.if-not-is_geometry.ensures.0 refl in
     let list = c.in_ok-held.held.items in
     let oldest : Ok c.in_ok-first.first ≡ oldest_sector (map (λ (s : Numbered). s.1) list) = c.in_ok-first.ensures ∙ ap (λ (xs : List Numbered). oldest_sector (map (λ (s : Numbered). s.1) xs)) c.deref.ensures.value in

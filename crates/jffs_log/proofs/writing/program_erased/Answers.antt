@@ -1,7 +1,10 @@
-use Rattle.std.proofs.Common.{◌∙◌, arith}
+use Rattle.std.proofs.Common.{ap, ◌∙◌, arith}
+use Rattle.jffs_flash.specs.Device.{with_image}
 use Rattle.jffs_log.proofs.Gate.{programmed_erased}
 use Rattle.jffs_log.proofs.writing.program_erased.Goals as goal
 
-pub returns-clause-done : goal.returns-clause-done
-returns-clause-done g c =
-    c.in_ok-program.ensures.done ∙ programmed_erased c.args.at c.args.bytes.now (g.F.Flash.image c.args.flash.now) c.requires.erased (λ i. omega (arith, c.type_inv.bytes i))
+pub returns : goal.returns
+returns g c =
+    let old = g.F.Flash.device c.args.flash.now in
+    c.in_ok-program.ensures
+    ∙ ap (with_image old) (programmed_erased c.args.at c.args.bytes.now old.image c.requires.erased (λ i. omega (arith, c.type_inv.bytes i)))

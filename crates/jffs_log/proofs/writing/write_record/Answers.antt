@@ -1,38 +1,48 @@
 use Rattle.std.proofs.Common.{◌≡◌, ℕ, ◌+◌, List, [], ◌∷◌, set, ap, subst, ◌∙◌}
-use Rattle.std.proofs.lemmas.Result.{on_ok_weaker, IfErr-weaker}
+use Rattle.jffs_node.specs.Record.{spelling}
+use Rattle.jffs_flash.specs.Device.{Device, with_image, Fails}
 use Rattle.jffs_flash.specs.Image.{replaced, programmed, IsHalfProgrammed}
 use Rattle.jffs_log.specs.Gate.{IsWritten}
 use Rattle.jffs_log.proofs.Gate.{opened, first_half, second_whole, second_half}
-use Rattle.jffs_log.proofs.Results.{if_err}
+use Rattle.jffs_log.proofs.Results.{match_err, match_weaker}
 use Rattle.jffs_log.proofs.writing.write_record.Goals as goal
 
-pub returns-in_err-program_erased-clause-written : goal.returns-in_err-program_erased-clause-written
-returns-in_err-program_erased-clause-written g c =
+pub returns-in_err-program_erased : goal.returns-in_err-program_erased
+returns-in_err-program_erased g c =
     let n = c.args.node.now in
-    let old = g.F.Flash.image c.args.flash.now in
-    let new = g.F.Flash.image c.program_erased.new.flash in
+    let at = c.args.at in
+    let old = g.F.Flash.device c.args.flash.now in
+    let new = g.F.Flash.device c.program_erased.new.flash in
+    let fails = c.in_err-program_erased.ensures in
     let open_gate : set c.encode_into.new.out 7 255 ≡ opened n = ap (λ (xs : List ℕ). set xs 7 255) c.encode_into.ensures in
-    if_err c.from_residual.result (IsWritten c.args.at n old new)
-    (first_half c.args.at n old new c.requires.lawful c.requires.erased (subst (λ (xs : List ℕ). IsHalfProgrammed c.args.at xs old new) open_gate c.in_err-program_erased.ensures.half))
+    let half = subst (λ (xs : List ℕ). IsHalfProgrammed at xs old.image new.image) open_gate fails.left in
+    let written : Fails (IsWritten at n old.image) old new = record {
+      left = first_half at n old.image new.image c.requires.lawful c.requires.free.erased half;
+      faults = fails.faults;
+      rest = fails.rest;
+    } in
+    match_err c.from_residual.result c.in_err-program_erased.field-0.0 (new ≡ with_image old (replaced at (spelling n) old.image)) (Fails (IsWritten at n old.image) old new)
+    c.from_residual.ensures.1 written
 
-pub returns-clause-done : goal.returns-clause-done
-returns-clause-done g c =
+pub returns : goal.returns
+returns g c =
     let n = c.args.node.now in
-    let old = g.F.Flash.image c.args.flash.now in
-    let mid = g.F.Flash.image c.program_erased.new.flash in
-    let new = g.F.Flash.image c.program.new.self in
+    let at = c.args.at in
+    let old = g.F.Flash.device c.args.flash.now in
+    let mid = g.F.Flash.device c.program_erased.new.flash in
+    let new = g.F.Flash.device c.program.new.self in
     let open_gate : set c.encode_into.new.out 7 255 ≡ opened n = ap (λ (xs : List ℕ). set xs 7 255) c.encode_into.ensures in
-    let first : mid ≡ replaced c.args.at (opened n) old = c.in_ok-program_erased.ensures.done ∙ ap (λ (xs : List ℕ). replaced c.args.at xs old) open_gate in
-    on_ok_weaker c.program.result (λ e. e ∙ ap (programmed (c.args.at + 7) (0 ∷ [])) first ∙ second_whole c.args.at n old c.requires.lawful c.requires.inside)
-    c.program.ensures.done
-
-pub returns-clause-written : goal.returns-clause-written
-returns-clause-written g c =
-    let n = c.args.node.now in
-    let old = g.F.Flash.image c.args.flash.now in
-    let mid = g.F.Flash.image c.program_erased.new.flash in
-    let new = g.F.Flash.image c.program.new.self in
-    let open_gate : set c.encode_into.new.out 7 255 ≡ opened n = ap (λ (xs : List ℕ). set xs 7 255) c.encode_into.ensures in
-    let first : mid ≡ replaced c.args.at (opened n) old = c.in_ok-program_erased.ensures.done ∙ ap (λ (xs : List ℕ). replaced c.args.at xs old) open_gate in
-    IfErr-weaker c.program.result _ _ (λ _ h. second_half c.args.at n old new c.requires.lawful c.requires.inside (subst (λ (xs : List ℕ). IsHalfProgrammed (c.args.at + 7) (0 ∷ []) xs new) first h))
-    c.program.ensures.half
+    let first : mid ≡ with_image old (replaced at (opened n) old.image) =
+    c.in_ok-program_erased.ensures ∙ ap (λ (xs : List ℕ). with_image old (replaced at xs old.image)) open_gate in
+    let Done : Device → Type 0 = λ d. new ≡ with_image d (programmed (at + 7) (0 ∷ []) d.image) in
+    let Failed : Device → Type 0 = λ d. Fails (IsHalfProgrammed (at + 7) (0 ∷ []) d.image) d new in
+    match_weaker c.program.result (Done mid) (new ≡ with_image old (replaced at (spelling n) old.image)) (Failed mid) (Fails (IsWritten at n old.image) old new)
+    (λ e. subst Done first e ∙ ap (with_image old) (second_whole at n old.image c.requires.lawful c.requires.free.inside))
+    (λ h.
+    let fails = subst Failed first h in
+    record {
+      left = second_half at n old.image new.image c.requires.lawful c.requires.free.inside fails.left;
+      faults = fails.faults;
+      rest = fails.rest;
+    })
+    c.program.ensures

@@ -13,33 +13,33 @@ use Rattle.jffs_core.proofs.Told.{node_told}
 use Rattle.jffs_core.proofs.Trees.{tells_node, tells_none}
 use Rattle.jffs_core.proofs.Erasing.{held_most}
 use Rattle.jffs_core.proofs.mounted.Core.answer_with_node.Goals as goal
-use Rattle.jffs_core.proofs.mounted.Core.answer_with_node.Goals.{then-self, else-self}
+use Rattle.jffs_core.proofs.mounted.Core.answer_with_node.Goals.{then-failed, else-failed}
 
 pub returns-clause-step : goal.returns-clause-step
 returns-clause-step g c = λ mounted past stands.
     let q = c.args.request in
     let old : Standing = c.args.self.now in
-    let a : Answered = c.if-self.answered in
-    let acted : HasAnswered past old c.if-self.self q a.outcome a.node =
-    elim c.if-self.branch [
-      | then-self w ↦
-          let fails = ap (λ (v : Standing). v.failed) (sym c.self.view_is) ∙ w.if-self.true in
+    let a : Answered = c.if-failed.answered in
+    let acted : HasAnswered past old c.if-failed.self q a.outcome a.node =
+    elim c.if-failed.branch [
+      | then-failed w ↦
+          let fails = ap (λ (v : Standing). v.failed) (sym c.self.view_is) ∙ sym c.failed.ensures ∙ w.if-failed.true in
           subst (λ (v : Standing). HasAnswered past old v q a.outcome a.node) (sym w.self-is)
           (subst (λ (b : Answered). HasAnswered past old old q b.outcome b.node) (sym w.answered-is) (failed_answer past old q fails stands.stands))
-      | else-self w ↦
-          let works = ap (λ (v : Standing). v.failed) (sym c.self.view_is) ∙ w.if-self.false in
+      | else-failed w ↦
+          let works = ap (λ (v : Standing). v.failed) (sym c.self.view_is) ∙ sym c.failed.ensures ∙ w.if-failed.false in
           subst (λ (v : Standing). HasAnswered past old v q a.outcome a.node) (sym w.self-is)
           (subst (λ (b : Answered). HasAnswered past old w.act-answered.new.self q b.outcome b.node) (sym w.answered-is) (w.act-answered.ensures.acted past (stands.stands.working works)))
     ] in
-    answered q.writer q.seq a.outcome a.node mounted past old c.if-self.self c.keep_answer.new.self q stands.grown acted c.keep_answer.ensures.kept
+    answered q.writer q.seq a.outcome a.node mounted past old c.if-failed.self c.keep_answer.new.self q stands.grown acted c.keep_answer.ensures.kept
 
 pub returns-clause-node : goal.returns-clause-node
 returns-clause-node g c =
-    elim c.if-self.branch [
-      | then-self w ↦ subst (λ (a : Answered). HasNode a.outcome a.node) (sym w.answered-is) refl
-      | else-self w ↦
+    elim c.if-failed.branch [
+      | then-failed w ↦ subst (λ (a : Answered). HasNode a.outcome a.node) (sym w.answered-is) refl
+      | else-failed w ↦
           let q = c.args.request in
-          let past = c.self.invariant.past w.if-self.false in
+          let past = c.self.invariant.past (sym c.failed.ensures ∙ w.if-failed.false) in
           let known = subst (λ (v : Standing). Knows past.0 v) c.self.view_is past.1 in
           let acted = w.act-answered.ensures.acted past.0 known in
           subst (λ (a : Answered). HasNode a.outcome a.node) (sym w.answered-is) (node_told _ q _ acted.after _ acted.step acted.own)
@@ -48,20 +48,20 @@ returns-clause-node g c =
 pub returns-clause-failed : goal.returns-clause-failed
 returns-clause-failed g c = λ fails.
     let q = c.args.request in
-    elim c.if-self.branch [
-      | then-self w ↦ subst (λ (v : Standing). KeepsAnswer q.writer q.seq c.if-self.answered.outcome v c.keep_answer.new.self) w.self-is c.keep_answer.ensures.kept
-      | else-self w ↦ absurd (both_ways c.args.self.now.failed (ap (λ (v : Standing). v.failed) (sym c.self.view_is) ∙ w.if-self.false) fails)
+    elim c.if-failed.branch [
+      | then-failed w ↦ subst (λ (v : Standing). KeepsAnswer q.writer q.seq c.if-failed.answered.outcome v c.keep_answer.new.self) w.self-is c.keep_answer.ensures.kept
+      | else-failed w ↦ absurd (both_ways c.args.self.now.failed (ap (λ (v : Standing). v.failed) (sym c.self.view_is) ∙ sym c.failed.ensures ∙ w.if-failed.false) fails)
     ]
 
 pub returns-clause-erases : goal.returns-clause-erases
 returns-clause-erases g c =
     let old : Standing = c.args.self.now in
-    let middle : Standing = c.if-self.self in
+    let middle : Standing = c.if-failed.self in
     let kept = ap (λ (v : Standing). v.book) c.keep_answer.ensures.kept in
     let so_far : (middle.book.erases ≤ old.book.erases + old.book.held) × (middle.book.sectors ≡ old.book.sectors) =
-    elim c.if-self.branch [
-      | then-self w ↦ let erases = ap (λ (v : Standing). v.book.erases) w.self-is in (omega arith, ap (λ (v : Standing). v.book.sectors) w.self-is)
-      | else-self w ↦
+    elim c.if-failed.branch [
+      | then-failed w ↦ let erases = ap (λ (v : Standing). v.book.erases) w.self-is in (omega arith, ap (λ (v : Standing). v.book.sectors) w.self-is)
+      | else-failed w ↦
           let erases = ap (λ (v : Standing). v.book.erases) w.self-is in
           let done = w.act-answered.ensures.erases in
           (omega arith, ap (λ (v : Standing). v.book.sectors) w.self-is ∙ sym w.act-answered.ensures.sizes.0)
@@ -75,12 +75,12 @@ returns-clause-erases g c =
 pub returns-clause-few : goal.returns-clause-few
 returns-clause-few g c =
     let kept = ap (λ (v : Standing). v.book.erases) c.keep_answer.ensures.kept in
-    elim c.if-self.branch [
-      | then-self w ↦ let same = ap (λ (v : Standing). v.book.erases) w.self-is in omega arith
-      | else-self w ↦
+    elim c.if-failed.branch [
+      | then-failed w ↦ let same = ap (λ (v : Standing). v.book.erases) w.self-is in omega arith
+      | else-failed w ↦
           let v = c.self.inside in
-          let past = c.self.invariant.past w.if-self.false in
-          let low = held_most past.0 (g.F.Flash.image v.log.flash) v.log.book v.tree v.limits v.clean (c.self.invariant.book w.if-self.false) past.1 in
+          let past = c.self.invariant.past (sym c.failed.ensures ∙ w.if-failed.false) in
+          let low = held_most past.0 v.log.device.image v.log.book v.tree v.limits v.clean (c.self.invariant.book (sym c.failed.ensures ∙ w.if-failed.false)) past.1 in
           let few : c.args.self.now.book.held ≤ c.args.self.now.book.sectors = subst (λ (v : Standing). v.book.held ≤ v.book.sectors) c.self.view_is low in
           let same = ap (λ (v : Standing). v.book.erases) w.self-is in
           let erases = w.act-answered.ensures.erases in
@@ -91,18 +91,18 @@ pub returns-clause-tree : goal.returns-clause-tree
 returns-clause-tree g c =
     let q = c.args.request in
     let old : Standing = c.args.self.now in
-    let middle : Standing = c.if-self.self in
+    let middle : Standing = c.if-failed.self in
     let new : Standing = c.keep_answer.new.self in
-    let a : Answered = c.if-self.answered in
-    elim c.if-self.branch [
-      | then-self w ↦
-          let fails = ap (λ (v : Standing). v.failed) (sym c.self.view_is) ∙ w.if-self.true in
+    let a : Answered = c.if-failed.answered in
+    elim c.if-failed.branch [
+      | then-failed w ↦
+          let fails = ap (λ (v : Standing). v.failed) (sym c.self.view_is) ∙ sym c.failed.ensures ∙ w.if-failed.true in
           let none : a.node ≡ None = ap (λ (b : Answered). b.node) w.answered-is in
           subst (λ (n : Option Node). TellsNode old new n) (sym none)
           (tells_none old new q.writer q.seq a.outcome fails (subst (λ (v : Standing). KeepsAnswer q.writer q.seq a.outcome v new) w.self-is c.keep_answer.ensures.kept))
-      | else-self w ↦
-          let works = ap (λ (v : Standing). v.failed) (sym c.self.view_is) ∙ w.if-self.false in
-          let past = c.self.invariant.past w.if-self.false in
+      | else-failed w ↦
+          let works = ap (λ (v : Standing). v.failed) (sym c.self.view_is) ∙ sym c.failed.ensures ∙ w.if-failed.false in
+          let past = c.self.invariant.past (sym c.failed.ensures ∙ w.if-failed.false) in
           let known = subst (λ (v : Standing). Knows past.0 v) c.self.view_is past.1 in
           let acted : HasAnswered past.0 old middle q a.outcome a.node =
           subst (λ (v : Standing). HasAnswered past.0 old v q a.outcome a.node) (sym w.self-is)

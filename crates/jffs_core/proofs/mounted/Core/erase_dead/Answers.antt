@@ -9,7 +9,7 @@ use Rattle.jffs_core.proofs.mounted.Core.erase_dead.Goals as goal
 
 pub returns-clause-erased : goal.returns-clause-erased
 returns-clause-erased g c =
-    let works = ap (λ (v : Standing). v.failed) (sym c.self.view_is) ∙ c.if-self.false in
+    let works = ap (λ (v : Standing). v.failed) (sym c.self.view_is) ∙ sym c.failed.ensures ∙ c.if-failed.false in
     IfOk-weaker c.erase_while_dead.result _ _
     (λ count h mounted past s.
     let e = h past (let k = s.stands in k.working works) in
@@ -26,15 +26,15 @@ returns-clause-erased g c =
 
 pub returns-clause-stopped : goal.returns-clause-stopped
 returns-clause-stopped g c =
-    let works = ap (λ (v : Standing). v.failed) (sym c.self.view_is) ∙ c.if-self.false in
+    let works = ap (λ (v : Standing). v.failed) (sym c.self.view_is) ∙ sym c.failed.ensures ∙ c.if-failed.false in
     err_both c.erase_while_dead.result _ _ _
     (λ cause h device mounted past s. device_stop mounted past cause c.args.self.now c.erase_while_dead.new.self works s device (h past (let k = s.stands in k.working works)))
     c.erase_while_dead.ensures.stopped c.erase_while_dead.ensures.device
 
 pub returns-clause-tree : goal.returns-clause-tree
 returns-clause-tree g c =
-    let works = ap (λ (v : Standing). v.failed) (sym c.self.view_is) ∙ c.if-self.false in
-    let past = c.self.invariant.past c.if-self.false in
+    let works = ap (λ (v : Standing). v.failed) (sym c.self.view_is) ∙ sym c.failed.ensures ∙ c.if-failed.false in
+    let past = c.self.invariant.past (sym c.failed.ensures ∙ c.if-failed.false) in
     let known = subst (λ (v : Standing). Knows past.0 v) c.self.view_is past.1 in
     let done = c.erase_while_dead.ensures in
     tree_kept past.0 c.args.self.now c.erase_while_dead.new.self c.erase_while_dead.result works known done.erased done.stopped done.device

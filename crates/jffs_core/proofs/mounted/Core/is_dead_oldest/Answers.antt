@@ -8,7 +8,7 @@ use Rattle.jffs_core.proofs.mounted.Core.is_dead_oldest.Goals as goal
 pub returns : goal.returns
 returns g c =
     let works = ap (λ (v : Standing). v.failed) c.self.view_is ∙ c.requires.working in
-    let many = held_is (g.F.Flash.image c.self.inside.log.flash) c.self.inside.log.book (c.self.invariant.book works) in (
+    let many = held_is c.self.inside.log.device.image c.self.inside.log.book (c.self.invariant.book works) in (
       λ yes.
           let d = c.oldest_dead.ensures.0 yes in
           record {

@@ -11,7 +11,7 @@ use Rattle.jffs_core.proofs.mounted.Core.make_room.Goals as goal
 pub loop-turn-init : goal.loop-turn-init
 loop-turn-init g c =
     let works = ap (λ (v : Standing). v.failed) c.self.view_is ∙ c.requires.working in
-    let many = held_is (g.F.Flash.image c.self.inside.log.flash) c.self.inside.log.book (c.self.invariant.book works) in
+    let many = held_is c.self.inside.log.device.image c.self.inside.log.book (c.self.invariant.book works) in
     let is = c.held-turn-end.ensures in
     turning_begins c.args.len _ c.args.self.now c.requires.working
     (subst (λ (v : Standing). c.held-turn-end.result - 0 ≡ length (layout_in v.image v.book).sectors) c.self.view_is (omega arith))

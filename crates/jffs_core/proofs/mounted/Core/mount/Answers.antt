@@ -1,14 +1,17 @@
-use Rattle.std.proofs.Common.{refl}
+use Rattle.std.proofs.Common.{refl, sym, ap}
+use Rattle.jffs_flash.specs.Device.{Device}
 use Rattle.jffs_core.proofs.Mounting.{found_book, found_fresh}
 use Rattle.jffs_core.proofs.mounted.Core.mount.Goals as goal
 
 pub invariant_of-result : goal.invariant_of-result
-invariant_of-result g c =
-    let m = c.in_ok-log.field-0 in
-    let e = c.in_ok-log.ensures in
-    found_book _ _ _ _ _ _ m.log.book m.tree m.clean m.limits e.found e.sectors e.size e.image
+invariant_of-result g c = found_book _ _ _ _ _ c.in_ok-log.ensures.found
 
 pub returns : goal.returns
 returns g c =
-    let e = c.in_ok-log.ensures in
-    record { mounted = found_fresh _ _ _ _ _ _ e.found e.image e.faults e.erase_failed refl refl c.new.ensures.items }
+    let m = c.in_ok-log.ensures.found in
+    let same = sym m.device_is in
+    record {
+      mounted = found_fresh _ _ m.found
+          (record { sizes = m.found.sizes; image_is = ap (λ (d : Device). d.image) same; faults_are = ap (λ (d : Device). d.faults) same; erases_are = ap (λ (d : Device). d.erase_failed) same })
+          m.works refl c.new.ensures.items;
+    }

@@ -1,98 +1,97 @@
-use Rattle.std.proofs.Common.{◌≡◌, ℕ, ◌+◌, ◌-◌, ◌*◌, List, [], ◌∷◌, ◌++◌, sym, ap, subst, ◌∙◌, arith}
-use Rattle.jffs_node.specs.Record.{spelling, record_len}
-use Rattle.jffs_flash.specs.Image.{window, replaced}
-use Rattle.jffs_log.specs.declared.book.Kept.{Kept}
-use Rattle.jffs_log.specs.Book.{IsCut, IsKept, kept, placed_at}
-use Rattle.jffs_log.specs.Gate.{IsWritten}
-use Rattle.jffs_log.specs.Live.{live_log}
-use Rattle.jffs_log.specs.Image.{is_clean}
-use Rattle.jffs_log.specs.Volume.{sectors_in}
-use Rattle.jffs_log.specs.Cleaning.{layout_of}
-use Rattle.jffs_log.proofs.Layouts.{layout_next}
-use Rattle.jffs_log.proofs.Ring.{at_once}
-use Rattle.jffs_log.proofs.Appended.{kept_inside, next_ready, next_appended, next_cut}
+use Rattle.std.proofs.Common.{◌≡◌, ℕ, ◌+◌, ◌≤◌, refl, sym, ap, subst, ◌∙◌, arith}
+use Rattle.jffs_node.specs.declared.node.Node.{Node}
+use Rattle.jffs_tree.specs.declared.wish.Cause.{Cause}
+use Rattle.jffs_log.specs.Book.{layout_in}
+use Rattle.jffs_log.specs.LogState.{LogState, FitsIn, AppendedAt, AppendFailedAt}
+use Rattle.jffs_log.specs.Cleaning.{in_next}
+use Rattle.jffs_log.specs.Ring.{IsAt}
+use Rattle.jffs_log.proofs.Appended.{kept_inside}
+use Rattle.jffs_log.proofs.Seen.{told, only_image, same_sizes}
+use Rattle.jffs_log.proofs.NextPut.{next_is_ready, next_may_write, next_fails, next_book, next_added, next_layout, next_clean}
+use Rattle.jffs_log.proofs.Weighed.{records_few}
 use Rattle.jffs_log.proofs.log.Log.append_to_next.Goals as goal
 
-start : (at : ℕ) → at ≡ at + 0
-start at = omega arith
+-- the record fits the next sector of the log inside, and there is one
+room_inside : (inside seen : LogState) (n : _) → inside ≡ seen → FitsIn seen.book.sector_size seen.book.sector_size n → seen.book.held + 2 ≤ seen.book.sectors
+    → FitsIn inside.book.sector_size inside.book.sector_size n × (inside.book.held + 2 ≤ inside.book.sectors)
+room_inside inside seen n same fits room =
+    subst (λ (v : LogState). FitsIn v.book.sector_size v.book.sector_size n × (v.book.held + 2 ≤ v.book.sectors)) (sym same) (fits, room)
+
+-- what is said of the log inside is said of it by its other name
+done_seen : (inside seen new : LogState) (n : Node) → inside ≡ seen
+    → (k : ℕ) × IsAt inside.book.first inside.book.sectors inside.book.held k × AppendedAt k 0 (in_next inside.book.sector_size n (layout_in inside.device.image inside.book)) n inside new
+    → (k : ℕ) × IsAt seen.book.first seen.book.sectors seen.book.held k × AppendedAt k 0 (in_next seen.book.sector_size n (layout_in seen.device.image seen.book)) n seen new
+done_seen inside seen new n same h = subst (λ (v : LogState). (k : ℕ) × IsAt v.book.first v.book.sectors v.book.held k × AppendedAt k 0 (in_next v.book.sector_size n (layout_in v.device.image v.book)) n v new) same h
+
+failed_seen : (inside seen new : LogState) (n : Node) (why : Cause) → inside ≡ seen → (k : ℕ) × AppendFailedAt k 0 n why inside new → (k : ℕ) × AppendFailedAt k 0 n why seen new
+failed_seen inside seen new n why same h = subst (λ (v : LogState). (k : ℕ) × AppendFailedAt k 0 n why v new) same h
 
 pub sector_at-next-requires-clause-first_in : goal.sector_at-next-requires-clause-first_in
 sector_at-next-requires-clause-first_in g c =
-    let b = c.args.self.now.book in
-    (kept_inside b.sectors b.sector_size (g.F.Flash.image c.args.self.now.flash) b.first b.held b.tail b.used b.free b.records.items c.requires.book).0
+    (kept_inside _ _ _ _ _ _ _ _ _ (told _ _ c.self.view_is c.self.invariant c.requires.working)).0
 
 pub overflow_mul-next : goal.overflow_mul-next
 overflow_mul-next g c =
-    let b = c.args.self.now.book in
-    let ready = next_ready b.sectors b.sector_size (g.F.Flash.image c.args.self.now.flash) b.first b.held b.tail b.used b.free c.sector_at-next.result b.records.items c.args.node.now c.requires.book c.requires.erased c.sector_at-next.ensures c.requires.fits in
-    omega (arith, ready.inside, ready.short)
+    let may = room_inside _ _ _ c.self.view_is c.requires.fits c.requires.erased in
+    let there = next_is_ready c.self.inside.book (g.F.Flash.device c.self.inside.flash) (told _ _ c.self.view_is c.self.invariant c.requires.working) c.args.node.now may.0 may.1 c.sector_at-next.result c.sector_at-next.ensures in
+    omega (arith, there.inside, there.short)
 
-pub write_record-requires-clause-inside : goal.write_record-requires-clause-inside
-write_record-requires-clause-inside g c =
-    let b = c.args.self.now.book in
-    let ready = next_ready b.sectors b.sector_size (g.F.Flash.image c.args.self.now.flash) b.first b.held b.tail b.used b.free c.sector_at-next.result b.records.items c.args.node.now c.requires.book c.requires.erased c.sector_at-next.ensures c.requires.fits in
-    omega (arith, ready.inside)
+pub write_record-requires : goal.write_record-requires
+write_record-requires g c =
+    let may = room_inside _ _ _ c.self.view_is c.requires.fits c.requires.erased in
+    next_may_write c.self.inside.book (g.F.Flash.device c.self.inside.flash) (told _ _ c.self.view_is c.self.invariant c.requires.working) c.args.node.now may.0 may.1 c.sector_at-next.result c.sector_at-next.ensures
 
-pub write_record-requires-clause-erased : goal.write_record-requires-clause-erased
-write_record-requires-clause-erased g c =
-    let b = c.args.self.now.book in
-    let old = g.F.Flash.image c.args.self.now.flash in
-    let ready = next_ready b.sectors b.sector_size old b.first b.held b.tail b.used b.free c.sector_at-next.result b.records.items c.args.node.now c.requires.book c.requires.erased c.sector_at-next.ensures c.requires.fits in
-    ap (λ (k : ℕ). window k (record_len c.args.node.now) old) (start (c.sector_at-next.result * b.sector_size)) ∙ ready.erased
+pub invariant_of-self : goal.invariant_of-self
+invariant_of-self g c =
+    let may = room_inside _ _ _ c.self.view_is c.requires.fits c.requires.erased in
+    let h = told _ _ c.self.view_is c.self.invariant c.requires.working in
+    let b = c.self.inside.book in
+    let room = may.1 in
+    let book = next_book b (g.F.Flash.device c.self.inside.flash) h c.args.node.now may.0 may.1 c.sector_at-next.result c.sector_at-next.ensures _ c.in-Ok.ensures
+    c.record_len-len.result _ c.record_len-len.ensures c.push_back_reserved.ensures.items in
+    record {
+      sizes = same_sizes (g.F.Flash.device c.self.inside.flash) _ b _ c.in-Ok.ensures c.self.invariant.sizes;
+      held = omega arith;
+      few = records_few _ _ _ _ _ _ _ _ _ book;
+      told = λ works. book;
+    }
 
-pub returns-in-Ok-clause-book : goal.returns-in-Ok-clause-book
-returns-in-Ok-clause-book g c =
+pub returns-in-Ok-clause-done : goal.returns-in-Ok-clause-done
+returns-in-Ok-clause-done g c =
     let n = c.args.node.now in
-    let b = c.args.self.now.book in
+    let b = c.self.inside.book in
+    let old = g.F.Flash.device c.self.inside.flash in
+    let may = room_inside _ _ _ c.self.view_is c.requires.fits c.requires.erased in
+    let h = told _ _ c.self.view_is c.self.invariant c.requires.working in
     let next = c.sector_at-next.result in
-    let old = g.F.Flash.image c.args.self.now.flash in
-    let new = g.F.Flash.image c.write_record.new.flash in
+    let at = c.sector_at-next.ensures in
+    let written = c.in-Ok.ensures in
     let is = c.record_len-len.ensures in
-    let all = next_appended b.sectors b.sector_size old b.first b.held b.tail b.used b.free next b.records.items n c.requires.book c.requires.erased c.sector_at-next.ensures c.requires.lawful c.requires.fits in
-    let written : new ≡ replaced (next * b.sector_size + 0) (spelling n) old = c.in-Ok.ensures.done ∙ ap (λ (k : ℕ). replaced k (spelling n) old) (start (next * b.sector_size)) in
-    let used : 0 + record_len n ≡ c.record_len-len.result = omega (arith, is) in
-    let items : b.records.items ++ kept (placed_at next 0 n) ∷ [] ≡ c.push_back_reserved.new.self.items =
-    ap (λ (k : ℕ). b.records.items ++ record { version = n.version; inode = n.inode; length = k; sector = next; place = 0 } ∷ []) (sym is) ∙ sym c.push_back_reserved.ensures.items in
-    subst (λ (rs : List Kept). IsKept b.sectors b.sector_size new b.first (b.held + 1) next c.record_len-len.result (b.sector_size - c.record_len-len.result) rs) items
-    (subst (λ (k : ℕ). IsKept b.sectors b.sector_size new b.first (b.held + 1) next c.record_len-len.result (b.sector_size - k) (b.records.items ++ kept (placed_at next 0 n) ∷ [])) (sym is)
-    (subst (λ (k : ℕ). IsKept b.sectors b.sector_size new b.first (b.held + 1) next k (b.sector_size - record_len n) (b.records.items ++ kept (placed_at next 0 n) ∷ [])) used
-    (subst (λ (xs : List ℕ). IsKept b.sectors b.sector_size xs b.first (b.held + 1) next (0 + record_len n) (b.sector_size - record_len n) (b.records.items ++ kept (placed_at next 0 n) ∷ [])) (sym written) all.0)))
+    done_seen _ _ _ n c.self.view_is
+    (next, at, record {
+      works = record {
+        failed = ap (λ (v : LogState). v.failed) c.self.view_is ∙ c.requires.working;
+        told = next_book b old h n may.0 may.1 next at _ written c.record_len-len.result _ c.record_len-len.ensures c.push_back_reserved.ensures.items;
+        device = only_image old _ _ written;
+      };
+      numbers = record { sizes = (refl, refl); erases = refl };
+      tail = (refl, omega (arith, is));
+      added = next_added b old h n may.0 may.1 next at _ written;
+      layout_is = next_layout b old h n may.0 may.1 next at _ written;
+      clean = next_clean b old h n may.0 may.1 next at _ written;
+    })
 
-pub returns-in-Ok-clause-added : goal.returns-in-Ok-clause-added
-returns-in-Ok-clause-added g c =
+pub returns-in-Err-clause-failed : goal.returns-in-Err-clause-failed
+returns-in-Err-clause-failed g c =
     let n = c.args.node.now in
-    let b = c.args.self.now.book in
+    let b = c.self.inside.book in
+    let may = room_inside _ _ _ c.self.view_is c.requires.fits c.requires.erased in
+    let h = told _ _ c.self.view_is c.self.invariant c.requires.working in
     let next = c.sector_at-next.result in
-    let old = g.F.Flash.image c.args.self.now.flash in
-    ap (live_log b.sectors b.sector_size) (c.in-Ok.ensures.done ∙ ap (λ (k : ℕ). replaced k (spelling n) old) (start (next * b.sector_size)))
-    ∙ (next_appended b.sectors b.sector_size old b.first b.held b.tail b.used b.free next b.records.items n c.requires.book c.requires.erased c.sector_at-next.ensures c.requires.lawful c.requires.fits).1
-
-pub returns-in-Err-clause-cut : goal.returns-in-Err-clause-cut
-returns-in-Err-clause-cut g c =
-    let n = c.args.node.now in
-    let b = c.args.self.now.book in
-    let next = c.sector_at-next.result in
-    let old = g.F.Flash.image c.args.self.now.flash in
-    let new = g.F.Flash.image c.write_record.new.flash in
-    let written = subst (λ (k : ℕ). IsWritten k n old new) (start (next * b.sector_size)) c.in-Err.ensures.written in
-    let cut = next_cut b.sectors b.sector_size old new b.first b.held b.tail b.used b.free next b.records.items n c.requires.book c.requires.erased c.sector_at-next.ensures c.requires.lawful c.requires.fits written in
-    λ k at. subst (λ (j : ℕ). IsCut b old new (placed_at j 0 n)) (at_once b.first b.sectors b.held next k c.sector_at-next.ensures at) (record { readable = cut.0; log = cut.1 })
-
-pub returns-in-Ok-clause-layout : goal.returns-in-Ok-clause-layout
-returns-in-Ok-clause-layout g c =
-    let n = c.args.node.now in
-    let b = c.args.self.now.book in
-    let next = c.sector_at-next.result in
-    let old = g.F.Flash.image c.args.self.now.flash in
-    let all = next_appended b.sectors b.sector_size old b.first b.held b.tail b.used b.free next b.records.items n c.requires.book c.requires.erased c.sector_at-next.ensures c.requires.lawful c.requires.fits in
-    ap (λ (xs : List ℕ). layout_of b.sector_size (sectors_in b.sectors b.sector_size xs)) (c.in-Ok.ensures.done ∙ ap (λ (k : ℕ). replaced k (spelling n) old) (start (next * b.sector_size)))
-    ∙ layout_next b.sectors b.sector_size old _ b.first b.held b.tail b.used b.free next (0 + record_len n) b.records.items _ n c.requires.book all.0 all.2
-
-pub returns-in-Ok-clause-clean : goal.returns-in-Ok-clause-clean
-returns-in-Ok-clause-clean g c =
-    let n = c.args.node.now in
-    let b = c.args.self.now.book in
-    let next = c.sector_at-next.result in
-    let old = g.F.Flash.image c.args.self.now.flash in
-    ap (λ (xs : List ℕ). is_clean (sectors_in b.sectors b.sector_size xs)) (c.in-Ok.ensures.done ∙ ap (λ (k : ℕ). replaced k (spelling n) old) (start (next * b.sector_size)))
-    ∙ (next_appended b.sectors b.sector_size old b.first b.held b.tail b.used b.free next b.records.items n c.requires.book c.requires.erased c.sector_at-next.ensures c.requires.lawful c.requires.fits).3
+    failed_seen _ _ _ n _ c.self.view_is
+    (next, record {
+      cause_is = c.failure.ensures.cause;
+      failed = c.failure.ensures.kept;
+      device = next_fails b (g.F.Flash.device c.self.inside.flash) h n may.0 may.1 next c.sector_at-next.ensures _ c.in-Err.ensures;
+      numbers = record { sizes = (refl, refl); erases = refl };
+    })

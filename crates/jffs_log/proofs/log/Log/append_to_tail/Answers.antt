@@ -1,79 +1,90 @@
-use Rattle.std.proofs.Common.{◌≡◌, ℕ, ◌+◌, ◌-◌, List, [], ◌∷◌, ◌++◌, sym, ap, subst, ◌∙◌, arith}
-use Rattle.jffs_node.specs.Record.{record_len}
-use Rattle.jffs_log.specs.declared.book.Kept.{Kept}
-use Rattle.jffs_log.specs.Book.{IsKept, kept, placed_at}
-use Rattle.jffs_log.specs.Live.{live_log}
-use Rattle.jffs_log.specs.Image.{is_clean}
-use Rattle.jffs_log.specs.Volume.{sectors_in}
-use Rattle.jffs_log.specs.Cleaning.{layout_of}
-use Rattle.jffs_log.proofs.Layouts.{layout_tail}
-use Rattle.jffs_log.proofs.Appended.{tail_ready, tail_appended, tail_cut}
+use Rattle.std.proofs.Common.{◌≡◌, ◌+◌, refl, sym, ap, subst, ◌∙◌, arith}
+use Rattle.jffs_node.specs.declared.node.Node.{Node}
+use Rattle.jffs_tree.specs.declared.wish.Cause.{Cause}
+use Rattle.jffs_log.specs.Book.{layout_in}
+use Rattle.jffs_log.specs.LogState.{LogState, FitsIn, AppendedAt, AppendFailedAt}
+use Rattle.jffs_log.specs.Cleaning.{in_tail}
+use Rattle.jffs_log.proofs.Seen.{told, only_image, same_sizes}
+use Rattle.jffs_log.proofs.TailPut.{tail_is_ready, tail_may_write, tail_fails, tail_book, tail_added, tail_layout, tail_clean}
+use Rattle.jffs_log.proofs.Weighed.{records_few}
 use Rattle.jffs_log.proofs.log.Log.append_to_tail.Goals as goal
+
+-- the record fits the tail of the log inside
+fits_inside : (inside seen : LogState) (n : _) → inside ≡ seen → FitsIn seen.book.sector_size seen.book.free n → FitsIn inside.book.sector_size inside.book.free n
+fits_inside inside seen n same fits = subst (λ (v : LogState). FitsIn v.book.sector_size v.book.free n) (sym same) fits
+
+-- what is said of the log inside is said of it by its other name
+done_seen : (inside seen new : LogState) (n : Node) → inside ≡ seen
+    → AppendedAt inside.book.tail inside.book.used (in_tail n (layout_in inside.device.image inside.book)) n inside new
+    → AppendedAt seen.book.tail seen.book.used (in_tail n (layout_in seen.device.image seen.book)) n seen new
+done_seen inside seen new n same h = subst (λ (v : LogState). AppendedAt v.book.tail v.book.used (in_tail n (layout_in v.device.image v.book)) n v new) same h
+
+failed_seen : (inside seen new : LogState) (n : Node) (why : Cause) → inside ≡ seen → AppendFailedAt inside.book.tail inside.book.used n why inside new → AppendFailedAt seen.book.tail seen.book.used n why seen new
+failed_seen inside seen new n why same h = subst (λ (v : LogState). AppendFailedAt v.book.tail v.book.used n why v new) same h
 
 pub overflow_add-at : goal.overflow_add-at
 overflow_add-at g c =
-    let b = c.args.self.now.book in
-    let ready = tail_ready b.sectors b.sector_size (g.F.Flash.image c.args.self.now.flash) b.first b.held b.tail b.used b.free b.records.items c.args.node.now c.requires.book c.requires.fits in
-    omega arith
+    let fits = fits_inside _ _ _ c.self.view_is c.requires.fits in
+    let there = tail_is_ready c.self.inside.book (g.F.Flash.device c.self.inside.flash) (told _ _ c.self.view_is c.self.invariant c.requires.working) c.args.node.now fits in
+    omega (arith, there.inside, there.short)
 
-pub write_record-requires-clause-inside : goal.write_record-requires-clause-inside
-write_record-requires-clause-inside g c =
-    let b = c.args.self.now.book in
-    (tail_ready b.sectors b.sector_size (g.F.Flash.image c.args.self.now.flash) b.first b.held b.tail b.used b.free b.records.items c.args.node.now c.requires.book c.requires.fits).inside
-
-pub write_record-requires-clause-erased : goal.write_record-requires-clause-erased
-write_record-requires-clause-erased g c =
-    let b = c.args.self.now.book in
-    (tail_ready b.sectors b.sector_size (g.F.Flash.image c.args.self.now.flash) b.first b.held b.tail b.used b.free b.records.items c.args.node.now c.requires.book c.requires.fits).erased
+pub write_record-requires : goal.write_record-requires
+write_record-requires g c =
+    let fits = fits_inside _ _ _ c.self.view_is c.requires.fits in
+    tail_may_write c.self.inside.book (g.F.Flash.device c.self.inside.flash) (told _ _ c.self.view_is c.self.invariant c.requires.working) c.args.node.now fits
 
 pub overflow_add-book : goal.overflow_add-book
 overflow_add-book g c =
-    let b = c.args.self.now.book in
-    let ready = tail_ready b.sectors b.sector_size (g.F.Flash.image c.args.self.now.flash) b.first b.held b.tail b.used b.free b.records.items c.args.node.now c.requires.book c.requires.fits in
+    let fits = fits_inside _ _ _ c.self.view_is c.requires.fits in
+    let there = tail_is_ready c.self.inside.book (g.F.Flash.device c.self.inside.flash) (told _ _ c.self.view_is c.self.invariant c.requires.working) c.args.node.now fits in
     let is = c.record_len-len.ensures in
-    omega (arith, ready.inside, ready.short)
+    omega (arith, there.inside, there.short)
 
-pub returns-in-Ok-clause-book : goal.returns-in-Ok-clause-book
-returns-in-Ok-clause-book g c =
+pub invariant_of-self : goal.invariant_of-self
+invariant_of-self g c =
+    let fits = fits_inside _ _ _ c.self.view_is c.requires.fits in
+    let h = told _ _ c.self.view_is c.self.invariant c.requires.working in
+    let b = c.self.inside.book in
+    let book = tail_book b (g.F.Flash.device c.self.inside.flash) h c.args.node.now fits _ c.in-Ok.ensures c.record_len-len.result _ c.record_len-len.ensures c.push_back_reserved.ensures.items in
+    record {
+      sizes = same_sizes (g.F.Flash.device c.self.inside.flash) _ b _ c.in-Ok.ensures c.self.invariant.sizes;
+      held = c.self.invariant.held;
+      few = records_few _ _ _ _ _ _ _ _ _ book;
+      told = λ works. book;
+    }
+
+pub returns-in-Ok-clause-done : goal.returns-in-Ok-clause-done
+returns-in-Ok-clause-done g c =
     let n = c.args.node.now in
-    let b = c.args.self.now.book in
-    let old = g.F.Flash.image c.args.self.now.flash in
-    let new = g.F.Flash.image c.write_record.new.flash in
-    let is = c.record_len-len.ensures in
-    let all = tail_appended b.sectors b.sector_size old b.first b.held b.tail b.used b.free b.records.items n c.requires.book c.requires.lawful c.requires.fits in
-    let items : b.records.items ++ kept (placed_at b.tail b.used n) ∷ [] ≡ c.push_back_reserved.new.self.items =
-    ap (λ (k : ℕ). b.records.items ++ record { version = n.version; inode = n.inode; length = k; sector = b.tail; place = b.used } ∷ []) (sym is) ∙ sym c.push_back_reserved.ensures.items in
-    subst (λ (rs : List Kept). IsKept b.sectors b.sector_size new b.first b.held b.tail (b.used + c.record_len-len.result) (b.free - c.record_len-len.result) rs) items
-    (subst (λ (k : ℕ). IsKept b.sectors b.sector_size new b.first b.held b.tail (b.used + k) (b.free - k) (b.records.items ++ kept (placed_at b.tail b.used n) ∷ [])) (sym is)
-    (subst (λ (xs : List ℕ). IsKept b.sectors b.sector_size xs b.first b.held b.tail (b.used + record_len n) (b.free - record_len n) (b.records.items ++ kept (placed_at b.tail b.used n) ∷ [])) (sym c.in-Ok.ensures.done) all.0))
+    let b = c.self.inside.book in
+    let old = g.F.Flash.device c.self.inside.flash in
+    let fits = fits_inside _ _ _ c.self.view_is c.requires.fits in
+    let h = told _ _ c.self.view_is c.self.invariant c.requires.working in
+    let written = c.in-Ok.ensures in
+    done_seen _ _ _ n c.self.view_is
+    (record {
+      works = record {
+        failed = ap (λ (v : LogState). v.failed) c.self.view_is ∙ c.requires.working;
+        told = tail_book b old h n fits _ written c.record_len-len.result _ c.record_len-len.ensures c.push_back_reserved.ensures.items;
+        device = only_image old _ _ written;
+      };
+      numbers = record { sizes = (refl, refl); erases = refl };
+      tail = (refl, ap (λ k. b.used + k) c.record_len-len.ensures);
+      added = tail_added b old h n fits _ written;
+      layout_is = tail_layout b old h n fits _ written;
+      clean = tail_clean b old h n fits _ written;
+    })
 
-pub returns-in-Ok-clause-added : goal.returns-in-Ok-clause-added
-returns-in-Ok-clause-added g c =
-    let b = c.args.self.now.book in
-    let old = g.F.Flash.image c.args.self.now.flash in
-    ap (live_log b.sectors b.sector_size) c.in-Ok.ensures.done
-    ∙ (tail_appended b.sectors b.sector_size old b.first b.held b.tail b.used b.free b.records.items c.args.node.now c.requires.book c.requires.lawful c.requires.fits).1
-
-pub returns-in-Err-clause-cut : goal.returns-in-Err-clause-cut
-returns-in-Err-clause-cut g c =
-    let b = c.args.self.now.book in
-    let old = g.F.Flash.image c.args.self.now.flash in
-    let new = g.F.Flash.image c.write_record.new.flash in
-    let cut = tail_cut b.sectors b.sector_size old new b.first b.held b.tail b.used b.free b.records.items c.args.node.now c.requires.book c.requires.lawful c.requires.fits c.in-Err.ensures.written in
-    record { readable = cut.0; log = cut.1 }
-
-pub returns-in-Ok-clause-layout : goal.returns-in-Ok-clause-layout
-returns-in-Ok-clause-layout g c =
+pub returns-in-Err-clause-failed : goal.returns-in-Err-clause-failed
+returns-in-Err-clause-failed g c =
     let n = c.args.node.now in
-    let b = c.args.self.now.book in
-    let old = g.F.Flash.image c.args.self.now.flash in
-    let all = tail_appended b.sectors b.sector_size old b.first b.held b.tail b.used b.free b.records.items n c.requires.book c.requires.lawful c.requires.fits in
-    ap (λ (xs : List ℕ). layout_of b.sector_size (sectors_in b.sectors b.sector_size xs)) c.in-Ok.ensures.done
-    ∙ layout_tail b.sectors b.sector_size old _ b.first b.held b.tail b.used b.free b.tail (b.used + record_len n) b.records.items _ n c.requires.book all.0 all.2
-
-pub returns-in-Ok-clause-clean : goal.returns-in-Ok-clause-clean
-returns-in-Ok-clause-clean g c =
-    let b = c.args.self.now.book in
-    let old = g.F.Flash.image c.args.self.now.flash in
-    ap (λ (xs : List ℕ). is_clean (sectors_in b.sectors b.sector_size xs)) c.in-Ok.ensures.done
-    ∙ (tail_appended b.sectors b.sector_size old b.first b.held b.tail b.used b.free b.records.items c.args.node.now c.requires.book c.requires.lawful c.requires.fits).3
+    let b = c.self.inside.book in
+    let fits = fits_inside _ _ _ c.self.view_is c.requires.fits in
+    let h = told _ _ c.self.view_is c.self.invariant c.requires.working in
+    failed_seen _ _ _ n _ c.self.view_is
+    (record {
+      cause_is = c.failure.ensures.cause;
+      failed = c.failure.ensures.kept;
+      device = tail_fails b (g.F.Flash.device c.self.inside.flash) h n fits _ c.in-Err.ensures;
+      numbers = record { sizes = (refl, refl); erases = refl };
+    })

@@ -1,68 +1,78 @@
-use Rattle.std.proofs.Common.{◌≡◌, ℕ, ◌-◌, ◌<◌, false, sym, ap, subst, ◌∙◌}
+use Rattle.std.proofs.Common.{◌≡◌, ℕ, ◌-◌, ◌<◌, ◌≤◌, false, refl, sym, ap, subst, ◌∙◌, arith}
+use Rattle.jffs_flash.specs.Device.{Device, with_image}
 use Rattle.jffs_flash.specs.Image.{erased}
 use Rattle.std.specs.List.{AllByRecursion}
+use Rattle.jffs_node.specs.declared.node.Node.{Node}
 use Rattle.jffs_tree.specs.Origin.{Tree}
 use Rattle.jffs_log.specs.Book.{lives_in, oldest_in}
+use Rattle.jffs_log.specs.LogState.{LogState, OldestIsDead, ErasedOldest}
 use Rattle.jffs_log.proofs.Appended.{kept_inside, kept_readable}
 use Rattle.jffs_log.proofs.Histories.{erasing_keeps_history}
-use Rattle.jffs_log.proofs.ErasedBook.{book_erased}
+use Rattle.jffs_log.proofs.ErasedBook.{book_erased, IsBookErased}
+use Rattle.jffs_log.proofs.Seen.{told, only_image, same_sizes}
+use Rattle.jffs_log.proofs.Weighed.{records_few}
 use Rattle.jffs_log.proofs.log.Log.erase_oldest.Goals as goal
+
+-- what is said of the log inside is said of it by its other name
+done_seen : (inside seen new : LogState) (tree : Tree) → inside ≡ seen → ErasedOldest tree inside new → ErasedOldest tree seen new
+done_seen inside seen new tree same h = subst (λ (v : LogState). ErasedOldest tree v new) same h
+
+several_inside : (inside seen : LogState) → inside ≡ seen → 2 ≤ seen.book.held → 2 ≤ inside.book.held
+several_inside inside seen same several = subst (λ (v : LogState). 2 ≤ v.book.held) (sym same) several
 
 pub erase-requires : goal.erase-requires
 erase-requires g c =
-    let b = c.args.self.now.book in
-    let inside = kept_inside b.sectors b.sector_size (g.F.Flash.image c.args.self.now.flash) b.first b.held b.tail b.used b.free b.records.items c.requires.book in
-    subst (λ (k : ℕ). b.first < k) (sym c.requires.sizes.0) inside.0
+    let inside = kept_inside _ _ _ _ _ _ _ _ _ (told _ _ c.self.view_is c.self.invariant c.requires.working) in
+    subst (λ (k : ℕ). c.self.inside.book.first < k) (sym c.self.invariant.sizes.0) inside.0
 
 pub sector_at-book-requires-clause-first_in : goal.sector_at-book-requires-clause-first_in
-sector_at-book-requires-clause-first_in g c =
-    let b = c.args.self.now.book in
-    (kept_inside b.sectors b.sector_size (g.F.Flash.image c.args.self.now.flash) b.first b.held b.tail b.used b.free b.records.items c.requires.book).0
+sector_at-book-requires-clause-first_in g c = (kept_inside _ _ _ _ _ _ _ _ _ (told _ _ c.self.view_is c.self.invariant c.requires.working)).0
 
-pub returns-in-Ok-clause-book : goal.returns-in-Ok-clause-book
-returns-in-Ok-clause-book g c =
-    let b = c.args.self.now.book in
-    let old = g.F.Flash.image c.args.self.now.flash in
-    let new = g.F.Flash.image c.erase.new.self in
-    let changed : new ≡ erased b.sector_size b.first old = c.in-Ok.ensures.done ∙ ap (λ (k : ℕ). erased k b.first old) c.requires.sizes.1 in
-    (book_erased b.sectors b.sector_size old new b.first b.held b.tail b.used b.free c.sector_at-book.result b.records.items c.forget_sector.new.records.items c.requires.book c.requires.several
-    c.sector_at-book.ensures changed c.forget_sector.ensures).book
+-- the image is that without the oldest sector
+changed : (old new : Device) (size first : ℕ) → new ≡ with_image old (erased old.sector_size first old.image) → old.sector_size ≡ size → new.image ≡ erased size first old.image
+changed old new size first done same = ap (λ (d : Device). d.image) done ∙ ap (λ (k : ℕ). erased k first old.image) same
 
-pub returns-in-Ok-clause-gone : goal.returns-in-Ok-clause-gone
-returns-in-Ok-clause-gone g c =
-    let b = c.args.self.now.book in
-    let old = g.F.Flash.image c.args.self.now.flash in
-    let new = g.F.Flash.image c.erase.new.self in
-    let changed : new ≡ erased b.sector_size b.first old = c.in-Ok.ensures.done ∙ ap (λ (k : ℕ). erased k b.first old) c.requires.sizes.1 in
-    (book_erased b.sectors b.sector_size old new b.first b.held b.tail b.used b.free c.sector_at-book.result b.records.items c.forget_sector.new.records.items c.requires.book c.requires.several
-    c.sector_at-book.ensures changed c.forget_sector.ensures).gone
+pub invariant_of-self : goal.invariant_of-self
+invariant_of-self g c =
+    let b = c.self.inside.book in
+    let old = g.F.Flash.device c.self.inside.flash in
+    let done = c.in-Ok.ensures in
+    let after = book_erased b.sectors b.sector_size old.image _ b.first b.held b.tail b.used b.free c.sector_at-book.result b.records.items c.forget_sector.new.records.items
+    (told _ _ c.self.view_is c.self.invariant c.requires.working) (several_inside _ _ c.self.view_is c.requires.several)
+    c.sector_at-book.ensures (changed old _ b.sector_size b.first done c.self.invariant.sizes.1) c.forget_sector.ensures in
+    let few = c.self.invariant.held in
+    record {
+      sizes = same_sizes old _ b _ done c.self.invariant.sizes;
+      held = omega arith;
+      few = records_few _ _ _ _ _ _ _ _ _ after.book;
+      told = λ works. after.book;
+    }
 
-pub returns-in-Ok-clause-layout : goal.returns-in-Ok-clause-layout
-returns-in-Ok-clause-layout g c =
-    let b = c.args.self.now.book in
-    let old = g.F.Flash.image c.args.self.now.flash in
-    let new = g.F.Flash.image c.erase.new.self in
-    let changed : new ≡ erased b.sector_size b.first old = c.in-Ok.ensures.done ∙ ap (λ (k : ℕ). erased k b.first old) c.requires.sizes.1 in
-    (book_erased b.sectors b.sector_size old new b.first b.held b.tail b.used b.free c.sector_at-book.result b.records.items c.forget_sector.new.records.items c.requires.book c.requires.several
-    c.sector_at-book.ensures changed c.forget_sector.ensures).layout
-
-pub returns-in-Ok-clause-clean : goal.returns-in-Ok-clause-clean
-returns-in-Ok-clause-clean g c =
-    let b = c.args.self.now.book in
-    let old = g.F.Flash.image c.args.self.now.flash in
-    let new = g.F.Flash.image c.erase.new.self in
-    let changed : new ≡ erased b.sector_size b.first old = c.in-Ok.ensures.done ∙ ap (λ (k : ℕ). erased k b.first old) c.requires.sizes.1 in
-    (book_erased b.sectors b.sector_size old new b.first b.held b.tail b.used b.free c.sector_at-book.result b.records.items c.forget_sector.new.records.items c.requires.book c.requires.several
-    c.sector_at-book.ensures changed c.forget_sector.ensures).clean
-
-pub returns-in-Ok-clause-history : goal.returns-in-Ok-clause-history
-returns-in-Ok-clause-history g c =
-    let b = c.args.self.now.book in
-    let old = g.F.Flash.image c.args.self.now.flash in
-    let new = g.F.Flash.image c.erase.new.self in
-    let changed : new ≡ erased b.sector_size b.first old = c.in-Ok.ensures.done ∙ ap (λ (k : ℕ). erased k b.first old) c.requires.sizes.1 in
-    let after = book_erased b.sectors b.sector_size old new b.first b.held b.tail b.used b.free c.sector_at-book.result b.records.items c.forget_sector.new.records.items c.requires.book c.requires.several
-    c.sector_at-book.ensures changed c.forget_sector.ensures in
-    let readable = kept_readable b.sectors b.sector_size new c.sector_at-book.result (b.held - 1) b.tail b.used b.free c.forget_sector.new.records.items after.book in
-    λ past is h. erasing_keeps_history b.sectors b.sector_size old new past (oldest_in old b) h readable after.gone
-    (subst (λ (t : Tree). AllByRecursion (λ p. lives_in t p ≡ false) (oldest_in old b)) is c.requires.dead)
+pub returns-in-Ok-clause-done : goal.returns-in-Ok-clause-done
+returns-in-Ok-clause-done g c =
+    let b = c.self.inside.book in
+    let old = g.F.Flash.device c.self.inside.flash in
+    let new = g.F.Flash.device c.erase.new.self in
+    let tree = c.args.tree.now in
+    let done = c.in-Ok.ensures in
+    let image = changed old new b.sector_size b.first done c.self.invariant.sizes.1 in
+    let after = book_erased b.sectors b.sector_size old.image new.image b.first b.held b.tail b.used b.free c.sector_at-book.result b.records.items c.forget_sector.new.records.items
+    (told _ _ c.self.view_is c.self.invariant c.requires.working) (several_inside _ _ c.self.view_is c.requires.several) c.sector_at-book.ensures image c.forget_sector.ensures in
+    let readable = kept_readable _ _ _ _ _ _ _ _ _ after.book in
+    let dead = subst (λ (v : LogState). OldestIsDead tree v) (sym c.self.view_is) c.requires.dead in
+    done_seen _ _ _ tree c.self.view_is
+    (record {
+      works = record {
+        failed = ap (λ (v : LogState). v.failed) c.self.view_is ∙ c.requires.working;
+        told = after.book;
+        device = only_image old new _ done;
+      };
+      image = image;
+      sizes = (refl, refl);
+      erases = c.saturating_add-book.ensures;
+      gone = after.gone;
+      layout_is = after.layout;
+      clean = after.clean;
+      history = λ past is h. erasing_keeps_history b.sectors b.sector_size old.image new.image past (oldest_in old.image b) h readable after.gone
+          (subst (λ (t : Tree). AllByRecursion (λ p. lives_in t p ≡ false) (oldest_in old.image b)) is dead);
+    })

@@ -1,14 +1,12 @@
-use Rattle.std.proofs.Common.{sym, arith}
-use Rattle.jffs_log.proofs.Rooms.{kept_erased, kept_counted}
+use Rattle.std.proofs.Common.{◌≡◌, ◌-◌, false, sym, subst}
+use Rattle.jffs_log.specs.Image.{erased_count}
+use Rattle.jffs_log.specs.Volume.{sectors_in}
+use Rattle.jffs_log.specs.LogState.{LogState}
+use Rattle.jffs_log.proofs.Rooms.{kept_erased}
 use Rattle.jffs_log.proofs.log.Log.erased.Goals as goal
 
-pub overflow_sub-result : goal.overflow_sub-result
-overflow_sub-result g c =
-    let b = c.args.self.now.book in
-    let all = kept_counted b.sectors b.sector_size (g.F.Flash.image c.args.self.now.flash) b.first b.held b.tail b.used b.free b.records.items c.requires.book in
-    omega arith
-
-pub returns : goal.returns
-returns g c =
-    let b = c.args.self.now.book in
-    sym (kept_erased b.sectors b.sector_size (g.F.Flash.image c.args.self.now.flash) b.first b.held b.tail b.used b.free b.records.items c.requires.book)
+pub returns-clause-exact : goal.returns-clause-exact
+returns-clause-exact g c =
+    let b = c.self.inside.book in
+    let P : LogState → Type 0 = λ v. v.failed ≡ false → b.sectors - b.held ≡ erased_count (sectors_in v.book.sectors v.book.sector_size v.device.image) in
+    subst P c.self.view_is (λ works. sym (kept_erased _ _ _ _ _ _ _ _ _ (c.self.invariant.told works)))

@@ -1,26 +1,28 @@
-use Rattle.std.proofs.Common.{ap, ◌∙◌}
-use Rattle.jffs_tree.specs.Origin.{Tree}
+use Rattle.std.proofs.Common.{◌≡◌, false, List, ap, subst, ◌∙◌}
+use Rattle.jffs_node.specs.declared.node.Node.{Node}
+use Rattle.jffs_tree.specs.Origin.{Tree, tree_of}
 use Rattle.jffs_log.specs.Book.{log_in, weight_in}
-use Rattle.jffs_log.proofs.Weighed.{records_few, kept_weight}
+use Rattle.jffs_log.specs.History.{IsHistory}
+use Rattle.jffs_log.specs.LogState.{LogState}
+use Rattle.jffs_log.specs.Room.{weight}
+use Rattle.jffs_log.proofs.Weighed.{kept_weight}
 use Rattle.jffs_log.proofs.HistoryWeight.{history_weight}
 use Rattle.jffs_log.proofs.log.Log.live_weight.Goals as goal
 
-pub weight_of-requires : goal.weight_of-requires
-weight_of-requires g c =
-    let b = c.args.self.now.book in
-    records_few b.sectors b.sector_size (g.F.Flash.image c.args.self.now.flash) b.first b.held b.tail b.used b.free b.records.items c.requires.book
-
 pub returns-clause-weighed : goal.returns-clause-weighed
 returns-clause-weighed g c =
-    let b = c.args.self.now.book in
-    c.weight_of.ensures ∙ kept_weight b.sectors b.sector_size (g.F.Flash.image c.args.self.now.flash) b.first b.held b.tail b.used b.free b.records.items c.requires.book c.args.tree.now
+    let tree = c.args.tree.now in
+    let P : LogState → Type 0 = λ v. v.failed ≡ false → c.weight_of.result ≡ weight_in tree (log_in v.device.image v.book) in
+    subst P c.self.view_is (λ works. c.weight_of.ensures ∙ kept_weight _ _ _ _ _ _ _ _ _ (c.self.invariant.told works) tree)
 
 pub returns-clause-whole : goal.returns-clause-whole
 returns-clause-whole g c =
-    let b = c.args.self.now.book in
-    let image = g.F.Flash.image c.args.self.now.flash in
-    λ past is h.
+    let tree = c.args.tree.now in
+    let P : LogState → Type 0 = λ v. v.failed ≡ false → (past : List Node) → tree ≡ tree_of past → IsHistory v.device.image v.book past → c.weight_of.result ≡ weight past in
+    let b = c.self.inside.book in
+    let image = (g.F.Flash.device c.self.inside.flash).image in
+    subst P c.self.view_is (λ works past is h.
     c.weight_of.ensures
-    ∙ kept_weight b.sectors b.sector_size image b.first b.held b.tail b.used b.free b.records.items c.requires.book c.args.tree.now
+    ∙ kept_weight _ _ _ _ _ _ _ _ _ (c.self.invariant.told works) tree
     ∙ ap (λ (t : Tree). weight_in t (log_in image b)) is
-    ∙ history_weight b.sectors b.sector_size image past h
+    ∙ history_weight b.sectors b.sector_size image past h)

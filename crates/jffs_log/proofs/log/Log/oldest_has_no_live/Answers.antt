@@ -1,24 +1,33 @@
-use Rattle.std.proofs.Common.{sym, true, eqb, ◌∙◌}
+use Rattle.std.proofs.Common.{◌↔◌, sym, true, false, eqb, subst, IsTrue, ◌∙◌}
 use Rattle.std.specs.List.{take_while}
 use Rattle.jffs_log.specs.declared.book.Kept.{Kept}
+use Rattle.jffs_log.specs.LogState.{LogState, OldestIsDead}
 use Rattle.jffs_log.proofs.OldestDead.{dead_exactly}
 use Rattle.jffs_log.proofs.OldestAsked.{not_dead, none_within}
+use Rattle.jffs_log.proofs.Seen.{told}
 use Rattle.jffs_log.proofs.log.Log.oldest_has_no_live.Goals as goal
 
 pub returns-in-Some : goal.returns-in-Some
 returns-in-Some g c =
-    let b = c.args.self.now.book in
+    let h = told _ _ c.self.view_is c.self.invariant c.requires.working in
     let found = c.lives_there.ensures c.if-lives_there.true in
-    not_dead b.sectors b.sector_size (g.F.Flash.image c.args.self.now.flash) b.first b.held b.tail b.used b.free b.records.items c.args.tree.now found.0 c.requires.book found.1 found.2 found.3
+    let tree = c.args.tree.now in
+    let P : LogState → Type 0 = λ v. IsTrue false ↔ OldestIsDead tree v in
+    subst P c.self.view_is (not_dead _ _ _ _ _ _ _ _ _ tree found.0 h found.1 found.2 found.3)
 
 pub returns-in-None : goal.returns-in-None
 returns-in-None g c =
-    let b = c.args.self.now.book in
-    let dead = none_within c.version_at-first.result c.version_at-last.result c.args.tree.now (take_while (λ (k : Kept). eqb k.sector b.first) b.records.items) c.in-None.ensures.none
+    let h = told _ _ c.self.view_is c.self.invariant c.requires.working in
+    let b = c.self.inside.book in
+    let tree = c.args.tree.now in
+    let dead = none_within c.version_at-first.result c.version_at-last.result tree (take_while (λ (k : Kept). eqb k.sector b.first) b.records.items) c.in-None.ensures.none
     (sym c.all_within.ensures ∙ c.if-all_within.true) in
-    dead_exactly b.sectors b.sector_size (g.F.Flash.image c.args.self.now.flash) b.first b.held b.tail b.used b.free b.records.items c.args.tree.now true c.requires.book (sym dead)
+    let P : LogState → Type 0 = λ v. IsTrue true ↔ OldestIsDead tree v in
+    subst P c.self.view_is (dead_exactly _ _ _ _ _ _ _ _ _ tree true h (sym dead))
 
 pub returns-in_default : goal.returns-in_default
 returns-in_default g c =
-    let b = c.args.self.now.book in
-    dead_exactly b.sectors b.sector_size (g.F.Flash.image c.args.self.now.flash) b.first b.held b.tail b.used b.free b.records.items c.args.tree.now c.none_lives.result c.requires.book c.none_lives.ensures
+    let h = told _ _ c.self.view_is c.self.invariant c.requires.working in
+    let tree = c.args.tree.now in
+    let P : LogState → Type 0 = λ v. IsTrue c.none_lives.result ↔ OldestIsDead tree v in
+    subst P c.self.view_is (dead_exactly _ _ _ _ _ _ _ _ _ tree c.none_lives.result h c.none_lives.ensures)

@@ -1,17 +1,16 @@
 use Rattle.std.proofs.Common.{arith}
 use Rattle.jffs_log.proofs.ErasedBook.{oldest_inside}
+use Rattle.jffs_log.proofs.Seen.{told}
 use Rattle.jffs_log.proofs.log.Log.oldest_image.Goals as goal
 
-pub overflow_mul-self : goal.overflow_mul-self
-overflow_mul-self g c =
-    let b = c.args.self.now.book in
-    let inside = oldest_inside b.sectors b.sector_size (g.F.Flash.image c.args.self.now.flash) b.first b.held b.tail b.used b.free b.records.items c.requires.book in
+pub overflow_mul-self-inside : goal.overflow_mul-self-inside
+overflow_mul-self-inside g c =
+    let inside = oldest_inside _ _ _ _ _ _ _ _ _ (told _ _ c.self.view_is c.self.invariant c.requires.working) in
     omega (arith, inside.0, inside.1)
 
 pub read-requires : goal.read-requires
 read-requires g c =
-    let b = c.args.self.now.book in
-    let inside = oldest_inside b.sectors b.sector_size (g.F.Flash.image c.args.self.now.flash) b.first b.held b.tail b.used b.free b.records.items c.requires.book in
+    let inside = oldest_inside _ _ _ _ _ _ _ _ _ (told _ _ c.self.view_is c.self.invariant c.requires.working) in
     let long = c.in_ok-bytes.ensures.len in
     let same = c.deref_mut.ensures.len in
     omega (arith, inside.0, long, same)

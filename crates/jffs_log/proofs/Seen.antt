@@ -1,0 +1,39 @@
+-- What is known of a log before and after a call.
+use Rattle.std.proofs.Common.{◌≡◌, false, List, ℕ, sym, ap, subst, ◌∙◌}
+use Rattle.jffs_flash.specs.Device.{Device, with_image, Fails}
+use Rattle.jffs_log.specs.declared.book.Kept.{Kept}
+use Rattle.jffs_log.specs.Book.{IsKept, IsBook, HasSizes}
+use Rattle.jffs_log.specs.declared.book.Book.{Book}
+use Rattle.jffs_log.specs.LogState.{LogState, IsLog, IsSameLog}
+
+-- the book tells of the image, where the log is known by another name to work
+pub told : (inside seen : LogState) → inside ≡ seen → IsLog inside → seen.failed ≡ false → IsBook inside.device.image inside.book
+told inside seen same h works = h.told (ap (λ (v : LogState). v.failed) same ∙ works)
+
+-- a device of which only the bytes changed
+pub only_image : (old new : Device) (image : List ℕ) → new ≡ with_image old image → new ≡ with_image old new.image
+only_image old new image e = e ∙ ap (λ (d : Device). with_image old d.image) (sym e)
+
+-- the book has its sizes too
+pub same_sizes : (old new : Device) (b : Book) (image : List ℕ) → new ≡ with_image old image → HasSizes old.sectors old.sector_size b → HasSizes new.sectors new.sector_size b
+same_sizes old new b image e sizes = (ap (λ (d : Device). d.sectors) e ∙ sizes.0, ap (λ (d : Device). d.sector_size) e ∙ sizes.1)
+
+-- what a failed call left is something weaker too
+pub fails_weaker : (P Q : List ℕ → Type 0) (old new : Device) → (P new.image → Q new.image) → Fails P old new → Fails Q old new
+fails_weaker P Q old new f h = record { left = f h.left; faults = h.faults; rest = h.rest }
+
+-- the same by its other name
+pub told_seen : (inside seen : LogState) → inside ≡ seen → IsLog inside → seen.failed ≡ false → IsBook seen.device.image seen.book
+told_seen inside seen same h works = subst (λ (v : LogState). IsBook v.device.image v.book) same (told inside seen same h works)
+
+-- the log has the sizes of the device after a call, which changes neither
+pub log_sizes : (old new : LogState) → new.device.sectors ≡ old.device.sectors → new.device.sector_size ≡ old.device.sector_size
+    → HasSizes old.device.sectors old.device.sector_size old.book → HasSizes old.book.sectors old.book.sector_size new.book → HasSizes new.device.sectors new.device.sector_size new.book
+log_sizes old new sectors size before after = (sectors ∙ before.0 ∙ after.0, size ∙ before.1 ∙ after.1)
+
+-- a book that is the same but for places tells of the same image
+pub same_told : (old new : LogState) → IsSameLog old new → IsBook old.device.image old.book → IsBook new.device.image new.book
+same_told old new same h =
+    let b = same.book in
+    let Told : ℕ × ℕ × List ℕ × ℕ × ℕ × ℕ × ℕ × ℕ × List Kept → Type 0 = λ t. IsKept t.0 t.1 t.2 t.3 t.4 t.5 t.6 t.7 t.8 in
+    subst Told (λ i. ((sym b.sectors) i, (sym b.sector_size) i, (sym same.device i).image, (sym b.first) i, (sym b.held) i, (sym b.tail) i, (sym b.used) i, (sym b.free) i, (sym b.records) i)) h

@@ -1,0 +1,19 @@
+use Rattle.std.proofs.Common.{◌+◌, ◌≤◌, false, sym, subst, arith}
+use Rattle.jffs_flash.specs.Device.{Device}
+use Rattle.jffs_log.specs.LogState.{IsLog}
+use Rattle.jffs_log.proofs.Layouts.{some_erased}
+use Rattle.jffs_log.proofs.Weighed.{records_few}
+use Rattle.jffs_log.proofs.scanning.scan.Goals as goal
+
+pub invariant_of-result : goal.invariant_of-result
+invariant_of-result g c =
+    let e = c.in-Ok.ensures in
+    let book = c.in-Ok.found.book in
+    let one = some_erased _ _ _ _ _ _ _ _ _ e.found.book in
+    let P : Device → Type 0 = λ d. IsLog (record { device = d; book = book; failed = false }) in
+    subst P (sym e.same) (record {
+      sizes = e.found.sizes;
+      held = omega (arith, one);
+      few = records_few _ _ _ _ _ _ _ _ _ e.found.book;
+      told = λ works. e.found.book;
+    })

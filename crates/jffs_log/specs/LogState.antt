@@ -1,0 +1,138 @@
+-- A log as its callers see it, and what its calls leave of it.
+use Rattle.std.specs.Prelude.{◌≡◌, ◌≢◌, ◌⊎◌, ℕ, ◌+◌, ◌-◌, ◌*◌, ◌/◌, ◌^◌, ◌<◌, ◌≤◌, Bool, true, false, List, [], ◌∷◌, ◌++◌, length, min, IsTrue}
+use Rattle.std.specs.List.{AllByRecursion}
+use Rattle.jffs_node.specs.declared.node.Node.{Node}
+use Rattle.jffs_node.specs.Record.{record_len, dsize, is_lawful, is_unmount, has_place}
+use Rattle.jffs_tree.specs.Origin.{Tree, tree_of}
+use Rattle.jffs_tree.specs.declared.wish.Cause.{Cause}
+use Rattle.jffs_tree.specs.declared.wish.Cause.TheVariants as cause
+use Rattle.jffs_flash.specs.Image.{erased, IsHalfErased}
+use Rattle.jffs_flash.specs.Device.{Device, with_image, Fails, EraseFails}
+use Rattle.jffs_log.specs.declared.book.Book.{Book}
+use Rattle.jffs_log.specs.declared.room.Room.{Room}
+use Rattle.jffs_log.specs.declared.room.Room.TheVariants as room
+use Rattle.jffs_log.specs.Book.{IsBook, HasSizes, IsSameBook, IsCut, IsCutSomewhere, log_in, oldest_in, layout_in, lives_in, placed_at}
+use Rattle.jffs_log.specs.Cleaning.{Layout, put, erase_oldest}
+use Rattle.jffs_log.specs.History.{IsHistory, KeepsRules}
+use Rattle.jffs_log.specs.Image.{is_clean}
+use Rattle.jffs_log.specs.Room.{has_room_in}
+use Rattle.jffs_log.specs.Volume.{sectors_in}
+
+-- its device, what is known of it in memory, and whether a call of the device failed
+pub record LogState : Type 0 where
+  pub device : Device
+  pub book : Book
+  pub failed : Bool
+
+-- What always holds of a log: while the device works, the book tells of its image.
+pub record IsLog (s : LogState) : Type 0 where
+  pub sizes : HasSizes s.device.sectors s.device.sector_size s.book
+  pub held : s.book.held ≤ s.book.sectors
+  pub few : length s.book.records.items < 2 ^ 32
+  pub told : s.failed ≡ false → IsBook s.device.image s.book
+
+-- the node's record may stand in so many bytes
+pub record FitsIn (sector_size free : ℕ) (n : Node) : Type 0 where
+  pub lawful : IsTrue (is_lawful n)
+  pub fits : IsTrue (has_place n.kind (dsize n) (sector_size / 4) free)
+
+-- the node's record may be the next, where that room is
+pub record MayAppend (r : Room) (n : Node) (s : LogState) : Type 0 where
+  pub lawful : IsTrue (is_lawful n)
+  pub short : record_len n ≤ s.book.sector_size / 4
+  pub has_room : IsTrue (has_room_in s.book.sectors s.book.sector_size s.device.image r (record_len n))
+  pub unmounts : r ≡ room.Unmount → IsTrue (is_unmount n.kind)
+
+-- whether the log of the image ends with an unmount node
+abbrev pub is_clean_log : LogState → Bool
+is_clean_log s = is_clean (sectors_in s.book.sectors s.book.sector_size s.device.image)
+
+-- only the places that are reserved for records may differ
+pub record IsSameLog (old new : LogState) : Type 0 where
+  pub device : new.device ≡ old.device
+  pub book : IsSameBook old.book new.book
+  pub failed : new.failed ≡ old.failed
+
+-- the numbers that an append leaves
+pub record KeepsNumbers (old new : Book) : Type 0 where
+  pub sizes : HasSizes old.sectors old.sector_size new
+  pub erases : new.erases ≡ old.erases
+
+-- A log that still works, of which the device has another image.
+pub record Works (old new : LogState) : Type 0 where
+  pub failed : new.failed ≡ false
+  pub told : IsBook new.device.image new.book
+  pub device : new.device ≡ with_image old.device new.device.image
+
+-- the record stands there, and the log has this layout
+pub record AppendedAt (sector place : ℕ) (layout : Layout) (n : Node) (old new : LogState) : Type 0 where
+  pub works : Works old new
+  pub numbers : KeepsNumbers old.book new.book
+  pub tail : (new.book.tail ≡ sector) × (new.book.used ≡ place + record_len n)
+  pub added : log_in new.device.image new.book ≡ log_in old.device.image old.book ++ placed_at sector place n ∷ []
+  pub layout_is : layout_in new.device.image new.book ≡ layout
+  pub clean : is_clean_log new ≡ is_unmount n.kind
+
+-- the device failed while the record was written there
+pub record AppendFailedAt (sector place : ℕ) (n : Node) (why : Cause) (old new : LogState) : Type 0 where
+  pub cause_is : why ≡ cause.Device
+  pub failed : new.failed ≡ true
+  pub device : Fails (λ image. IsCut old.book old.device.image image (placed_at sector place n)) old.device new.device
+  pub numbers : KeepsNumbers old.book new.book
+
+-- The node's record is the last of the log, in the tail or in the next sector.
+pub record Appended (r : Room) (n : Node) (old new : LogState) : Type 0 where
+  pub works : Works old new
+  pub numbers : KeepsNumbers old.book new.book
+  pub added : log_in new.device.image new.book ≡ log_in old.device.image old.book ++ placed_at new.book.tail (new.book.used - record_len n) n ∷ []
+  pub layout_is : layout_in new.device.image new.book ≡ put old.book.sector_size r n (layout_in old.device.image old.book)
+  pub clean : is_clean_log new ≡ is_unmount n.kind
+  pub history : (past : List Node) → IsHistory old.device.image old.book past → KeepsRules (n ∷ past) → IsHistory new.device.image new.book (n ∷ past)
+
+-- The device failed: a scan finds the log as it was, or with the whole record at its end.
+pub record AppendFailed (n : Node) (why : Cause) (old new : LogState) : Type 0 where
+  pub cause_is : why ≡ cause.Device
+  pub failed : new.failed ≡ true
+  pub device : Fails (λ image. IsCutSomewhere old.book old.device.image image n) old.device new.device
+  pub numbers : KeepsNumbers old.book new.book
+  pub history : (past : List Node) → IsHistory old.device.image old.book past → KeepsRules (n ∷ past)
+      → IsHistory new.device.image new.book past ⊎ IsHistory new.device.image new.book (n ∷ past)
+
+-- how often the oldest sector was to be erased, after once more
+abbrev pub one_erase_more : Book → ℕ
+one_erase_more b = min (b.erases + 1) (2 ^ 64 - 1)
+
+-- The oldest sector is gone.
+pub record ErasedOldest (tree : Tree) (old new : LogState) : Type 0 where
+  pub works : Works old new
+  pub image : new.device.image ≡ erased old.book.sector_size old.book.first old.device.image
+  pub sizes : HasSizes old.book.sectors old.book.sector_size new.book
+  pub erases : new.book.erases ≡ one_erase_more old.book
+  pub gone : log_in old.device.image old.book ≡ oldest_in old.device.image old.book ++ log_in new.device.image new.book
+  pub layout_is : layout_in new.device.image new.book ≡ erase_oldest (layout_in old.device.image old.book)
+  pub clean : is_clean_log new ≡ is_clean_log old
+  pub history : (past : List Node) → tree ≡ tree_of past → IsHistory old.device.image old.book past → IsHistory new.device.image new.book past
+
+-- The device failed: the oldest sector may hold any bytes.
+pub record EraseFailed (why : Cause) (old new : LogState) : Type 0 where
+  pub cause_is : why ≡ cause.Device
+  pub failed : new.failed ≡ true
+  pub device : EraseFails (IsHalfErased (old.book.first * old.book.sector_size) old.book.sector_size old.device.image) old.device new.device
+  pub sizes : HasSizes old.book.sectors old.book.sector_size new.book
+  pub erases : new.book.erases ≡ one_erase_more old.book
+
+-- A read of the device failed: no byte has changed.
+pub record ReadFailed (old new : LogState) : Type 0 where
+  pub device : Fails (λ image. image ≡ old.device.image) old.device new.device
+  pub book : new.book ≡ old.book
+  pub failed : new.failed ≡ true
+
+-- why nothing was read
+abbrev pub ReadStopped : Cause → LogState → LogState → Type 0
+ReadStopped cause.Memory old new = new ≡ old
+ReadStopped cause.Device old new = ReadFailed old new
+ReadStopped _ old new = ⊥
+
+-- no record of the oldest sector lives in the tree
+abbrev pub OldestIsDead : Tree → LogState → Type 0
+OldestIsDead tree s = AllByRecursion (λ p. lives_in tree p ≡ false) (oldest_in s.device.image s.book)

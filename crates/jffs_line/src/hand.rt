@@ -1,12 +1,11 @@
 //! The two ends of a line: a hand hands in requests of one sender, and a taker takes them.
-ghost use Rattle.std.specs.Prelude.{◌≡◌, ℕ, ◌+◌, ◌↔◌, List, [], ◌∷◌, ◌++◌, length, map, All, Contains, IfOk, IfErr, IsErrAnd, IfSome, IfNone};
+ghost use Rattle.std.specs.Prelude.{◌≡◌, ℕ, ◌+◌, ◌↔◌, List, [], ◌∷◌, ◌++◌, length, map, All, Contains, IfOk, IfErr, IsErr, IsErrAnd, IfSome, IfNone};
 ghost use Rattle.jffs_line.specs.Line.{Line, End};
 ghost use Rattle.jffs_line.specs.Requests.{of, request, IsNumbered};
 ghost use Rattle.jffs_line.specs.declared.request.Request.{Request};
 ghost use Rattle.jffs_line.specs.declared.request.Why.TheVariants.{Spent};
 
-use crate::request::{NotTaken, Request, SettleFault, Settled, Why};
-use crossbeam_utils::Backoff;
+use crate::request::{NotTaken, Request, SettleFault, Settled};
 use jffs_tree::Wish;
 use std::alloc::Global;
 use std::sync::Wait;
@@ -38,6 +37,13 @@ pub trait Hand: Drop {
         ensures accepted { IfOk result (λ seq. (seq ≡ length (accepted self.old) + 1) × (accepted self.new ≡ accepted self.old ++ request (sender self.old) seq wish ∷ [])) }
         ensures refused { IfErr result (λ e. (e.wish ≡ wish) × (accepted self.new ≡ accepted self.old)) }
         ensures spent { IsErrAnd result (λ e. e.why ≡ Spent) ↔ (length (accepted self.old) ≡ u32.MAX) };
+
+    /// Hands in a wish, and waits for a place, asleep where it takes long. Its one refusal is `Spent`, which gives the wish back.
+    fn put<R: Wait>(&mut self, rt: &R, wish: Wish) -> Result<u32, NotTaken>
+        ensures end { (sender self.new ≡ sender self.old) × (line self.new ≡ line self.old) }
+        ensures accepted { IfOk result (λ seq. (seq ≡ length (accepted self.old) + 1) × (accepted self.new ≡ accepted self.old ++ request (sender self.old) seq wish ∷ [])) }
+        ensures refused { IfErr result (λ e. (e.wish ≡ wish) × (e.why ≡ Spent) × (accepted self.new ≡ accepted self.old)) }
+        ensures spent { IsErr result ↔ (length (accepted self.old) ≡ u32.MAX) };
 
     /// The accepted requests are numbered 1, 2, 3, ..
     ghost numbered: { (hand : Self) → IsNumbered (accepted hand) };
@@ -83,21 +89,14 @@ impl<H: Hand> Control<H> {
         hand
     }
 
-    /// Hands in an unmount, and waits for a place. Its one refusal is `Spent`.
+    /// Hands in an unmount, and waits for a place, asleep where it takes long. Its one refusal is `Spent`.
     pub fn unmount<R: Wait>(&mut self, rt: &R) -> Result<u32, NotTaken>
         ensures end { (H.sender self.new.hand ≡ H.sender self.old.hand) × (H.line self.new.hand ≡ H.line self.old.hand) }
         ensures accepted { IfOk result (λ seq. (seq ≡ length (H.accepted self.old.hand) + 1) × (H.accepted self.new.hand ≡ H.accepted self.old.hand ++ request (H.sender self.old.hand) seq Unmount ∷ [])) }
         ensures refused { IfErr result (λ e. (e.wish ≡ Unmount) × (e.why ≡ Spent) × (H.accepted self.new.hand ≡ H.accepted self.old.hand)) }
         ensures spent { IsErr result ↔ (length (H.accepted self.old.hand) ≡ u32.MAX) }
     {
-        let backoff = Backoff::new();
-        for _ in rt.forever() {
-            match self.hand.offer(rt, Wish::Unmount) {
-                Err(NotTaken { why: Why::Full, .. }) => backoff.snooze(),
-                reply => return reply,
-            }
-        }
-        unreachable!()
+        self.hand.put(rt, Wish::Unmount)
     }
 }
 
@@ -112,6 +111,10 @@ impl<H: Hand> Hand for Control<H> {
 
     fn offer<R: Wait>(&mut self, rt: &R, wish: Wish) -> Result<u32, NotTaken> {
         self.hand.offer(rt, wish)
+    }
+
+    fn put<R: Wait>(&mut self, rt: &R, wish: Wish) -> Result<u32, NotTaken> {
+        self.hand.put(rt, wish)
     }
 }
 

@@ -4,12 +4,15 @@ ghost use Rattle.std.specs.List.{range_with_len};
 ghost use Rattle.rtrb.specs.Ring.{sent};
 ghost use Rattle.jffs_line.specs.Line.{senders};
 
+mod bell;
 mod make;
 mod settling;
 
 use crate::hand::{Ends, Hand, Taker};
 use crate::request::{NotTaken, Request, Why};
+use bell::Bell;
 use crossbeam_utils::Backoff;
+use crossbeam_utils::sync::{Parker, Unparker};
 use jffs_tree::Wish;
 pub use make::ring_line;
 use rtrb::{Consumer, Producer, PushError};
@@ -32,12 +35,16 @@ pub struct RingHand {
     producer: Producer<Note>,
     number: u16,
     last: u32,
+    // Sleeps here while its ring is full.
+    sleeper: Parker,
+    // Let go after the producer, so that a taker which it wakes finds this hand gone.
+    bell: Bell,
     ghost counted: { length (sent producer) ≡ last },
     ghost numbered: { map (λ n. n.seq) (sent producer) ≡ range_with_len 1 last },
 }
 
 impl RingHand {
-    ghost use Rattle.std.specs.Prelude.{◌≡◌, ℕ, ◌+◌, ◌↔◌, [], ◌∷◌, ◌++◌, length, IfOk, IfErr, IsErrAnd};
+    ghost use Rattle.std.specs.Prelude.{◌≡◌, ℕ, ◌+◌, ◌↔◌, [], ◌∷◌, ◌++◌, length, IfOk, IfErr, IsErr, IsErrAnd};
     ghost use Rattle.jffs_line.specs.Requests.{of, request};
     ghost use Rattle.jffs_line.specs.Rings.{ring_line, ring_accepted};
     ghost use Rattle.jffs_line.specs.declared.request.Why.TheVariants.{Spent, Full};
@@ -59,6 +66,7 @@ impl RingHand {
         match self.producer.push(Note { seq, wish }) {
             Ok(()) => {
                 self.last = seq;
+                self.bell.ring();
                 Ok(seq)
             }
             Err(PushError::Full(back)) => Err(NotTaken {
@@ -66,6 +74,34 @@ impl RingHand {
                 why: Why::Full,
             }),
         }
+    }
+
+    /// Hands in a wish, and waits for a place, asleep where it takes long. Its one refusal is `Spent`.
+    pub fn hand_in<R: Wait>(&mut self, rt: &R, wish: Wish) -> Result<u32, NotTaken>
+        ensures end { (self.new.number ≡ self.old.number) × (ring_line self.new ≡ ring_line self.old) }
+        ensures accepted { IfOk result (λ seq. (seq ≡ length (ring_accepted self.old) + 1) × (ring_accepted self.new ≡ ring_accepted self.old ++ request self.old.number seq wish ∷ [])) }
+        ensures refused { IfErr result (λ e. (e.wish ≡ wish) × (e.why ≡ Spent) × (ring_accepted self.new ≡ ring_accepted self.old)) }
+        ensures spent { IsErr result ↔ (length (ring_accepted self.old) ≡ u32.MAX) }
+    {
+        let backoff = Backoff::new();
+        let mut wish = wish;
+        for _ in rt.forever() {
+            match self.try_hand_in(wish) {
+                Err(
+                    NotTaken {
+                        wish: back,
+                        why: Why::Full,
+                    },
+                ) => wish = back,
+                reply => return reply,
+            }
+            if backoff.is_completed() {
+                self.sleeper.park(rt);
+            } else {
+                backoff.snooze();
+            }
+        }
+        unreachable!()
     }
 }
 
@@ -84,6 +120,10 @@ impl Hand for RingHand {
     fn offer<R: Wait>(&mut self, _rt: &R, wish: Wish) -> Result<u32, NotTaken> {
         self.try_hand_in(wish)
     }
+
+    fn put<R: Wait>(&mut self, rt: &R, wish: Wish) -> Result<u32, NotTaken> {
+        self.hand_in(rt, wish)
+    }
 }
 
 /// The end of a sender's ring that takes.
@@ -91,6 +131,8 @@ impl Hand for RingHand {
 pub struct Ring {
     consumer: Consumer<Note>,
     number: u16,
+    // Wakes the hand where it sleeps.
+    hand: Unparker,
 }
 
 impl Ring {
@@ -103,11 +145,14 @@ impl Ring {
         ensures none { IfNone result (ring_taken self.new ≡ ring_taken self.old) }
     {
         match self.consumer.pop() {
-            Ok(note) => Some(Request {
-                writer: self.number,
-                seq: note.seq,
-                wish: note.wish,
-            }),
+            Ok(note) => {
+                self.hand.unpark();
+                Some(Request {
+                    writer: self.number,
+                    seq: note.seq,
+                    wish: note.wish,
+                })
+            }
             Err(_) => None,
         }
     }
@@ -133,11 +178,20 @@ struct Look {
     has_request: bool,
 }
 
+// Why a look at all rings gave no request.
+#[derive(Clone, Copy)]
+enum Idle {
+    Empty,
+    Abandoned,
+}
+
 /// The end of all rings: those of the writers in order, the cleaner's and the control's.
 #[derive(Drop)]
 pub struct RingTaker {
     rings: Vec<Ring>,
     next: usize,
+    // Sleeps here while all rings are empty.
+    sleeper: Parker,
     ghost some: { 2 ≤ vec_len rings },
     ghost few: { vec_len rings ≤ 10 },
     ghost near: { next ≤ vec_len rings },
@@ -145,7 +199,7 @@ pub struct RingTaker {
 }
 
 impl RingTaker {
-    ghost use Rattle.std.specs.Prelude.{◌≡◌, ℕ, ◌<◌, [], ◌∷◌, ◌++◌, IfSome, IfNone, vec_len};
+    ghost use Rattle.std.specs.Prelude.{◌≡◌, ℕ, ◌<◌, [], ◌∷◌, ◌++◌, IfOk, OnErr, IfSome, IfNone, vec_len};
     ghost use Rattle.jffs_line.specs.Requests.{of};
     ghost use Rattle.jffs_line.specs.Rings.{rings_ends, rings_taken};
 
@@ -201,6 +255,31 @@ impl RingTaker {
         }
         None
     }
+
+    // Looks at all rings once. What waits in the control's ring is taken only after a round that began later and in
+    // which no other ring gave anything.
+    fn try_take(&mut self) -> Result<Request, Idle>
+        ensures ends { rings_ends self.new ≡ rings_ends self.old }
+        ensures some { IfOk result (λ r. (w : ℕ) → rings_taken self.new w ≡ rings_taken self.old w ++ of w (r ∷ [])) }
+        ensures none { OnErr result ((w : ℕ) → rings_taken self.new w ≡ rings_taken self.old w) }
+    {
+        let control = self.rings.len() - 1;
+        let is_last_round = self.is_alone();
+        let control_waits = self.look_at(control).has_request;
+        if let Some(request) = self.round() {
+            return Ok(request);
+        }
+        if control_waits {
+            if let Some(request) = self.pop_at(control) {
+                return Ok(request);
+            }
+        }
+        Err(if is_last_round {
+            Idle::Abandoned
+        } else {
+            Idle::Empty
+        })
+    }
 }
 
 impl Taker for RingTaker {
@@ -210,25 +289,20 @@ impl Taker for RingTaker {
 
     ghost taken = { rings_taken };
 
-    // What waits in the control's ring is taken only after a round that began later and in which no other ring gave anything.
+    // A hand that pushes or goes leaves a token at the sleeper, so no sleep misses what came after the last look.
     fn take<R: Wait>(&mut self, rt: &R) -> Option<Request> {
-        let control = self.rings.len() - 1;
         let backoff = Backoff::new();
         for _ in rt.forever() {
-            let is_last_round = self.is_alone();
-            let control_waits = self.look_at(control).has_request;
-            if let Some(request) = self.round() {
-                return Some(request);
+            match self.try_take() {
+                Ok(request) => return Some(request),
+                Err(Idle::Abandoned) => return None,
+                Err(Idle::Empty) => {}
             }
-            if control_waits {
-                if let Some(request) = self.pop_at(control) {
-                    return Some(request);
-                }
+            if backoff.is_completed() {
+                self.sleeper.park(rt);
+            } else {
+                backoff.snooze();
             }
-            if is_last_round {
-                return None;
-            }
-            backoff.snooze();
         }
         unreachable!()
     }

@@ -14,7 +14,8 @@ use crate::hand::{Ends, Hand, Taker};
 use crate::knows::Knows;
 use crate::request::{NotTaken, Request, Why};
 use crossbeam_channel::protocol::{Join, Lesson, Outcome, Protocol, Split};
-use crossbeam_channel::{Pass, RuledReceiver, RuledSender, TrySendError};
+use crossbeam_channel::{Pass, RuledReceiver, RuledSender, TryRecvError, TrySendError};
+use crossbeam_utils::Backoff;
 use jffs_tree::Wish;
 pub use make::shared_line;
 pub use settling::settle;
@@ -183,7 +184,10 @@ impl SharedHand {
 }
 
 impl Hand for SharedHand {
-    ghost use Rattle.jffs_line.specs.Shared.{shared_line, shared_accepted};
+    ghost use Rattle.std.specs.Prelude.{◌≡◌, ◌+◌, ◌↔◌, [], ◌∷◌, ◌++◌, length, IfOk, IfErr, IsErrAnd};
+    ghost use Rattle.jffs_line.specs.Requests.{request};
+    ghost use Rattle.jffs_line.specs.Shared.{shared_line, shared_accepted, shared_capacity, WasFull};
+    ghost use Rattle.jffs_line.specs.declared.request.Why.TheVariants.{Spent, Full};
     ghost use Rattle.jffs_line.specs.Numbered.{shared_numbered};
 
     ghost sender = { λ h. h.number };
@@ -194,10 +198,24 @@ impl Hand for SharedHand {
 
     ghost numbered = { shared_numbered };
 
-    fn offer<R: Wait>(&mut self, rt: &R, wish: Wish) -> Result<u32, NotTaken> {
+    fn offer<R: Wait>(&mut self, rt: &R, wish: Wish) -> Result<u32, NotTaken>
+        ensures end { (self.new.number ≡ self.old.number) × (shared_line self.new ≡ shared_line self.old) }
+        ensures accepted { IfOk result (λ seq. (seq ≡ length (shared_accepted self.old) + 1) × (shared_accepted self.new ≡ shared_accepted self.old ++ request self.old.number seq wish ∷ [])) }
+        ensures refused { IfErr result (λ e. (e.wish ≡ wish) × (shared_accepted self.new ≡ shared_accepted self.old)) }
+        ensures spent { IsErrAnd result (λ e. e.why ≡ Spent) ↔ (length (shared_accepted self.old) ≡ u32.MAX) }
+        ensures full { IfErr result (λ e. e.why ≡ Full → WasFull (shared_capacity self.old) self.old.number (shared_accepted self.old)) }
+    {
         self.try_hand_in(rt, wish)
     }
+
+    fn put<R: Wait>(&mut self, rt: &R, wish: Wish) -> Result<u32, NotTaken> {
+        self.hand_in(rt, wish)
+    }
 }
+
+// How often the taker looks at an empty line before it sleeps. A sleep costs it a system call and the sender that
+// wakes it another; the looks last long enough for a sender that is at work on its next request.
+const TRIES: u32 = 16;
 
 /// The end of the shared line that takes.
 #[derive(Drop)]
@@ -225,6 +243,14 @@ impl Taker for SharedTaker {
         ensures none { IfNone result ((w : ℕ) → shared_taken self.new w ≡ shared_taken self.old w) }
         ensures empty { IfNone result (WasEmpty self.old) }
     {
+        let backoff = Backoff::new();
+        for _ in 0..TRIES {
+            match self.receives.try_recv_as::<Take, R>(rt, &mut self.pass) {
+                Ok(request) => return Some(request),
+                Err(TryRecvError::Disconnected) => return None,
+                Err(TryRecvError::Empty) => backoff.snooze(),
+            }
+        }
         self.receives.recv_as::<Take, R>(rt, &mut self.pass).ok()
     }
 }

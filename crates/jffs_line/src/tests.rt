@@ -3,12 +3,14 @@
 ghost use Rattle.std.specs.Prelude.{◌≡◌, map, [], ◌∷◌, ◌++◌};
 
 mod sessions;
+mod waking;
 
 use crate::hand::{Ends, Hand, Settle, Taker};
 use crate::request::{LineFault, NotTaken, Settled, Why};
 use crate::rings::{self, ring_line};
 use crate::shared::{self, shared_line};
 use crate::tests::sessions::{Session, run_session};
+use crate::tests::waking::{take_asleep, unmount_asleep};
 use jffs_node::Path;
 use jffs_tree::Wish;
 use std::alloc::Global;
@@ -224,6 +226,30 @@ fn eight_writers_hand_in_beside_a_taker(rt: HostRuntime) -> Result<(), Fail> {
         let line = ring_line(alloc, capacity, 8)?;
         let session = run_session(&rt, alloc, line, WISHES, taken);
         check_session(&rt, session, taken, waiting);
+    }
+    Ok(())
+}
+
+#[test]
+fn a_taker_asleep_is_woken_by_a_request_and_by_the_last_hand(rt: HostRuntime) -> Result<(), Fail> {
+    let alloc = rt.alloc();
+    for taken in [
+        take_asleep(&rt, shared_line(&rt, alloc, 1, 1)?),
+        take_asleep(&rt, ring_line(alloc, 1, 1)?),
+    ] {
+        assert_eq!(rt; (taken.writer, taken.is_none), (Some(10), true));
+    }
+    Ok(())
+}
+
+#[test]
+fn an_unmount_asleep_at_a_full_line_is_woken(rt: HostRuntime) -> Result<(), Fail> {
+    let alloc = rt.alloc();
+    for numbers in [
+        unmount_asleep(&rt, shared_line(&rt, alloc, 1, 1)?),
+        unmount_asleep(&rt, ring_line(alloc, 1, 1)?),
+    ] {
+        assert_eq!(rt; numbers, [Some(1), Some(2)]);
     }
     Ok(())
 }

@@ -1,9 +1,14 @@
 //! What ends a tool before its work is done.
 
+ghost use Rattle.std.specs.Prelude.{◌≡◌, ◌≢◌};
+ghost use Rattle.std.specs.IoError.{error_kind};
+ghost use Rattle.jffs_tools.specs.Faults.{status_of};
+
 use jffs_node::NoMemory;
 use jffs_text::{DumpFault, ScriptWhy};
 use std::alloc::{AllocError, AllocFailed};
 use std::io;
+use std::io::ErrorKind;
 use thiserror::Error;
 
 /// The status of a tool that did all that it was asked for.
@@ -36,33 +41,64 @@ pub enum ToolFault {
     /// An image that isn't as long as its sectors together.
     #[error("the image has another length than its sectors")]
     Length,
+    /// The digest of flash that is larger than any volume, whose bytes aren't kept.
+    #[error("the flash is larger than any volume")]
+    Large,
     /// The words of a call aren't two numbers.
     #[error("SECTORS and SECTOR_SIZE are wanted, two numbers")]
     Words,
+    /// A call has words where none are wanted.
+    #[error("no words are wanted but --help")]
+    NoWords,
     /// Standard input can't be read.
     #[error("standard input can't be read")]
     Read,
     /// Standard output can't be written.
     #[error("standard output can't be written")]
     Write,
-    /// A growth was refused.
+    /// Allocation failed.
     #[error("out of memory")]
     Memory,
 }
 
 impl ToolFault {
     /// The status that a tool ends with.
-    pub(crate) fn status(self) -> u8 {
+    pub(crate) fn status(self) -> u8
+        ensures { result ≡ status_of self }
+    {
         match self {
             ToolFault::Read | ToolFault::Write | ToolFault::Memory => BROKEN,
             _ => MISUSED,
         }
     }
+
+    /// What an error of standard input ends a tool with.
+    pub(crate) fn of_input(error: io::Error) -> ToolFault {
+        ToolFault::of_stream(error, ToolFault::Read)
+    }
+
+    /// What an error of a file ends a tool with.
+    pub(crate) fn of_file(error: io::Error) -> ToolFault {
+        ToolFault::of_stream(error, ToolFault::File)
+    }
+
+    /// Memory where allocation failed, which is no fault of the stream, and else the stream's own
+    /// fault.
+    fn of_stream(error: io::Error, fault: ToolFault) -> ToolFault
+        ensures memory { error_kind error ≡ ErrorKind.OutOfMemory → result ≡ ToolFault.Memory }
+        ensures other { error_kind error ≢ ErrorKind.OutOfMemory → result ≡ fault }
+    {
+        match error.kind() {
+            ErrorKind::OutOfMemory => ToolFault::Memory,
+            _ => fault,
+        }
+    }
 }
 
+/// An error of standard output.
 impl From<io::Error> for ToolFault {
-    fn from(_: io::Error) -> ToolFault {
-        ToolFault::Write
+    fn from(error: io::Error) -> ToolFault {
+        ToolFault::of_stream(error, ToolFault::Write)
     }
 }
 

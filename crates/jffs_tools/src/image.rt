@@ -1,6 +1,7 @@
 //! What is on an image.
 
 use crate::fault::ToolFault;
+use crate::replay::Image;
 use crate::texts::{mounted_text, next_text, record_text, scan_refused_text, sectors_text};
 use jffs_flash::MemoryFlash;
 use jffs_log::{Mounted, ScanFault, ScanWhy, scan};
@@ -14,6 +15,15 @@ pub enum Seen {
     Mounted,
     /// The scan refuses it.
     Refused,
+}
+
+/// Shows what is on an image, as `print_image` does; one that is larger than any volume is refused
+/// as Geometry. Write where the writer failed, Memory where allocation failed.
+pub(crate) fn show<W: Write>(alloc: Global, image: Image, out: &mut W) -> Result<Seen, ToolFault> {
+    match image {
+        Image::Flash(flash) => print_image(alloc, flash, out),
+        Image::Large => print_refused(alloc, ScanWhy::Geometry, out),
+    }
 }
 
 /// Scans an image and writes what is on it: whether it is clean, the numbers that come next, the
@@ -35,11 +45,13 @@ pub fn print_image<W: Write>(
                 flash: _,
             },
         ) => Err(ToolFault::Memory),
-        Err(ScanFault { why, flash: _ }) => {
-            print_line(scan_refused_text(alloc, why)?.as_str(), out)?;
-            Ok(Seen::Refused)
-        }
+        Err(ScanFault { why, flash: _ }) => print_refused(alloc, why, out),
     }
+}
+
+fn print_refused<W: Write>(alloc: Global, why: ScanWhy, out: &mut W) -> Result<Seen, ToolFault> {
+    print_line(scan_refused_text(alloc, why)?.as_str(), out)?;
+    Ok(Seen::Refused)
 }
 
 fn print_mounted<W: Write>(

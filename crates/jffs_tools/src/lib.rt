@@ -11,6 +11,7 @@ mod image;
 mod names;
 mod operation;
 mod program;
+mod reading;
 mod replay;
 mod telling;
 #[cfg(test)]

@@ -2,16 +2,16 @@
 
 use crate::did::Answered;
 use crate::fault::{DONE, REFUSED, ToolFault};
-use crate::image::{Seen, print_image};
+use crate::image::{Seen, show};
 use crate::operation::Operation;
-use crate::replay::{Replay, flash_of};
+use crate::reading::{read_image, read_line};
+use crate::replay::{Replay, image_of};
 use crate::texts::answered_text;
-use jffs_flash::ERASED_BYTE;
 use jffs_text::{ScriptWhy, Words, line_text};
 use std::alloc::Global;
-use std::fs;
-use std::io::{Read, Write};
+use std::io::{BufRead, BufReader, Read, Write};
 use std::rt::Files;
+use std::{fs, io};
 
 const IMAGE_HELP: &str = "jffs_image SECTORS SECTOR_SIZE < IMAGE
 
@@ -25,13 +25,13 @@ const REPLAY_HELP: &str = "jffs_replay < OPERATIONS
 Drives a core operation by operation, and writes one line for each:
   flash S Z | image FILE S Z | fuse CALLS Writes|All Nothing|Half | mount
   request WRITER SEQ COMMAND | clean_oldest | erase_dead | image
-Status: 0, 2 after a line that is no operation, 1 after a fault.
+Status: 0, 2 after a wrong call or a line that is no operation, 1 after a fault.
 ";
 
-/// Shows what is on the image that a reader gives, of the sizes that two words say. `words` is how
-/// the program was called, with its own name first. Gives the exit status: 0, 3 where the scan
-/// refuses the image, 2 after a wrong call, 1 where it can't read, write or find memory; for the
-/// last two one line goes to `errors`.
+/// Shows what is on the image that a reader gives, of the sizes that two words say, and reads no
+/// more than the image and one byte. `words` is how the program was called, with its own name
+/// first. Gives the exit status: 0, 3 where the scan refuses the image, 2 after a wrong call, 1
+/// where it can't read, write or find memory; for the last two one line goes to `errors`.
 pub fn run_image<R: Read, W: Write, E: Write>(
     alloc: Global,
     words: &[String],
@@ -55,14 +55,12 @@ fn show_image<R: Read, W: Write>(
     out: &mut W,
 ) -> Result<u8, ToolFault> {
     if asks_help(words) {
-        out.write_all(IMAGE_HELP.as_bytes())?;
-        out.flush()?;
+        write_help(IMAGE_HELP, out)?;
         return Ok(DONE);
     }
     let (sectors, sector_size) = image_sizes(words)?;
-    let bytes = read_whole(alloc, input)?;
-    let flash = flash_of(sectors, sector_size, bytes)?;
-    let seen = print_image(alloc, flash, out)?;
+    let bytes = read_image(alloc, sectors, sector_size, input).map_err(ToolFault::of_input)?;
+    let seen = show(alloc, image_of(sectors, sector_size, bytes)?, out)?;
     out.flush()?;
     Ok(match seen {
         Seen::Mounted => DONE,
@@ -76,6 +74,12 @@ fn asks_help(words: &[String]) -> bool {
         [_, word] => word.as_str() == "--help",
         _ => false,
     }
+}
+
+fn write_help<W: Write>(help: &str, out: &mut W) -> Result<(), ToolFault> {
+    out.write_all(help.as_bytes())?;
+    out.flush()?;
+    Ok(())
 }
 
 /// The two numbers behind the program's name.
@@ -94,17 +98,10 @@ fn number_of(word: &String) -> Result<u32, ToolFault> {
     words.take_number(0, u32::MAX).map_err(|_| ToolFault::Words)
 }
 
-fn read_whole<R: Read>(alloc: Global, input: &mut R) -> Result<Vec<u8>, ToolFault> {
-    let mut bytes = Vec::new(alloc);
-    match input.read_to_end(&mut bytes) {
-        Ok(_) => Ok(bytes),
-        Err(_) => Err(ToolFault::Read),
-    }
-}
-
-/// Runs the operations that a reader gives and writes one line for each. Gives the exit status:
-/// 0, 2 after a line that is no operation or can't be done, 1 where it can't read, write or find
-/// memory; for the last two one line with the line's number goes to `errors`.
+/// Runs the operations that a reader gives, each before the next line is read, and writes one line
+/// for each, which is flushed at once. Gives the exit status: 0, 2 after a wrong call or a line
+/// that is no operation or can't be done, 1 where it can't read, write or find memory; for the
+/// last two one line goes to `errors`, with the number of the line where there is one.
 pub fn run_replay<Rt: Files + AllocGlobal, R: Read, W: Write, E: Write>(
     rt: &Rt,
     words: &[String],
@@ -112,15 +109,29 @@ pub fn run_replay<Rt: Files + AllocGlobal, R: Read, W: Write, E: Write>(
     out: &mut W,
     errors: &mut E,
 ) -> u8 {
-    if asks_help(words) {
-        let _ = out.write_all(REPLAY_HELP.as_bytes());
-        let _ = out.flush();
-        return DONE;
+    let wordless = match words {
+        [] | [_] => return replay_lines(rt, input, out, errors),
+        _ if asks_help(words) => write_help(REPLAY_HELP, out),
+        _ => Err(ToolFault::NoWords),
+    };
+    match wordless {
+        Ok(()) => DONE,
+        Err(fault) => {
+            let _ = writeln!(errors, "jffs_replay: {fault}");
+            fault.status()
+        }
     }
+}
+
+fn replay_lines<Rt: Files + AllocGlobal, R: Read, W: Write, E: Write>(
+    rt: &Rt,
+    input: &mut R,
+    out: &mut W,
+    errors: &mut E,
+) -> u8 {
     match replay_all(rt, input, out) {
         Ok(()) => DONE,
         Err(Stopped { line, fault }) => {
-            let _ = out.flush();
             let _ = writeln!(errors, "jffs_replay: line {line}: {fault}");
             fault.status()
         }
@@ -131,7 +142,7 @@ pub fn run_replay<Rt: Files + AllocGlobal, R: Read, W: Write, E: Write>(
 #[derive(Clone, Copy, Debug, PartialEq, Eq)]
 pub(crate) struct Stopped {
     /// Counted from 1.
-    pub line: usize,
+    pub line: u64,
     pub fault: ToolFault,
 }
 
@@ -140,37 +151,52 @@ fn replay_all<Rt: Files + AllocGlobal, R: Read, W: Write>(
     input: &mut R,
     out: &mut W,
 ) -> Result<(), Stopped> {
-    match read_whole(rt.alloc(), input) {
-        Ok(text) => run_lines(rt, &mut Replay::new(rt.alloc()), &text, out),
-        Err(fault) => Err(Stopped { line: 1, fault }),
+    match BufReader::new(rt.alloc(), input) {
+        Ok(mut lines) => run_lines(rt, &mut Replay::new(rt.alloc()), &mut lines, out),
+        Err(error) => Err(Stopped {
+            line: 1,
+            fault: ToolFault::of_input(error),
+        }),
     }
 }
 
 /// Runs the operations of a text and writes a line for each. It stops at the first line that is no
 /// operation or can't be done.
-pub(crate) fn run_lines<Rt: Files + AllocGlobal, W: Write>(
+pub(crate) fn run_lines<Rt: Files + AllocGlobal, B: BufRead, W: Write>(
     rt: &Rt,
     replay: &mut Replay,
-    text: &[u8],
+    input: &mut B,
     out: &mut W,
 ) -> Result<(), Stopped> {
-    let mut number = 0usize;
-    for line in text.split(|byte| *byte == b'\n') {
-        number = number.saturating_add(1);
-        if let Err(fault) = run_line(rt, replay, line, out) {
-            return Err(Stopped {
-                line: number,
-                fault,
-            });
+    let mut line = Vec::new(rt.alloc());
+    for before in 0..u64::MAX {
+        match run_next(rt, replay, input, &mut line, out) {
+            Ok(true) => {}
+            Ok(false) => return Ok(()),
+            Err(fault) => {
+                return Err(Stopped {
+                    line: before + 1,
+                    fault,
+                });
+            }
         }
     }
-    match out.flush() {
-        Ok(()) => Ok(()),
-        Err(fault) => Err(Stopped {
-            line: number,
-            fault: ToolFault::from(fault),
-        }),
+    Ok(())
+}
+
+/// Reads the next line into `line` and runs its operation. False at the end of the input.
+fn run_next<Rt: Files + AllocGlobal, B: BufRead, W: Write>(
+    rt: &Rt,
+    replay: &mut Replay,
+    input: &mut B,
+    line: &mut Vec<u8>,
+    out: &mut W,
+) -> Result<bool, ToolFault> {
+    let more = read_line(input, line).map_err(ToolFault::of_input)?;
+    if more {
+        run_line(rt, replay, line, out)?;
     }
+    Ok(more)
 }
 
 /// Runs the operation of one line; an empty line and a comment are none.
@@ -190,6 +216,7 @@ fn run_line<Rt: Files + AllocGlobal, W: Write>(
         Err(why) => return Err(ToolFault::Operation(why)),
     }
     out.write_all(b"\n")?;
+    out.flush()?;
     Ok(())
 }
 
@@ -204,12 +231,7 @@ fn run_operation<Rt: Files + AllocGlobal, W: Write>(
             sectors,
             sector_size,
         } => {
-            let length = sectors as usize * sector_size as usize;
-            replay.begin(
-                sectors,
-                sector_size,
-                vec![in rt.alloc(); ERASED_BYTE; length]?,
-            )?;
+            replay.begin_erased(sectors, sector_size)?;
             out.write_all(b"ready")?;
         }
         Operation::Open {
@@ -217,7 +239,7 @@ fn run_operation<Rt: Files + AllocGlobal, W: Write>(
             sectors,
             sector_size,
         } => {
-            let bytes = fs::read(rt, file).map_err(|_| ToolFault::File)?;
+            let bytes = read_file(rt, file, sectors, sector_size).map_err(ToolFault::of_file)?;
             replay.begin(sectors, sector_size, bytes)?;
             out.write_all(b"ready")?;
         }
@@ -232,6 +254,17 @@ fn run_operation<Rt: Files + AllocGlobal, W: Write>(
         Operation::Digest => replay.digest(out)?,
     }
     Ok(())
+}
+
+/// The image that stands in a file, for a device of these sizes.
+fn read_file<Rt: Files + AllocGlobal>(
+    rt: &Rt,
+    file: &str,
+    sectors: u32,
+    sector_size: u32,
+) -> io::Result<Vec<u8>> {
+    let mut opened = fs::open(rt, file)?;
+    read_image(rt.alloc(), sectors, sector_size, &mut opened)
 }
 
 fn write_answered<Rt: AllocGlobal, W: Write>(

@@ -6,12 +6,13 @@ ghost use Rattle.jffs_flash.specs.Device.{device_of};
 use crate::did::{Answered, Did};
 use crate::fault::ToolFault;
 use crate::operation::Fuse;
+use crate::reading::{VOLUME_MAX, device_length};
 use crate::telling::{count_given, did, last_place, own_records, totals};
 use crate::texts::{digest_text, mounted_next_text, scan_refused_text};
 use jffs_core::{Cleaned, Core};
-use jffs_flash::{Fail, FuseFlash, Fused, MemoryFlash};
+use jffs_flash::{ERASED_BYTE, Fail, FuseFlash, Fused, MemoryFlash};
 use jffs_line::Request;
-use jffs_log::ScanFault;
+use jffs_log::{ScanFault, ScanWhy};
 use jffs_text::dump;
 use std::alloc::Global;
 use std::io::Write;
@@ -21,6 +22,8 @@ use std::mem;
 #[derive(Drop)]
 enum Device {
     Absent,
+    /// Larger than any volume: no scan would take it, so its bytes aren't kept.
+    Large,
     /// Not mounted.
     Bare(MemoryFlash),
     Mounted(Core<FuseFlash>),
@@ -45,15 +48,33 @@ impl Replay {
         }
     }
 
-    /// Begins with flash that holds these bytes, in place of any that stood there. `Length` where
-    /// they aren't as many as the sectors have together: nothing is changed.
+    /// Begins with erased flash of so many sectors of so many bytes, in place of any that stood
+    /// there. Flash that is larger than any volume takes no memory: a mount refuses it as
+    /// Geometry. `Memory` where allocation failed: nothing is changed.
+    pub fn begin_erased(&mut self, sectors: u32, sector_size: u32) -> Result<(), ToolFault> {
+        let length = device_length(sectors, sector_size);
+        if length > VOLUME_MAX {
+            self.device = Device::Large;
+            return Ok(());
+        }
+        let bytes = vec![in self.alloc; ERASED_BYTE; length as usize]?;
+        self.begin(sectors, sector_size, bytes)
+    }
+
+    /// Begins with flash that holds these bytes, in place of any that stood there. Where they and
+    /// the flash are larger than any volume they aren't kept, and a mount refuses the flash as
+    /// Geometry. `Length` where they aren't as many as the sectors have together: nothing is
+    /// changed.
     pub fn begin(
         &mut self,
         sectors: u32,
         sector_size: u32,
         bytes: Vec<u8>,
     ) -> Result<(), ToolFault> {
-        self.device = Device::Bare(flash_of(sectors, sector_size, bytes)?);
+        self.device = match image_of(sectors, sector_size, bytes)? {
+            Image::Large => Device::Large,
+            Image::Flash(flash) => Device::Bare(flash),
+        };
         Ok(())
     }
 
@@ -67,6 +88,7 @@ impl Replay {
     pub fn mount<W: Write>(&mut self, out: &mut W) -> Result<(), ToolFault> {
         let flash = match mem::replace(&mut self.device, Device::Absent) {
             Device::Absent => return Err(ToolFault::NoFlash),
+            Device::Large => return self.refuse_large(out),
             Device::Bare(flash) => flash,
             Device::Mounted(core) => core.into_flash().into_inner(),
         };
@@ -82,6 +104,15 @@ impl Replay {
                 self.device = Device::Bare(flash.into_inner());
             }
         }
+        Ok(())
+    }
+
+    /// Writes why flash that is larger than any volume isn't mounted; the fuse is spent, as at
+    /// any mount.
+    fn refuse_large<W: Write>(&mut self, out: &mut W) -> Result<(), ToolFault> {
+        self.device = Device::Large;
+        self.fuse = None;
+        out.write_all(scan_refused_text(self.alloc, ScanWhy::Geometry)?.as_bytes())?;
         Ok(())
     }
 
@@ -132,16 +163,19 @@ impl Replay {
         })
     }
 
-    /// Writes the SHA-256 digest of the whole image in hex. `NoFlash` where there is none.
+    /// Writes the SHA-256 digest of the whole image in hex. `NoFlash` where there is none, `Large`
+    /// of flash that is larger than any volume.
     pub fn digest<W: Write>(&self, out: &mut W) -> Result<(), ToolFault> {
         out.write_all(digest_text(self.alloc, self.bytes()?)?.as_bytes())?;
         Ok(())
     }
 
-    /// The bytes of the whole image. `NoFlash` where there is none.
+    /// The bytes of the whole image. `NoFlash` where there is none, `Large` of flash that is larger
+    /// than any volume.
     pub(crate) fn bytes(&self) -> Result<&[u8], ToolFault> {
         match &self.device {
             Device::Absent => Err(ToolFault::NoFlash),
+            Device::Large => Err(ToolFault::Large),
             Device::Bare(flash) => Ok(flash.bytes()),
             Device::Mounted(core) => Ok(core.log().flash().inner().bytes()),
         }
@@ -150,21 +184,35 @@ impl Replay {
     fn core(&mut self) -> Result<&mut Core<FuseFlash>, ToolFault> {
         match &mut self.device {
             Device::Mounted(core) => Ok(core),
-            Device::Bare(_) | Device::Absent => Err(ToolFault::NotMounted),
+            Device::Bare(_) | Device::Large | Device::Absent => Err(ToolFault::NotMounted),
         }
     }
 }
 
+/// The bytes that a device begins with.
+#[derive(Drop)]
+pub(crate) enum Image {
+    /// The sectors, and the bytes, are larger than any volume.
+    Large,
+    Flash(MemoryFlash),
+}
+
+/// What `read_image` read for a device of these sizes. `Length` where it isn't as long as the
+/// sectors together; where both are larger than any volume they aren't compared.
+pub(crate) fn image_of(sectors: u32, sector_size: u32, bytes: Vec<u8>) -> Result<Image, ToolFault> {
+    let length = device_length(sectors, sector_size);
+    if length > VOLUME_MAX && bytes.len() as u64 > VOLUME_MAX {
+        return Ok(Image::Large);
+    }
+    Ok(Image::Flash(flash_of(sectors, sector_size, bytes)?))
+}
+
 /// Flash that holds these bytes. `Length` where they aren't as many as the sectors have together.
-pub(crate) fn flash_of(
-    sectors: u32,
-    sector_size: u32,
-    bytes: Vec<u8>,
-) -> Result<MemoryFlash, ToolFault>
+fn flash_of(sectors: u32, sector_size: u32, bytes: Vec<u8>) -> Result<MemoryFlash, ToolFault>
     ensures flash { IfOk result (λ flash. flash ≡ device_of sectors sector_size bytes.items) }
     ensures length { IsErrOf result ToolFault.Length ↔ (vec_len bytes ≢ sectors * sector_size) }
 {
-    if bytes.len() as u64 != u64::from(sectors) * u64::from(sector_size) {
+    if bytes.len() as u64 != device_length(sectors, sector_size) {
         return Err(ToolFault::Length);
     }
     Ok(MemoryFlash::from_bytes(sectors, sector_size, bytes))

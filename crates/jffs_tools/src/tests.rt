@@ -3,10 +3,12 @@
 mod images;
 mod operations;
 mod records;
+mod streams;
 mod turns;
 
 use crate::program::{run_image, run_lines, run_replay};
 use crate::replay::Replay;
+use std::alloc::{AllocError, Global};
 use std::process::Abort;
 use std::rt::Files;
 use std::test::Fail;
@@ -48,7 +50,7 @@ fn replays_from<Rt: Abort + Files + AllocGlobal>(
     let sectors = (image.len() / 1024).min(64) as u32;
     replay.begin(sectors, 1024, image)?;
     let mut out = Vec::new(rt.alloc());
-    let stopped = run_lines(rt, &mut replay, script.as_bytes(), &mut out);
+    let stopped = run_lines(rt, &mut replay, &mut script.as_bytes(), &mut out);
     assert_eq!(rt; stopped, Ok(()), "of {script}");
     let out = text_of(rt, out)?;
     assert_eq!(rt; out.as_str(), wanted, "of {script}");
@@ -81,4 +83,13 @@ fn shows<Rt: Abort + AllocGlobal>(
 
 fn text_of<Rt: AllocGlobal>(rt: &Rt, bytes: Vec<u8>) -> Result<String, Fail> {
     Ok(String::from_str(rt.alloc(), str::from_utf8(&bytes)?)?)
+}
+
+/// The words that a program is called with.
+fn called(alloc: Global, words: &[&str]) -> Result<Vec<String>, AllocError> {
+    let mut called = Vec::new(alloc);
+    for word in words {
+        called.push(String::from_str(alloc, word)?)?;
+    }
+    Ok(called)
 }

@@ -5,24 +5,40 @@ ghost use Rattle.jffs_line.specs.Line.{senders};
 ghost use Rattle.jffs_line.specs.Rings.{ring_end, ring_hand_end, ring_accepted, ring_capacity, ring_taken, rings_ends, rings_taken, all_ring_hands};
 ghost use Rattle.jffs_line.specs.declared.request.LineFault.TheVariants.{Capacity, Senders};
 
+use super::bell::Bell;
 use super::{Ring, RingHand, RingLine, RingTaker};
 use crate::hand::{CLEANER, CONTROL, Control, Ends, Hands, MOST_CAPACITY, MOST_WRITERS};
 use crate::request::LineFault;
+use crossbeam_utils::sync::{Parker, Unparker};
 use rtrb::RingBuffer;
 use std::alloc::{AllocError, Global};
 
 // Both ends of a sender's ring.
-fn ring(alloc: Global, capacity: usize, number: u16) -> Result<(RingHand, Ring), AllocError>
+fn ring(
+    alloc: Global,
+    capacity: usize,
+    number: u16,
+    taker: &Unparker,
+) -> Result<(RingHand, Ring), AllocError>
     ensures ends { IfOk result (λ r. (ring_hand_end r.0 ≡ ring_end r.1) × (r.0.number ≡ number)) }
     ensures fresh { IfOk result (λ r. (ring_accepted r.0 ≡ []) × (ring_capacity r.0 ≡ capacity) × (ring_taken r.1 ≡ [])) }
 {
     let (producer, consumer) = RingBuffer::new(alloc, capacity)?;
+    let sleeper = Parker::new(alloc)?;
+    let wakes_hand = sleeper.unparker().clone()?;
     let hand = RingHand {
         producer,
         number,
         last: 0,
+        sleeper,
+        bell: Bell::new(taker.clone()?),
     };
-    Ok((hand, Ring { consumer, number }))
+    let ring = Ring {
+        consumer,
+        number,
+        hand: wakes_hand,
+    };
+    Ok((hand, ring))
 }
 
 // Makes a sender's ring, and puts its ends behind the others.
@@ -30,6 +46,7 @@ fn add(
     alloc: Global,
     capacity: usize,
     number: u16,
+    taker: &Unparker,
     hands: &mut Vec<RingHand>,
     rings: &mut Vec<Ring>,
 ) -> Result<(), AllocError>
@@ -41,7 +58,7 @@ fn add(
     ensures fresh { OnOk result (All (λ h. (ring_accepted h ≡ []) × (ring_capacity h ≡ capacity)) hands.new.items) }
     ensures taken { OnOk result (All (λ r. ring_taken r ≡ []) rings.new.items) }
 {
-    let (hand, ring) = ring(alloc, capacity, number)?;
+    let (hand, ring) = ring(alloc, capacity, number, taker)?;
     hands.push(hand)?;
     rings.push(ring)?;
     Ok(())
@@ -52,6 +69,7 @@ fn writer_rings(
     alloc: Global,
     capacity: usize,
     count: u16,
+    taker: &Unparker,
 ) -> Result<(Vec<RingHand>, Vec<Ring>), AllocError>
     requires few { count ≤ 8 }
     ensures ends { IfOk result (λ r. map ring_hand_end r.0.items ≡ map ring_end r.1.items) }
@@ -62,7 +80,7 @@ fn writer_rings(
     let mut hands = Vec::new(alloc);
     let mut rings = Vec::new(alloc);
     for index in 0..count {
-        add(alloc, capacity, index + 1, &mut hands, &mut rings)?;
+        add(alloc, capacity, index + 1, taker, &mut hands, &mut rings)?;
     }
     Ok((hands, rings))
 }
@@ -74,9 +92,11 @@ fn line(alloc: Global, capacity: usize, writers: u16) -> Result<RingLine, AllocE
     ensures fresh { IfOk result (λ l. All (λ h. (ring_accepted h ≡ []) × (ring_capacity h ≡ capacity)) (all_ring_hands l.hands)) }
     ensures taken { IfOk result (λ l. (w : ℕ) → rings_taken l.taker w ≡ []) }
 {
-    let (hands, mut rings) = writer_rings(alloc, capacity, writers)?;
-    let (cleaner, of_cleaner) = ring(alloc, capacity, CLEANER)?;
-    let (control, of_control) = ring(alloc, capacity, CONTROL)?;
+    let sleeper = Parker::new(alloc)?;
+    let taker = sleeper.unparker();
+    let (hands, mut rings) = writer_rings(alloc, capacity, writers, taker)?;
+    let (cleaner, of_cleaner) = ring(alloc, capacity, CLEANER, taker)?;
+    let (control, of_control) = ring(alloc, capacity, CONTROL, taker)?;
     rings.push(of_cleaner)?;
     rings.push(of_control)?;
     Ok(Ends {
@@ -85,7 +105,11 @@ fn line(alloc: Global, capacity: usize, writers: u16) -> Result<RingLine, AllocE
             cleaner,
             control: Control::new(control),
         },
-        taker: RingTaker { rings, next: 0 },
+        taker: RingTaker {
+            rings,
+            next: 0,
+            sleeper,
+        },
     })
 }
 

@@ -18,6 +18,7 @@ fn empty(ring: Ring, hand: RingHand, waiting: &mut Vec<Request>) -> Result<(), A
     let Ring {
         mut consumer,
         number,
+        ..
     } = ring;
     let RingHand { mut producer, .. } = hand;
     let count = consumer.slots_beside(&mut producer);

@@ -1,7 +1,7 @@
 //! What is shown of images, and which the scan refuses.
 
 use super::records::{DIRECTORY, FILE, OLD_FORM, Record, UNMOUNT, changed, image_of};
-use super::{replays_from, shows};
+use super::{called, replays_from, shows};
 use crate::program::run_image;
 use std::process::Abort;
 use std::rt::Files;
@@ -185,10 +185,7 @@ fn an_image_is_called_for_by_two_numbers(rt: HostRuntime) -> Result<(), Fail> {
         ),
         (["jffs_image", "--help"].as_slice(), 0, ""),
     ] {
-        let mut called = Vec::new(alloc);
-        for word in words {
-            called.push(String::from_str(alloc, word)?)?;
-        }
+        let called = called(alloc, words)?;
         let mut input = b"too short".as_slice();
         let mut out = Vec::new(alloc);
         let mut errors = Vec::new(alloc);

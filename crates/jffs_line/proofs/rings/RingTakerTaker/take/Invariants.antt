@@ -1,4 +1,4 @@
-use Rattle.std.proofs.Common.{◌≡◌, ℕ, vec_len}
+use Rattle.std.proofs.Common.{◌≡◌, ℕ}
 use Rattle.jffs_line.specs.Rings.{rings_ends, rings_taken}
 use Rattle.jffs_line.proofs.rings.RingTakerTaker.take.Given as goal
 
@@ -6,5 +6,4 @@ abbrev pub invariant-loop : goal.invariant-loop
 invariant-loop g l = record {
   ends : rings_ends l.self ≡ rings_ends l.fn.self;
   taken : (w : ℕ) → rings_taken l.self w ≡ rings_taken l.fn.self w;
-  rings : vec_len l.self.rings ≡ vec_len l.fn.self.rings;
 }

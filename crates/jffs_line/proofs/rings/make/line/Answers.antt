@@ -33,9 +33,9 @@ pub returns-clause-senders : goal.returns-clause-senders
 returns-clause-senders c =
     let hs = c.in_ok-hands.hands.items in
     let f = c.in_ok-cleaner.cleaner in
-    let g = c.new.result.hand in
+    let g = c.new-2.result.hand in
     let first = sym (numbers_are c.in_ok-hands.rings.items hs (sym c.in_ok-hands.ensures.ends)) ∙ c.in_ok-hands.ensures.numbers in
-    let ten : g.number ≡ 10 = ap (λ (h : RingHand). h.number) c.new.ensures ∙ c.in_ok-control.ensures.ends.1 in
+    let ten : g.number ≡ 10 = ap (λ (h : RingHand). h.number) c.new-2.ensures ∙ c.in_ok-control.ensures.ends.1 in
     map-append (λ (h : RingHand). h.number) hs (f ∷ g ∷ []) ∙ ap (λ (l : List ℕ). l ++ f.number ∷ g.number ∷ []) first
     ∙ ap₂ (λ (m k : ℕ). range_with_len 1 c.args.writers ++ m ∷ k ∷ []) c.in_ok-cleaner.ensures.ends.1 ten
 
@@ -44,10 +44,10 @@ returns-clause-fresh c =
     let P : RingHand → Type 0 = λ h. (ring_accepted h ≡ []) × (ring_capacity h ≡ c.args.capacity) in
     let f = c.in_ok-cleaner in
     let g = c.in_ok-control in
-    let last : P c.new.result.hand = subst P (sym c.new.ensures) (g.ensures.fresh.0, g.ensures.fresh.1) in
-    let rest : List RingHand = c.new.result.hand ∷ [] in
+    let last : P c.new-2.result.hand = subst P (sym c.new-2.ensures) (g.ensures.fresh.0, g.ensures.fresh.1) in
+    let rest : List RingHand = c.new-2.result.hand ∷ [] in
     All-append P c.in_ok-hands.hands.items (f.cleaner ∷ rest) c.in_ok-hands.ensures.fresh
-    (All-cons P f.cleaner rest (f.ensures.fresh.0, f.ensures.fresh.1) (All-cons P c.new.result.hand [] last (All-nil P)))
+    (All-cons P f.cleaner rest (f.ensures.fresh.0, f.ensures.fresh.1) (All-cons P c.new-2.result.hand [] last (All-nil P)))
 
 pub returns-clause-taken : goal.returns-clause-taken
 returns-clause-taken c = λ w.

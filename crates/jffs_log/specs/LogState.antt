@@ -1,5 +1,5 @@
 -- A log as its callers see it, and what its calls leave of it.
-use Rattle.std.specs.Prelude.{◌≡◌, ◌≢◌, ◌⊎◌, ℕ, ◌+◌, ◌-◌, ◌*◌, ◌/◌, ◌^◌, ◌<◌, ◌≤◌, Bool, true, false, List, [], ◌∷◌, ◌++◌, length, min, IsTrue}
+use Rattle.std.specs.Prelude.{◌≡◌, ◌⊎◌, ℕ, ◌+◌, ◌-◌, ◌*◌, ◌/◌, ◌^◌, ◌<◌, ◌≤◌, Bool, true, false, List, [], ◌∷◌, ◌++◌, length, min, IsTrue}
 use Rattle.std.specs.List.{AllByRecursion}
 use Rattle.jffs_node.specs.declared.node.Node.{Node}
 use Rattle.jffs_node.specs.Record.{record_len, dsize, is_lawful, is_unmount, has_place}
@@ -14,7 +14,7 @@ use Rattle.jffs_log.specs.declared.room.Room.TheVariants as room
 use Rattle.jffs_log.specs.Book.{IsBook, HasSizes, IsSameBook, IsCut, IsCutSomewhere, log_in, oldest_in, layout_in, lives_in, placed_at}
 use Rattle.jffs_log.specs.Cleaning.{Layout, put, erase_oldest}
 use Rattle.jffs_log.specs.History.{IsHistory, KeepsRules}
-use Rattle.jffs_log.specs.Image.{is_clean}
+use Rattle.jffs_log.specs.Image.{Placed, is_clean}
 use Rattle.jffs_log.specs.Room.{has_room_in}
 use Rattle.jffs_log.specs.Volume.{sectors_in}
 
@@ -23,6 +23,18 @@ pub record LogState : Type 0 where
   pub device : Device
   pub book : Book
   pub failed : Bool
+
+-- the records of the image, each with its sector and place, in the order of the log
+abbrev pub log_records : LogState → List Placed
+log_records s = log_in s.device.image s.book
+
+-- the records by sectors, the free bytes of the tail and the number of erased sectors
+abbrev pub log_layout : LogState → Layout
+log_layout s = layout_in s.device.image s.book
+
+-- the log is the newest part of this history, and the rest of it was erased
+abbrev pub HasHistory : List Node → LogState → Type 0
+HasHistory past s = IsHistory s.device.image s.book past
 
 -- What always holds of a log: while the device works, the book tells of its image.
 pub record IsLog (s : LogState) : Type 0 where
@@ -69,8 +81,8 @@ pub record AppendedAt (sector place : ℕ) (layout : Layout) (n : Node) (old new
   pub works : Works old new
   pub numbers : KeepsNumbers old.book new.book
   pub tail : (new.book.tail ≡ sector) × (new.book.used ≡ place + record_len n)
-  pub added : log_in new.device.image new.book ≡ log_in old.device.image old.book ++ placed_at sector place n ∷ []
-  pub layout_is : layout_in new.device.image new.book ≡ layout
+  pub added : log_records new ≡ log_records old ++ placed_at sector place n ∷ []
+  pub layout_is : log_layout new ≡ layout
   pub clean : is_clean_log new ≡ is_unmount n.kind
 
 -- the device failed while the record was written there
@@ -84,10 +96,10 @@ pub record AppendFailedAt (sector place : ℕ) (n : Node) (why : Cause) (old new
 pub record Appended (r : Room) (n : Node) (old new : LogState) : Type 0 where
   pub works : Works old new
   pub numbers : KeepsNumbers old.book new.book
-  pub added : log_in new.device.image new.book ≡ log_in old.device.image old.book ++ placed_at new.book.tail (new.book.used - record_len n) n ∷ []
-  pub layout_is : layout_in new.device.image new.book ≡ put old.book.sector_size r n (layout_in old.device.image old.book)
+  pub added : log_records new ≡ log_records old ++ placed_at new.book.tail (new.book.used - record_len n) n ∷ []
+  pub layout_is : log_layout new ≡ put old.book.sector_size r n (log_layout old)
   pub clean : is_clean_log new ≡ is_unmount n.kind
-  pub history : (past : List Node) → IsHistory old.device.image old.book past → KeepsRules (n ∷ past) → IsHistory new.device.image new.book (n ∷ past)
+  pub history : (past : List Node) → HasHistory past old → KeepsRules (n ∷ past) → HasHistory (n ∷ past) new
 
 -- The device failed: a scan finds the log as it was, or with the whole record at its end.
 pub record AppendFailed (n : Node) (why : Cause) (old new : LogState) : Type 0 where
@@ -95,8 +107,8 @@ pub record AppendFailed (n : Node) (why : Cause) (old new : LogState) : Type 0 w
   pub failed : new.failed ≡ true
   pub device : Fails (λ image. IsCutSomewhere old.book old.device.image image n) old.device new.device
   pub numbers : KeepsNumbers old.book new.book
-  pub history : (past : List Node) → IsHistory old.device.image old.book past → KeepsRules (n ∷ past)
-      → IsHistory new.device.image new.book past ⊎ IsHistory new.device.image new.book (n ∷ past)
+  pub history : (past : List Node) → HasHistory past old → KeepsRules (n ∷ past)
+      → HasHistory past new ⊎ HasHistory (n ∷ past) new
 
 -- how often the oldest sector was to be erased, after once more
 abbrev pub one_erase_more : Book → ℕ
@@ -108,10 +120,10 @@ pub record ErasedOldest (tree : Tree) (old new : LogState) : Type 0 where
   pub image : new.device.image ≡ erased old.book.sector_size old.book.first old.device.image
   pub sizes : HasSizes old.book.sectors old.book.sector_size new.book
   pub erases : new.book.erases ≡ one_erase_more old.book
-  pub gone : log_in old.device.image old.book ≡ oldest_in old.device.image old.book ++ log_in new.device.image new.book
-  pub layout_is : layout_in new.device.image new.book ≡ erase_oldest (layout_in old.device.image old.book)
+  pub gone : log_records old ≡ oldest_in old.device.image old.book ++ log_records new
+  pub layout_is : log_layout new ≡ erase_oldest (log_layout old)
   pub clean : is_clean_log new ≡ is_clean_log old
-  pub history : (past : List Node) → tree ≡ tree_of past → IsHistory old.device.image old.book past → IsHistory new.device.image new.book past
+  pub history : (past : List Node) → tree ≡ tree_of past → HasHistory past old → HasHistory past new
 
 -- The device failed: the oldest sector may hold any bytes.
 pub record EraseFailed (why : Cause) (old new : LogState) : Type 0 where

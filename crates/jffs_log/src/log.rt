@@ -36,10 +36,9 @@ impl<F: Flash> Model for Log<F> {
 }
 
 impl<F: Flash> Log<F> {
-    ghost use Rattle.jffs_log.specs.Book.{kept, log_in};
-    ghost use Rattle.jffs_log.specs.LogState.{IsSameLog, MayAppend, Appended, AppendFailed, AppendedAt, AppendFailedAt, FitsIn};
+    ghost use Rattle.jffs_log.specs.Book.{kept};
+    ghost use Rattle.jffs_log.specs.LogState.{log_records, log_layout, IsSameLog, MayAppend, Appended, AppendFailed, AppendedAt, AppendFailedAt, FitsIn};
     ghost use Rattle.jffs_log.specs.Cleaning.{in_tail, in_next};
-    ghost use Rattle.jffs_log.specs.Book.{layout_in};
     ghost use Rattle.jffs_log.specs.Image.{erased_count};
     ghost use Rattle.jffs_log.specs.Volume.{sectors_in};
     ghost use Rattle.jffs_log.specs.Room.{tail_need, has_room, has_room_in};
@@ -76,7 +75,7 @@ impl<F: Flash> Log<F> {
     /// The records of the log, the oldest first. Takes no memory.
     pub fn records(&self) -> &VecDeque<Kept>
         ensures same { result.now ≡ self.now.book.records }
-        ensures listed { self.now.failed ≡ false → result.now.items ≡ map kept (log_in self.now.device.image self.now.book) }
+        ensures listed { self.now.failed ≡ false → result.now.items ≡ map kept (log_records self.now) }
     {
         &self.book.records
     }
@@ -126,7 +125,7 @@ impl<F: Flash> Log<F> {
         requires fits { FitsIn self.old.book.sector_size self.old.book.free node.now }
         requires reserved { deque_len self.old.book.records < deque_capacity self.old.book.records }
         ensures done { OnOk result (AppendedAt self.old.book.tail self.old.book.used
-            (in_tail node.now (layout_in self.old.device.image self.old.book)) node.now self.old self.new) }
+            (in_tail node.now (log_layout self.old)) node.now self.old self.new) }
         ensures failed { IfErr result (λ cause. AppendFailedAt self.old.book.tail self.old.book.used node.now cause self.old self.new) }
     {
         let book = &mut self.book;
@@ -156,7 +155,7 @@ impl<F: Flash> Log<F> {
         requires fits { FitsIn self.old.book.sector_size self.old.book.sector_size node.now }
         requires reserved { deque_len self.old.book.records < deque_capacity self.old.book.records }
         ensures done { OnOk result ((next : ℕ) × IsAt self.old.book.first self.old.book.sectors self.old.book.held next × AppendedAt next 0
-            (in_next self.old.book.sector_size node.now (layout_in self.old.device.image self.old.book)) node.now self.old self.new) }
+            (in_next self.old.book.sector_size node.now (log_layout self.old)) node.now self.old self.new) }
         ensures failed { IfErr result (λ cause. (next : ℕ) × AppendFailedAt next 0 node.now cause self.old self.new) }
     {
         let book = &mut self.book;

@@ -12,15 +12,15 @@ use std::collections::VecDeque;
 impl<F: Flash> Log<F> {
     ghost use Rattle.jffs_node.specs.declared.node.Node.{Node};
     ghost use Rattle.jffs_tree.specs.Origin.{tree_of};
-    ghost use Rattle.jffs_log.specs.Book.{log_in, weight_in, live_in, live_records_in};
-    ghost use Rattle.jffs_log.specs.History.{IsHistory};
+    ghost use Rattle.jffs_log.specs.LogState.{log_records, HasHistory};
+    ghost use Rattle.jffs_log.specs.Book.{weight_in, live_in, live_records_in};
     ghost use Rattle.jffs_log.specs.Room.{weight};
 
     /// The sum of the record lengths, in bytes, of those records that live in the tree of all nodes. Takes no memory.
     pub fn live_weight(&self, tree: &Tree) -> u64
         ensures known { result ≡ sum (map (λ k. k.length) (filter (λ k. holds_version tree.now k.inode k.version) self.now.book.records.items)) }
-        ensures weighed { self.now.failed ≡ false → result ≡ weight_in tree.now (log_in self.now.device.image self.now.book) }
-        ensures whole { self.now.failed ≡ false → (past : List Node) → tree.now ≡ tree_of past → IsHistory self.now.device.image self.now.book past → result ≡ weight past }
+        ensures weighed { self.now.failed ≡ false → result ≡ weight_in tree.now (log_records self.now) }
+        ensures whole { self.now.failed ≡ false → (past : List Node) → tree.now ≡ tree_of past → HasHistory past self.now → result ≡ weight past }
     {
         weight_of(&self.book.records, tree)
     }
@@ -29,8 +29,8 @@ impl<F: Flash> Log<F> {
     /// memory.
     pub fn live_in(&self, sector: u32, tree: &Tree) -> u32
         ensures known { result ≡ length (filter (λ k. (k.sector == sector) && holds_version tree.now k.inode k.version) self.now.book.records.items) }
-        ensures counted { self.now.failed ≡ false → result ≡ live_in sector tree.now (log_in self.now.device.image self.now.book) }
-        ensures whole { self.now.failed ≡ false → (past : List Node) → tree.now ≡ tree_of past → IsHistory self.now.device.image self.now.book past → result ≡ live_records_in sector past (log_in self.now.device.image self.now.book) }
+        ensures counted { self.now.failed ≡ false → result ≡ live_in sector tree.now (log_records self.now) }
+        ensures whole { self.now.failed ≡ false → (past : List Node) → tree.now ≡ tree_of past → HasHistory past self.now → result ≡ live_records_in sector past (log_records self.now) }
     {
         count_in(&self.book.records, sector, tree)
     }

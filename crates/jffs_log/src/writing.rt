@@ -1,6 +1,7 @@
 //! A record is written in two programs: with its gate open, and then the gate.
 
-ghost use Rattle.std.specs.Prelude.{length};
+ghost use Rattle.std.specs.Prelude.{◌≤◌, length};
+ghost use Rattle.jffs_node.specs.Record.{record_len as length_of};
 ghost use Rattle.jffs_log.specs.Gate.{AreErased, MayWrite, ProgramsErased, Writes};
 
 use jffs_flash::{Flash, FlashFault};
@@ -9,6 +10,9 @@ use jffs_node::{GATE_AT, GATE_CLOSED, GATE_OPEN, Node, encode_into, record_len};
 /// The longest record, in bytes: a quarter of the largest sector.
 pub const RECORD_MAX: usize = 4096;
 
+/// Up to here a record is made in a small buffer: filling a large one would cost as much as writing the record.
+const SMALL_RECORD: usize = 512;
+
 /// Writes the record of a node into erased flash, from the place `at` of the image on.
 ///
 /// After a failure the whole record stands there, or bytes that don't count as one.
@@ -16,7 +20,24 @@ pub(crate) fn write_record<F: Flash>(flash: &mut F, at: u32, node: &Node) -> Res
     requires { MayWrite at node.now (F.device flash.old).image }
     ensures { Writes at node.now result (F.device flash.old) (F.device flash.new) }
 {
-    let mut buffer = [GATE_OPEN; RECORD_MAX];
+    if record_len(node) as usize <= SMALL_RECORD {
+        write_through(flash, &mut [GATE_OPEN; SMALL_RECORD], at, node)
+    } else {
+        write_through(flash, &mut [GATE_OPEN; RECORD_MAX], at, node)
+    }
+}
+
+/// Writes the record of a node, which is made in the first bytes of a buffer.
+fn write_through<F: Flash>(
+    flash: &mut F,
+    buffer: &mut [u8],
+    at: u32,
+    node: &Node,
+) -> Result<(), FlashFault>
+    requires may { MayWrite at node.now (F.device flash.old).image }
+    requires long { length_of node.now ≤ length buffer.old }
+    ensures { Writes at node.now result (F.device flash.old) (F.device flash.new) }
+{
     let record = &mut buffer[..record_len(node) as usize];
     encode_into(node, record);
     record[GATE_AT] = GATE_OPEN;

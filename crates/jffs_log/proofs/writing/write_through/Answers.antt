@@ -5,7 +5,7 @@ use Rattle.jffs_flash.specs.Image.{replaced, programmed, IsHalfProgrammed}
 use Rattle.jffs_log.specs.Gate.{IsWritten}
 use Rattle.jffs_log.proofs.Gate.{opened, first_half, second_whole, second_half}
 use Rattle.jffs_log.proofs.Results.{match_err, match_weaker}
-use Rattle.jffs_log.proofs.writing.write_record.Goals as goal
+use Rattle.jffs_log.proofs.writing.write_through.Goals as goal
 
 pub returns-in_err-program_erased : goal.returns-in_err-program_erased
 returns-in_err-program_erased g c =
@@ -17,7 +17,7 @@ returns-in_err-program_erased g c =
     let open_gate : set c.encode_into.new.out 7 255 ≡ opened n = ap (λ (xs : List ℕ). set xs 7 255) c.encode_into.ensures in
     let half = subst (λ (xs : List ℕ). IsHalfProgrammed at xs old.image new.image) open_gate fails.left in
     let written : Fails (IsWritten at n old.image) old new = record {
-      left = first_half at n old.image new.image c.requires.lawful c.requires.free.erased half;
+      left = first_half at n old.image new.image c.requires.may.lawful c.requires.may.free.erased half;
       faults = fails.faults;
       rest = fails.rest;
     } in
@@ -37,11 +37,11 @@ returns g c =
     let Done : Device → Type 0 = λ d. new ≡ with_image d (programmed (at + 7) (0 ∷ []) d.image) in
     let Failed : Device → Type 0 = λ d. Fails (IsHalfProgrammed (at + 7) (0 ∷ []) d.image) d new in
     match_weaker c.program.result (Done mid) (new ≡ with_image old (replaced at (spelling n) old.image)) (Failed mid) (Fails (IsWritten at n old.image) old new)
-    (λ e. subst Done first e ∙ ap (with_image old) (second_whole at n old.image c.requires.lawful c.requires.free.inside))
+    (λ e. subst Done first e ∙ ap (with_image old) (second_whole at n old.image c.requires.may.lawful c.requires.may.free.inside))
     (λ h.
     let fails = subst Failed first h in
     record {
-      left = second_half at n old.image new.image c.requires.lawful c.requires.free.inside fails.left;
+      left = second_half at n old.image new.image c.requires.may.lawful c.requires.may.free.inside fails.left;
       faults = fails.faults;
       rest = fails.rest;
     })

@@ -6,7 +6,7 @@ use Rattle.jffs_tree.specs.declared.wish.Cause.TheVariants as causes
 use Rattle.jffs_log.specs.Book.{layout_in}
 use Rattle.jffs_log.specs.Cleaning.{Layout, Session, cleaned}
 use Rattle.jffs_log.proofs.Copied.{copies_take_over, unmounts_are_dead}
-use Rattle.jffs_log.proofs.Bound.{cleaning_has_room, no_room}
+use Rattle.jffs_log.proofs.Bound.{cleaning_has_room}
 use Rattle.jffs_core.specs.Standing.{Standing}
 use Rattle.jffs_core.specs.Run.{OnlyCopies}
 use Rattle.jffs_core.specs.declared.cleaning.Cleaned.{Cleaned}

@@ -20,7 +20,7 @@ use Rattle.jffs_log.proofs.SectorSpellings.{in_place_fits, record_long}
 use Rattle.jffs_log.proofs.Histories.{dead_as}
 use Rattle.jffs_log.proofs.Copied.{copies_take_over, unmounts_are_dead}
 use Rattle.jffs_log.proofs.Loop.{handled_in_parts, oldest_stays}
-use Rattle.jffs_log.proofs.Bound.{cleaning_has_room, handled_are_dead, no_room}
+use Rattle.jffs_log.proofs.Bound.{cleaning_has_room, handled_are_dead}
 use Rattle.jffs_core.specs.Standing.{Standing, SameAnswers}
 use Rattle.jffs_core.specs.History.{IsOwnCopy}
 use Rattle.jffs_core.specs.Past.{Knows, session}

@@ -1,5 +1,5 @@
 -- What a call of the log leaves of the core that made it.
-use Rattle.std.proofs.Common.{◌≡◌, ◌<◌, ◌≤◌, inl, true, false, Bool, List, ℕ, length, refl, sym, ap, subst, ◌∙◌}
+use Rattle.std.proofs.Common.{◌≡◌, ◌≤◌, inl, Bool, List, length, ap, ◌∙◌}
 use Rattle.std.proofs.lemmas.Bool.{both_ways}
 use Rattle.jffs_node.specs.declared.node.Node.{Node}
 use Rattle.jffs_tree.specs.Origin.{Tree}
@@ -11,7 +11,7 @@ use Rattle.jffs_log.specs.Book.{layout_in}
 use Rattle.jffs_log.specs.LogState.{LogState, ErasedOldest, EraseFailed, ReadFailed, ReadStopped}
 use Rattle.jffs_core.specs.Standing.{Standing}
 use Rattle.jffs_core.specs.History.{IsOwnCopy}
-use Rattle.jffs_core.specs.Past.{IsPast, HasFailed, Knows}
+use Rattle.jffs_core.specs.Past.{IsPast, HasFailed}
 use Rattle.jffs_core.specs.Calls.{WorksOn, FailsIn, RefusedAt}
 use Rattle.jffs_core.proofs.Mounting.{clean_ends}
 use Rattle.jffs_core.proofs.Sweeping.{erased_past, read_past}

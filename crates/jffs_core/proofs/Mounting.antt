@@ -13,7 +13,7 @@ use Rattle.jffs_log.specs.Scan.{Scanned}
 use Rattle.jffs_log.specs.LogState.{LogState}
 use Rattle.jffs_log.specs.ScanFound.{IsFound, IsMounted}
 use Rattle.jffs_log.specs.Live.{live_log}
-use Rattle.jffs_log.specs.Book.{IsBook, log_in, layout_in}
+use Rattle.jffs_log.specs.Book.{log_in, layout_in}
 use Rattle.jffs_log.specs.RoomLaws.{IsSound}
 use Rattle.jffs_log.proofs.Ring.{Numbered}
 use Rattle.jffs_log.proofs.Volume.{length-split}

@@ -79,7 +79,7 @@ fn each_call_on_its_happy_path(rt: HostRuntime) -> Result<(), TestFail> {
         ..
     } = mount(&rt, blank(&rt));
     assert_eq!(rt; log.erased(), 6);
-    assert!(rt; !log.oldest_dead(&tree));
+    assert!(rt; !log.failed() && !log.oldest_dead(&tree));
     let first = written(rt.alloc(), 1, 5)?;
     append(&rt, &mut log, &tree, &first)?;
     apply(&rt, &mut tree, &first)?;
@@ -90,8 +90,8 @@ fn each_call_on_its_happy_path(rt: HostRuntime) -> Result<(), TestFail> {
     assert_eq!(rt; log.erased(), 5);
     assert_eq!(rt; log.erases(), 0);
     assert_eq!(rt; log.live_weight(&tree), 72);
-    assert!(rt; !log.oldest_dead(&tree));
-    assert!(rt; log.book.held >= 1);
+    assert!(rt; !log.failed() && !log.oldest_dead(&tree));
+    assert!(rt; !log.failed() && log.held() >= 1);
     let image = log.oldest_image(rt.alloc())?;
     let flash = log.into_flash();
     assert_eq!(rt; flash.bytes().get(..1024).unwrap_or(&[]), image.as_slice());
@@ -159,15 +159,16 @@ fn a_log_goes_round_the_end_of_the_image(rt: HostRuntime) -> Result<(), TestFail
         let node = written(rt.alloc(), version, 192)?;
         append(&rt, &mut log, &tree, &node)?;
         apply(&rt, &mut tree, &node)?;
+        assert!(rt; !log.failed());
         if log.oldest_dead(&tree) {
             erase(&rt, &mut log, &tree)?;
             assert_eq!(rt; log.erases(), 1);
         }
         let kept = versions(&log);
-        let (first, tail) = (log.book.first, log.book.tail);
+        let (first, tail) = (log.oldest(), log.book.tail);
         let again = mount(&rt, log.into_flash());
         assert_eq!(rt; versions(&again.log), kept);
-        assert_eq!(rt; (again.log.book.first, again.log.book.tail), (first, tail));
+        assert_eq!(rt; (again.log.oldest(), again.log.book.tail), (first, tail));
         flash = again.log.into_flash();
     }
     Ok(())

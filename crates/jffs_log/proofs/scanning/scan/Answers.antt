@@ -1,4 +1,4 @@
-use Rattle.std.proofs.Common.{◌+◌, ◌≤◌, false, sym, subst, arith}
+use Rattle.std.proofs.Common.{false, sym, subst, arith}
 use Rattle.jffs_flash.specs.Device.{Device}
 use Rattle.jffs_log.specs.LogState.{IsLog}
 use Rattle.jffs_log.proofs.Layouts.{some_erased}

@@ -1,14 +1,11 @@
-use Rattle.std.proofs.Common.{◌≡◌, inl, inr, ℕ, ◌<◌, true, false, List, ◌∷◌, refl, sym, ap, subst, ◌∙◌}
-use Rattle.std.proofs.lemmas.Bool.{both_ways}
-use Rattle.jffs_node.specs.declared.node.Node.{Node}
+use Rattle.std.proofs.Common.{inl, inr, ◌<◌, ◌∷◌, refl, sym, ap, subst, ◌∙◌}
 use Rattle.jffs_node.specs.Record.{record_len}
 use Rattle.jffs_flash.specs.Device.{Device}
 use Rattle.jffs_log.specs.Book.{layout_in}
-use Rattle.jffs_log.specs.LogState.{LogState}
 use Rattle.jffs_log.specs.Room.{has_room_in}
 use Rattle.jffs_log.specs.Cleaning.{put}
 use Rattle.jffs_log.proofs.Results.{err_from}
-use Rattle.jffs_log.proofs.Seen.{log_sizes, same_told}
+use Rattle.jffs_log.proofs.Seen.{log_sizes}
 use Rattle.jffs_core.specs.Standing.{Standing}
 use Rattle.jffs_core.specs.Past.{IsPast, Knows, has_room_for}
 use Rattle.jffs_core.specs.Appending.{MayPut, PutRefused}

@@ -5,7 +5,7 @@ use Rattle.std.proofs.lemmas.Result.{on_ok_weaker, IfErr-weaker}
 use Rattle.jffs_flash.specs.Device.{Device}
 use Rattle.jffs_log.specs.Book.{layout_in, lives_in, oldest_in}
 use Rattle.jffs_log.specs.Cleaning.{Layout, erase_oldest}
-use Rattle.jffs_log.specs.LogState.{LogState, ErasedOldest, EraseFailed}
+use Rattle.jffs_log.specs.LogState.{ErasedOldest, EraseFailed}
 use Rattle.jffs_log.proofs.Results.{either_way}
 use Rattle.jffs_log.proofs.Seen.{log_sizes}
 use Rattle.jffs_core.specs.Standing.{Standing}

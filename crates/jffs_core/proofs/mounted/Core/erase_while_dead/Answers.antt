@@ -1,4 +1,4 @@
-use Rattle.std.proofs.Common.{true, false, length, ap, arith}
+use Rattle.std.proofs.Common.{length, ap, arith}
 use Rattle.std.proofs.lemmas.Bool.{both_ways}
 use Rattle.std.proofs.lemmas.Result.{err_from_is_err_and}
 use Rattle.jffs_log.specs.Book.{layout_in}

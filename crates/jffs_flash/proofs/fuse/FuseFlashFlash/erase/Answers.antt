@@ -1,7 +1,7 @@
 -- What the failing erase left differs from the old image in that sector alone.
-use Rattle.std.proofs.Common.{sym, subst, refl, ◌≡◌, ◌+◌, ◌*◌, ◌≤◌, suc, length, arith}
+use Rattle.std.proofs.Common.{sym, subst, refl, ◌+◌, ◌*◌, ◌≤◌, suc, length, arith}
 use Rattle.std.proofs.Math.Nat.{mul-le-mul_right}
-use Rattle.jffs_flash.specs.Device.{Device, IsWhole, EraseFails}
+use Rattle.jffs_flash.specs.Device.{IsWhole, EraseFails}
 use Rattle.jffs_flash.specs.Image.{IsHalfErased}
 use Rattle.jffs_flash.specs.Fuse.{Fuse, seen_device}
 use Rattle.jffs_flash.proofs.Halves.{half_erased}

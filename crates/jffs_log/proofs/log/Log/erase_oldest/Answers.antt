@@ -1,14 +1,13 @@
-use Rattle.std.proofs.Common.{◌≡◌, ℕ, ◌-◌, ◌<◌, ◌≤◌, false, refl, sym, ap, subst, ◌∙◌, arith}
+use Rattle.std.proofs.Common.{◌≡◌, ℕ, ◌<◌, ◌≤◌, false, refl, sym, ap, subst, ◌∙◌, arith}
 use Rattle.jffs_flash.specs.Device.{Device, with_image}
 use Rattle.jffs_flash.specs.Image.{erased}
 use Rattle.std.specs.List.{AllByRecursion}
-use Rattle.jffs_node.specs.declared.node.Node.{Node}
 use Rattle.jffs_tree.specs.Origin.{Tree}
 use Rattle.jffs_log.specs.Book.{lives_in, oldest_in}
 use Rattle.jffs_log.specs.LogState.{LogState, OldestIsDead, ErasedOldest}
 use Rattle.jffs_log.proofs.Appended.{kept_inside, kept_readable}
 use Rattle.jffs_log.proofs.Histories.{erasing_keeps_history}
-use Rattle.jffs_log.proofs.ErasedBook.{book_erased, IsBookErased}
+use Rattle.jffs_log.proofs.ErasedBook.{book_erased}
 use Rattle.jffs_log.proofs.Seen.{told, only_image, same_sizes}
 use Rattle.jffs_log.proofs.Weighed.{records_few}
 use Rattle.jffs_log.proofs.log.Log.erase_oldest.Goals as goal

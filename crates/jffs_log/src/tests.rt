@@ -49,6 +49,21 @@ fn append<F: Flash>(
     log.append(Room::Fresh, node)
 }
 
+/// Whether the oldest sector may be erased, of a device that works.
+fn is_oldest_dead<F: Flash>(rt: &impl Abort, log: &Log<F>, tree: &Tree) -> bool {
+    assert!(rt; !log.failed());
+    log.oldest_dead(tree)
+}
+
+/// The bytes of the oldest sector, of a device that works.
+fn oldest_image<F: Flash>(
+    rt: &(impl Abort + AllocGlobal),
+    log: &mut Log<F>,
+) -> Result<Vec<u8>, Cause> {
+    assert!(rt; !log.failed() && log.held() >= 1);
+    log.oldest_image(rt.alloc())
+}
+
 /// Takes a node into the tree once it is tested.
 fn apply(rt: &impl Abort, tree: &mut Tree, node: &Node) -> Result<(), Cause> {
     assert!(rt; tree.can_apply(node));
@@ -79,7 +94,7 @@ fn each_call_on_its_happy_path(rt: HostRuntime) -> Result<(), TestFail> {
         ..
     } = mount(&rt, blank(&rt));
     assert_eq!(rt; log.erased(), 6);
-    assert!(rt; !log.failed() && !log.oldest_dead(&tree));
+    assert!(rt; !is_oldest_dead(&rt, &log, &tree));
     let first = written(rt.alloc(), 1, 5)?;
     append(&rt, &mut log, &tree, &first)?;
     apply(&rt, &mut tree, &first)?;
@@ -90,9 +105,8 @@ fn each_call_on_its_happy_path(rt: HostRuntime) -> Result<(), TestFail> {
     assert_eq!(rt; log.erased(), 5);
     assert_eq!(rt; log.erases(), 0);
     assert_eq!(rt; log.live_weight(&tree), 72);
-    assert!(rt; !log.failed() && !log.oldest_dead(&tree));
-    assert!(rt; !log.failed() && log.held() >= 1);
-    let image = log.oldest_image(rt.alloc())?;
+    assert!(rt; !is_oldest_dead(&rt, &log, &tree));
+    let image = oldest_image(&rt, &mut log)?;
     let flash = log.into_flash();
     assert_eq!(rt; flash.bytes().get(..1024).unwrap_or(&[]), image.as_slice());
     let again = mount(&rt, flash);
@@ -159,8 +173,7 @@ fn a_log_goes_round_the_end_of_the_image(rt: HostRuntime) -> Result<(), TestFail
         let node = written(rt.alloc(), version, 192)?;
         append(&rt, &mut log, &tree, &node)?;
         apply(&rt, &mut tree, &node)?;
-        assert!(rt; !log.failed());
-        if log.oldest_dead(&tree) {
+        if is_oldest_dead(&rt, &log, &tree) {
             erase(&rt, &mut log, &tree)?;
             assert_eq!(rt; log.erases(), 1);
         }

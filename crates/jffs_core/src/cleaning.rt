@@ -37,7 +37,7 @@ impl<F: Flash> Core<F> {
     ///
     /// Refusals: VersionsSpent and NoSpace where a copy has no version or no room, Memory, Device,
     /// and Failed on a core that failed before, where nothing is changed. The copies that were made
-    /// stay. NoSpace comes only where a copy had no room at its turn, and so only where fewer than
+    /// stay. NoSpace: some copy found no room when its turn came, which can be only while fewer than
     /// two sectors were erased.
     pub fn clean_oldest(&mut self) -> Result<Cleaned, Cause>
         ensures cleaned { IfOk result (λ done. (mounted past : List Node) → StandsFor mounted past self.old → Cleans mounted past done self.old self.new) }
@@ -53,8 +53,8 @@ impl<F: Flash> Core<F> {
         self.clean_one()
     }
 
-    /// Erases the oldest sector, again and again, while it isn't the tail and holds no live
-    /// record; answers how many were erased. Device, or Failed on a core that failed before.
+    /// Erases dead sectors, the oldest first, up to one that a live record stands in or that is the
+    /// tail; returns how many that were. Device, or Failed on a core that failed before.
     /// Takes no memory.
     pub fn erase_dead(&mut self) -> Result<u32, Cause>
         ensures erased { IfOk result (λ count. (mounted past : List Node) → StandsFor mounted past self.old → ErasesDead mounted past count self.old self.new) }
@@ -91,7 +91,8 @@ impl<F: Flash> Core<F> {
         Ok(erased)
     }
 
-    /// Whether the oldest sector isn't the tail and holds no live record. Takes no memory.
+    /// Whether the oldest sector may be erased: a newer one is the tail, and none of its records
+    /// lives. Takes no memory.
     fn is_dead_oldest(&self) -> bool
         requires working { self.now.failed ≡ false }
         ensures { IsTrue result ↔ IsDeadOldest self.now }
@@ -233,7 +234,7 @@ impl<F: Flash> Core<F> {
         self.log.oldest_nodes(self.alloc)
     }
 
-    /// Erases the oldest sector. It isn't the tail and holds no live record: the caller's conditions.
+    /// Erases the oldest sector. It has to be dead, and not the tail: the caller's conditions.
     fn erase_oldest(&mut self) -> Result<(), Cause>
         requires working { self.old.failed ≡ false }
         requires several { 2 ≤ length (layout_in self.old.image self.old.book).sectors }

@@ -46,8 +46,8 @@ pub trait Flash {
     /// Programs the bytes from `at` on: each byte `old` of the range becomes `old & new`. The range lies inside the
     /// device: the caller's condition.
     ///
-    /// After a failure each byte of the range lies bit by bit between `old & new` and `old`. The rest of the image is
-    /// the same either way.
+    /// After a failure some bits of the range may not be cleared yet: none that was zero is one, and none that should
+    /// stay one is zero. Outside the range nothing changes, whether the call failed or not.
     fn program(&mut self, at: u32, bytes: &[u8]) -> Result<(), FlashFault>
         requires { at + length bytes.now ≤ length (device self.old).image }
         ensures { Programs at bytes.now result (device self.old) (device self.new) };

@@ -1,4 +1,4 @@
-//! NOR flash: programming turns bits from one to zero, an erase turns a whole sector to ones.
+//! NOR flash: a program clears bits, and only the erase of a whole sector sets them again.
 //!
 //! The crate stands on nothing but std. Its promise is the contract of [`Flash`]: what the device's image, one list of
 //! bytes, holds after each call, whether the call passed or failed. [`MemoryFlash`] is a device in memory that never

@@ -3,8 +3,8 @@
 //! Both forms have the same traits, with the same words: a [`hand::Hand`] hands in the wishes of one sender, a
 //! [`hand::Taker`] takes requests, and [`hand::Settle`] takes all ends back and gives what nobody took. `settle`
 //! carries the line's promise: of each sender, what was taken and then what waits is what it accepted, numbered
-//! 1, 2, 3, .. The shared form stands on `crossbeam_channel`, with a pass for each sender and one for the taker,
-//! the other on a ring of `rtrb` for each sender.
+//! 1, 2, 3, .. The shared form is one channel of `crossbeam_channel`, where each end holds a pass of its own;
+//! the other has a ring of `rtrb` for each sender.
 #![tactic(auto)]
 
 pub mod hand;

@@ -110,7 +110,7 @@ impl SharedHand {
     ghost use Rattle.jffs_line.specs.Shared.{shared_line, shared_accepted, shared_capacity, WasFull};
     ghost use Rattle.jffs_line.specs.declared.request.Why.TheVariants.{Spent, Full};
 
-    /// Hands in a wish, or gives it back. `Full` only where the line was full at some moment of the call.
+    /// Hands in a wish, or gives it back. `Full`: all places were taken when it tried.
     pub fn try_hand_in<R: Wait>(&mut self, rt: &R, wish: Wish) -> Result<u32, NotTaken>
         ensures end { (self.new.number ≡ self.old.number) × (shared_line self.new ≡ shared_line self.old) }
         ensures accepted { IfOk result (λ seq. (seq ≡ length (shared_accepted self.old) + 1) × (shared_accepted self.new ≡ shared_accepted self.old ++ request self.old.number seq wish ∷ [])) }

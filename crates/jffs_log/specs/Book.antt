@@ -57,7 +57,7 @@ log_in image b = live_log b.sectors b.sector_size image
 abbrev pub oldest_in : List ℕ → Book → List Placed
 oldest_in image b = records_in_first (log_sectors (sectors_in b.sectors b.sector_size image))
 
--- the log by its sectors, with the free bytes of the tail and the number of erased sectors
+-- the log sector by sector, what is free in the tail, and how many sectors are erased
 abbrev pub layout_in : List ℕ → Book → Layout
 layout_in image b = layout_of b.sector_size (sectors_in b.sectors b.sector_size image)
 

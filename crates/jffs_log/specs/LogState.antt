@@ -28,7 +28,7 @@ pub record LogState : Type 0 where
 abbrev pub log_records : LogState → List Placed
 log_records s = log_in s.device.image s.book
 
--- the records by sectors, the free bytes of the tail and the number of erased sectors
+-- the log sector by sector, what is free in the tail, and how many sectors are erased
 abbrev pub log_layout : LogState → Layout
 log_layout s = layout_in s.device.image s.book
 

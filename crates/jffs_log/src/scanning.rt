@@ -13,8 +13,8 @@ use jffs_tree::{Limits, Tree};
 use std::alloc::{AllocError, AllocFailed, Global};
 use thiserror::Error;
 
-/// Why an image is refused, in the order in which the reasons are tried. `Device` and `Memory`
-/// come wherever a read fails or a growth is refused.
+/// Why an image is refused, in the order in which the reasons are tried. Reads that fail
+/// (`Device`) and failed allocations (`Memory`) may come at any step.
 #[derive(Clone, Copy, Debug, PartialEq, Eq, Error)]
 pub enum ScanWhy {
     /// The device has sizes that no volume has.
@@ -32,7 +32,7 @@ pub enum ScanWhy {
     /// The erased sectors aren't one run, counted cyclically.
     #[error("the erased sectors are scattered")]
     Scattered,
-    /// A version isn't greater than the one before it in the log.
+    /// Somewhere in the log a record has a version no greater than its forerunner's.
     #[error("the versions of the log don't rise")]
     BadOrder,
     /// The nodes of the log make no lawful tree.

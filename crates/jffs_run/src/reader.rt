@@ -33,8 +33,8 @@ pub(crate) struct ReaderStop {
     pub(crate) end: ReaderEnd,
 }
 
-/// Looks until the awaited request is answered, and reads the path then. `NotSeen` after too many
-/// looks, where a closed view doesn't show the answer, or where memory for the bytes was refused.
+/// Looks until the awaited request is answered, and reads the path then. `NotSeen`: it looked
+/// too often, the session closed without that answer, or the bytes could not be allocated.
 pub(crate) fn run_reader(alloc: Global, reader: Reader, statement: &ReaderStatement) -> ReaderStop
     ensures index { index_of result.reader ≡ index_of reader }
     ensures end { FitsView (view_of (known result.reader)) statement.now result.end }

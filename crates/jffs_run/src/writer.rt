@@ -55,7 +55,7 @@ pub(crate) enum Offered {
     Spent,
 }
 
-/// Offers a wish until it is accepted or the log thread has ended.
+/// Offers a wish again and again, until the line takes it or the log thread is gone.
 pub(crate) fn offer_until<R: Wait, H: Hand>(
     rt: &R,
     hand: &mut H,

@@ -82,8 +82,9 @@ impl<F: Flash> Session<F> {
         let _ = self.core.erase_dead();
     }
 
-    /// Sends the image of the oldest sector where a cleaner is wanted and has not had it yet. Where
-    /// memory, the ring or the read refuses, the job is left out; a failed read makes the core failed.
+    /// Sends the image of the oldest sector where a cleaner is wanted and has not had it yet. No
+    /// job is sent where an allocation or the read fails, or the ring is full; after a failed read the
+    /// core is failed.
     fn send_job(&mut self, jobs: &mut Jobs)
         ensures replies { HasSameReplies self.old self.new }
         ensures tree { KeepsTree self.old.core self.new.core }

@@ -31,8 +31,8 @@ struct Found {
     copies: Vec<Copying>,
 }
 
-/// At most `limit` rounds, until the session is closed. A round takes an image, if there is one, and
-/// asks for a copy of each record of it that still lives.
+/// At most `limit` rounds, until the session is closed. In each it looks for an image, and hands in a
+/// copy for every record there that still lives.
 pub fn clean_loop<R: Wait, H: Hand>(
     rt: &R,
     alloc: Global,

@@ -39,7 +39,7 @@ impl Jobs {
     ghost use Rattle.std.specs.Prelude.{◌≡◌, ◌++◌, ◌∷◌, [], OnOk, IfErr};
     ghost use Rattle.rtrb.specs.Ring.{sent};
 
-    /// Adds an image at the end, or gives it back where the ring is full. Takes no memory.
+    /// Puts an image into the ring; a full ring hands it back. Takes no memory.
     pub fn send(&mut self, image: Vec<u8>) -> Result<(), Vec<u8>>
         ensures added { OnOk result (sent self.new.producer ≡ sent self.old.producer ++ image ∷ []) }
         ensures full { IfErr result (λ back. (back ≡ image) × (sent self.new.producer ≡ sent self.old.producer)) }

@@ -50,9 +50,9 @@ impl From<AllocError> for DumpFault {
 /// How many bytes of a file are read at once, and how many are written as hex at once.
 const CHUNK_LEN: usize = 256;
 
-/// Writes a line for each directory, `d PATH`, and for each file, `f PATH SIZE HEX` with `-`
-/// for no bytes: a directory before its names, names in the order of their bytes. After an error
-/// a beginning of that text is written.
+/// Writes a line for each directory, `d PATH`, and for each file, `f PATH SIZE HEX`, where an empty
+/// file has `-` for its bytes. Names are sorted by their bytes, and follow the directory that holds
+/// them. After an error a beginning of that text is written.
 pub fn dump<W: Write>(alloc: Global, tree: &Tree, out: &mut W) -> Result<(), DumpFault>
     ensures whole { OnOk result (Appends (W.contents out.old) (W.contents out.new) (dump_text (state_in tree.now))) }
     ensures begun { IsBegun (W.contents out.old) (W.contents out.new) (dump_text (state_in tree.now)) }

@@ -17,8 +17,8 @@ pub enum ScriptWhy {
     /// A byte that isn't printable ASCII, or a line that is too long.
     #[error("Text")]
     Text,
-    /// An unknown first word, a wrong number of words, a second `volume`, or `line` with
-    /// another form than `shared` or `rings`.
+    /// A statement that isn't one of the script's: its first word, its number of words, or the form
+    /// of `line`; or `volume` once more.
     #[error("Command")]
     Command,
     /// A header statement after a `writer`, or a second `line` or `cleaner`.
@@ -30,7 +30,7 @@ pub enum ScriptWhy {
     /// Too many readers, writers, or commands of a writer.
     #[error("Many")]
     Many,
-    /// A word that isn't a number, or is out of its range.
+    /// No number stands where one should, or it is too small or too large.
     #[error("Number")]
     Number,
     /// A word that isn't hex.

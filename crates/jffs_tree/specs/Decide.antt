@@ -1,4 +1,4 @@
--- The decision on a wish: the first cause that holds, else the node. Of a state, and of who holds which live version.
+-- What is decided on a wish: why it is refused, or which node it makes. Of a state, and of who holds which live version.
 use Rattle.std.specs.Prelude.{ℕ, ◌+◌, ◌-◌, min, max, Bool, true, false, not, ◌&&◌, ◌||◌, ◌==◌, nat_le, nat_lt, List, [], ◌∷◌, length, take, drop, get_or, Option, Some, None, is_none, is_some, unwrap_or, Result, Ok, Err, bytes_eq, if◌then◌else◌}
 use Rattle.std.specs.Option.{option_map_or}
 use Rattle.std.specs.List.{list_any}
@@ -204,7 +204,7 @@ with n version writer seq = record {
   bytes = n.bytes;
 }
 
--- The copy that cleaning makes of a live node: what is so now of the source's range, as far as the file reaches.
+-- The copy that cleaning makes of a live node: it says anew what the file has now where the source wrote, up to the file's end.
 abbrev pub cleaning_copy : State → Node → NewNode
 cleaning_copy s n =
     let e = entry_of s n.inode in

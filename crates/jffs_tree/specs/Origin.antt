@@ -85,7 +85,7 @@ tree_of past = map (held past) (state_of_past past)
 abbrev pub state_in : Tree → State
 state_in tree = map (λ h. (h.0, h.1.entry)) tree
 
--- Live versions: that of the newest node, and that of the origin of some place, of a present inode.
+-- The live versions of a present inode: its newest node, and whoever wrote one of its bytes last.
 abbrev pub versions_held : ℕ × Held → List ℕ
 versions_held h = option_to_list h.1.newest ++ flat_map option_to_list h.1.writers
 

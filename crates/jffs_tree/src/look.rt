@@ -108,7 +108,7 @@ impl Tree {
         self.marks.least(first, last)
     }
 
-    /// Whether some version from `first` to `last`, both included, is live. Takes no memory.
+    /// Whether a version of that range, with both its ends, is live. Takes no memory.
     pub fn any_live(&self, first: u32, last: u32) -> bool
         ensures held { result ≡ any_live_in self.now first last }
         ensures of { (past : List Node) → self.now ≡ tree_of past → result ≡ any_live past first last }
@@ -116,7 +116,7 @@ impl Tree {
         self.marks.any(first, last)
     }
 
-    /// The inode of that parent and name, the smallest where there are several.
+    /// The inode that a directory has under a name; of several the one with the least number.
     pub(crate) fn child(&self, parent: u32, name: &Name) -> Option<u32>
         ensures { result ≡ child (state_in self.now) parent name.now }
     {

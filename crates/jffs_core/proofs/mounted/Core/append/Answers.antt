@@ -65,10 +65,13 @@ invariant_of-self-2 g c =
           (ap (λ (d : Device). d.sector_size) e.works.device ∙ ap (λ (d : Device). d.sector_size) same.device)
           c.self.invariant.sizes (sym same.book.sectors ∙ e.numbers.sizes.0, sym same.book.sector_size ∙ e.numbers.sizes.1);
       book = λ w. e.works.told;
-      past = λ w. (n ∷ past, put_known past c.args.room n old c.reserve.new.self c.append.new.self c.self.inside.tree c.apply.new.self c.self.inside.limits c.count.new.limits c.self.inside.clean _ h may same had e
-          (c.in_ok-apply.ensures.ok past h.tree_is)
-          (counted old.book.sector_size past n c.self.inside.limits c.count.new.limits h.limits_are c.count.ensures.data_max c.count.ensures.version c.count.ensures.inode)
-          c.is_unmount-self-inside.ensures);
+      past = λ w. (
+        n ∷ past,
+        put_known past c.args.room n old c.reserve.new.self c.append.new.self c.self.inside.tree c.apply.new.self c.self.inside.limits c.count.new.limits c.self.inside.clean _ h may same had e
+            (c.in_ok-apply.ensures.ok past h.tree_is)
+            (counted old.book.sector_size past n c.self.inside.limits c.count.new.limits h.limits_are c.count.ensures.data_max c.count.ensures.version c.count.ensures.inode)
+            c.is_unmount-self-inside.ensures,
+      );
     }
 
 pub returns-clause-done : goal.returns-clause-done

@@ -67,19 +67,22 @@ returns-in-Ok-clause-done g c =
     let at = c.sector_at-next.ensures in
     let written = c.in-Ok.ensures in
     let is = c.record_len-len.ensures in
-    done_seen _ _ _ n c.self.view_is
-    (next, at, record {
-      works = record {
-        failed = ap (λ (v : LogState). v.failed) c.self.view_is ∙ c.requires.working;
-        told = next_book b old h n may.0 may.1 next at _ written c.record_len-len.result _ c.record_len-len.ensures c.push_back_reserved.ensures.items;
-        device = only_image old _ _ written;
-      };
-      numbers = record { sizes = (refl, refl); erases = refl };
-      tail = (refl, omega (arith, is));
-      added = next_added b old h n may.0 may.1 next at _ written;
-      layout_is = next_layout b old h n may.0 may.1 next at _ written;
-      clean = next_clean b old h n may.0 may.1 next at _ written;
-    })
+    done_seen _ _ _ n c.self.view_is (
+      next,
+      at,
+      record {
+        works = record {
+          failed = ap (λ (v : LogState). v.failed) c.self.view_is ∙ c.requires.working;
+          told = next_book b old h n may.0 may.1 next at _ written c.record_len-len.result _ c.record_len-len.ensures c.push_back_reserved.ensures.items;
+          device = only_image old _ _ written;
+        };
+        numbers = record { sizes = (refl, refl); erases = refl };
+        tail = (refl, omega (arith, is));
+        added = next_added b old h n may.0 may.1 next at _ written;
+        layout_is = next_layout b old h n may.0 may.1 next at _ written;
+        clean = next_clean b old h n may.0 may.1 next at _ written;
+      },
+    )
 
 pub returns-in-Err-clause-failed : goal.returns-in-Err-clause-failed
 returns-in-Err-clause-failed g c =
@@ -88,10 +91,12 @@ returns-in-Err-clause-failed g c =
     let may = room_inside _ _ _ c.self.view_is c.requires.fits c.requires.erased in
     let h = told _ _ c.self.view_is c.self.invariant c.requires.working in
     let next = c.sector_at-next.result in
-    failed_seen _ _ _ n _ c.self.view_is
-    (next, record {
-      cause_is = c.failure.ensures.cause;
-      failed = c.failure.ensures.kept;
-      device = next_fails b (g.F.Flash.device c.self.inside.flash) h n may.0 may.1 next c.sector_at-next.ensures _ c.in-Err.ensures;
-      numbers = record { sizes = (refl, refl); erases = refl };
-    })
+    failed_seen _ _ _ n _ c.self.view_is (
+      next,
+      record {
+        cause_is = c.failure.ensures.cause;
+        failed = c.failure.ensures.kept;
+        device = next_fails b (g.F.Flash.device c.self.inside.flash) h n may.0 may.1 next c.sector_at-next.ensures _ c.in-Err.ensures;
+        numbers = record { sizes = (refl, refl); erases = refl };
+      },
+    )

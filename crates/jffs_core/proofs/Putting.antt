@@ -68,18 +68,6 @@ same_history image b c past sectors size h = subst (λ k. IsLawfulHistory c.sect
 pub same_layout : (image : List ℕ) (b c : Book) → b.sectors ≡ c.sectors → b.sector_size ≡ c.sector_size → layout_in image b ≡ layout_in image c
 same_layout image b c sectors size = ap (λ k. layout_in image (record b { sectors = k })) sectors ∙ ap (λ k. layout_in image (record c { sector_size = k })) size
 
-pub same_past : (past : List Node) (image : List ℕ) (b c : Book) (tree : Tree) (limits : Limits) (clean : Bool) → b.sectors ≡ c.sectors → b.sector_size ≡ c.sector_size → IsPast past image b tree limits clean → IsPast past image c tree limits clean
-same_past past image b c tree limits clean sectors size h = record {
-  history = same_history image b c past sectors size h.history;
-  sound =
-      subst (λ (log : Layout). IsSound c.sectors c.sector_size (record { past = past; log = log })) (same_layout image b c sectors size)
-      (subst (λ k. IsSound c.sectors k (record { past = past; log = layout_in image b })) size
-      (subst (λ k. IsSound k b.sector_size (record { past = past; log = layout_in image b })) sectors h.sound));
-  tree_is = h.tree_is;
-  limits_are = h.limits_are ∙ ap (λ k. limits_of k past) size;
-  clean_is = h.clean_is ∙ ap (λ k. is_clean_in image (record b { sectors = k })) sectors ∙ ap (λ k. is_clean_in image (record c { sector_size = k })) size;
-}
-
 -- A log that is the same but for places has the same layout and history.
 pub mid_layout : (old mid : LogState) → IsSameLog old mid → layout_in mid.device.image mid.book ≡ layout_in old.device.image old.book
 mid_layout old mid same =

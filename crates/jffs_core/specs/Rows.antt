@@ -43,10 +43,6 @@ busy = wished_from 1 [] (
     MakeDir slash_d ∷ Create slash_d_a ∷ Write slash_d_a 0 (codes "hello") ∷ Rename slash_d_a slash_d_b ∷ Create slash_z
     ∷ Write slash_z 0 (replicate 192 97) ∷ Write slash_z 0 (replicate 192 97) ∷ Write slash_z 0 (replicate 192 97) ∷ [])
 
--- the copy of a node that cleaning appends
-abbrev pub copy_made : List Node → Node → ℕ → Node
-copy_made past source version = with (cleaning_copy (state_of_past past) source) version 0 0
-
 abbrev pub the_write : Node
 the_write = with (cleaning_copy (state_of_past busy) (record { kind = File; deleted = false; copy = false; inode = 3; parent = 2; version = 3; offset = 0; rsize = 0; writer = 1; seq = 3; size = Some 5; name = Some (codes "a"); bytes = codes "hello" })) 10 0 0
 

@@ -46,7 +46,7 @@ Unchanged old new = new ≡ old
 
 -- a read changes no byte
 abbrev pub Reads : {A E : Type 0} → Result A E → Device → Device → Type 0
-Reads result old new = MatchResult result (λ _. new ≡ old) (λ _. Fails (λ image. image ≡ old.image) old new)
+Reads result old new = MatchResult result (λ _. Unchanged old new) (λ _. Fails (λ image. image ≡ old.image) old new)
 
 -- these bytes are programmed from a place on, or some of their bits
 abbrev pub Programs : {A E : Type 0} → ℕ → List ℕ → Result A E → Device → Device → Type 0

@@ -26,6 +26,15 @@ pub struct Note {
     pub wish: Wish,
 }
 
+// Tries a few rounds first, since a wake costs a call of the system.
+fn pause<R: Wait>(rt: &R, backoff: &Backoff, sleeper: &Parker) {
+    if backoff.is_completed() {
+        sleeper.park(rt);
+    } else {
+        backoff.snooze();
+    }
+}
+
 /// All ends of the rings.
 pub type RingLine = Ends<RingHand, RingTaker>;
 
@@ -95,11 +104,7 @@ impl RingHand {
                 ) => wish = back,
                 reply => return reply,
             }
-            if backoff.is_completed() {
-                self.sleeper.park(rt);
-            } else {
-                backoff.snooze();
-            }
+            pause(rt, &backoff, &self.sleeper);
         }
         unreachable!()
     }
@@ -298,11 +303,7 @@ impl Taker for RingTaker {
                 Err(Idle::Abandoned) => return None,
                 Err(Idle::Empty) => {}
             }
-            if backoff.is_completed() {
-                self.sleeper.park(rt);
-            } else {
-                backoff.snooze();
-            }
+            pause(rt, &backoff, &self.sleeper);
         }
         unreachable!()
     }

@@ -1,6 +1,6 @@
 -- Room and place of a record.
-use Rattle.std.proofs.Common.{◌≡◌, inl, inr, ℕ, ◌+◌, ◌-◌, ◌/◌, ◌<◌, ◌≤◌, true, leb, refl, subst, arith}
-use Rattle.std.proofs.lemmas.Bool.{or_left, or_right, and_from, le-leb, cases_lt}
+use Rattle.std.proofs.Common.{◌≡◌, ℕ, ◌+◌, ◌-◌, ◌/◌, ◌<◌, ◌≤◌, true, leb, refl, subst, arith}
+use Rattle.std.proofs.lemmas.Bool.{or_left, or_right, and_from, le-leb}
 use Rattle.jffs_node.specs.declared.node.Node.{Node}
 use Rattle.jffs_node.specs.declared.node.Kind.{Kind}
 use Rattle.jffs_node.specs.declared.node.Kind.TheVariants.{File, Directory, Unmount}
@@ -8,7 +8,6 @@ use Rattle.jffs_node.specs.Record.{record_len, dsize, is_lawful, is_unmount, has
 use Rattle.jffs_log.specs.declared.room.Room.{Room}
 use Rattle.jffs_log.specs.declared.room.Room.TheVariants as room
 use Rattle.jffs_log.specs.Room.{tail_need, has_room}
-use Rattle.jffs_log.specs.Ring.{IsAt}
 use Rattle.jffs_node.proofs.Lawfulness.{rules_of, no_range, unmount_range}
 use Rattle.jffs_log.proofs.Puts.{next_erased, enough_erased}
 
@@ -35,9 +34,3 @@ tail_fits room.Unmount n free len lawful u short need =
 
 pub two_erased : (r : Room) (len free sectors held : ℕ) → has_room r len free (sectors - held) ≡ true → free < tail_need r len → held + 2 ≤ sectors
 two_erased r len free sectors held h less = let e = next_erased r len free (sectors - held) h less in let k = enough_erased r in omega arith
-
-pub ring_place : (first many j : ℕ) → first < many → j < many → (k : ℕ) × IsAt first many j k
-ring_place first many j inside below = elim (cases_lt (first + j) many) [
-  | inl near ↦ (first + j, inl (refl, near))
-  | inr far ↦ (first + j - many, inr (omega arith, omega arith))
-]

@@ -128,13 +128,13 @@ all_split P (suc more) len image h =
           subst P (ap (take len) (sym (drop-drop (k * len) len image ∙ ap (λ j. drop j image) there))) (h (suc k) (omega arith))),
     )
 
--- The same cause, of more sectors and from an earlier count of faults.
-pub fault_read : (why : ScanWhy) (before after start : ℕ) (one all : Option ScanWhy) → before ≡ start → (one ≡ Some why → all ≡ Some why) → IsReadFault why before after one → IsReadFault why start after all
-fault_read Device before after start one all is same h = subst (λ k. k < after) is h
-fault_read Memory before after start one all is same h = h ∙ is
-fault_read Geometry before after start one all is same h = (same h.0, h.1 ∙ is)
-fault_read (BadRecord sector place bad) before after start one all is same h = (same h.0, h.1 ∙ is)
-fault_read NoErased before after start one all is same h = (same h.0, h.1 ∙ is)
-fault_read Scattered before after start one all is same h = (same h.0, h.1 ∙ is)
-fault_read BadOrder before after start one all is same h = (same h.0, h.1 ∙ is)
-fault_read BadTree before after start one all is same h = (same h.0, h.1 ∙ is)
+-- The same cause, of more sectors.
+pub fault_read : (why : ScanWhy) (before after : ℕ) (one all : Option ScanWhy) → (one ≡ Some why → all ≡ Some why) → IsReadFault why before after one → IsReadFault why before after all
+fault_read Device before after one all same h = h
+fault_read Memory before after one all same h = h
+fault_read Geometry before after one all same h = (same h.0, h.1)
+fault_read (BadRecord sector place bad) before after one all same h = (same h.0, h.1)
+fault_read NoErased before after one all same h = (same h.0, h.1)
+fault_read Scattered before after one all same h = (same h.0, h.1)
+fault_read BadOrder before after one all same h = (same h.0, h.1)
+fault_read BadTree before after one all same h = (same h.0, h.1)

@@ -1,10 +1,9 @@
 -- What is known of a log before and after a call.
 use Rattle.std.proofs.Common.{◌≡◌, false, List, ℕ, sym, ap, subst, ◌∙◌}
 use Rattle.jffs_flash.specs.Device.{Device, with_image, Fails}
-use Rattle.jffs_log.specs.declared.book.Kept.{Kept}
-use Rattle.jffs_log.specs.Book.{IsKept, IsBook, HasSizes}
+use Rattle.jffs_log.specs.Book.{IsBook, HasSizes}
 use Rattle.jffs_log.specs.declared.book.Book.{Book}
-use Rattle.jffs_log.specs.LogState.{LogState, IsLog, IsSameLog}
+use Rattle.jffs_log.specs.LogState.{LogState, IsLog}
 
 -- the book tells of the image, where the log is known by another name to work
 pub told : (inside seen : LogState) → inside ≡ seen → IsLog inside → seen.failed ≡ false → IsBook inside.device.image inside.book
@@ -30,10 +29,3 @@ told_seen inside seen same h works = subst (λ (v : LogState). IsBook v.device.i
 pub log_sizes : (old new : LogState) → new.device.sectors ≡ old.device.sectors → new.device.sector_size ≡ old.device.sector_size
     → HasSizes old.device.sectors old.device.sector_size old.book → HasSizes old.book.sectors old.book.sector_size new.book → HasSizes new.device.sectors new.device.sector_size new.book
 log_sizes old new sectors size before after = (sectors ∙ before.0 ∙ after.0, size ∙ before.1 ∙ after.1)
-
--- a book that is the same but for places tells of the same image
-pub same_told : (old new : LogState) → IsSameLog old new → IsBook old.device.image old.book → IsBook new.device.image new.book
-same_told old new same h =
-    let b = same.book in
-    let Told : ℕ × ℕ × List ℕ × ℕ × ℕ × ℕ × ℕ × ℕ × List Kept → Type 0 = λ t. IsKept t.0 t.1 t.2 t.3 t.4 t.5 t.6 t.7 t.8 in
-    subst Told (λ i. ((sym b.sectors) i, (sym b.sector_size) i, (sym same.device i).image, (sym b.first) i, (sym b.held) i, (sym b.tail) i, (sym b.used) i, (sym b.free) i, (sym b.records) i)) h

@@ -7,7 +7,7 @@ use Rattle.jffs_tree.specs.Origin.{Tree, tree_of}
 use Rattle.jffs_tree.specs.declared.wish.Cause.{Cause}
 use Rattle.jffs_tree.specs.declared.wish.Cause.TheVariants as cause
 use Rattle.jffs_flash.specs.Image.{erased, IsHalfErased}
-use Rattle.jffs_flash.specs.Device.{Device, with_image, Fails, EraseFails}
+use Rattle.jffs_flash.specs.Device.{Device, with_image, Fails, EraseFails, Unchanged}
 use Rattle.jffs_log.specs.declared.book.Book.{Book}
 use Rattle.jffs_log.specs.declared.room.Room.{Room}
 use Rattle.jffs_log.specs.declared.room.Room.TheVariants as room
@@ -61,7 +61,7 @@ is_clean_log s = is_clean (sectors_in s.book.sectors s.book.sector_size s.device
 
 -- only the places that are reserved for records may differ
 pub record IsSameLog (old new : LogState) : Type 0 where
-  pub device : new.device ≡ old.device
+  pub device : Unchanged old.device new.device
   pub book : IsSameBook old.book new.book
   pub failed : new.failed ≡ old.failed
 

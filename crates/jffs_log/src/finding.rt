@@ -3,6 +3,7 @@
 ghost use Rattle.std.specs.Prelude.{◌≡◌, ℕ, List, ◌+◌, ◌*◌, ◌<◌, ◌≤◌, ◌^◌, true, not, ◌++◌, None, option_copied, length, map, filter, flat_map, IfOk, IfErr, IsTrue};
 ghost use Rattle.std.specs.List.{AllByRecursion, list_any, last_or};
 ghost use Rattle.jffs_node.specs.Record.{is_lawful};
+ghost use Rattle.jffs_flash.specs.Device.{Unchanged};
 ghost use Rattle.jffs_log.specs.Image.{Sector, sector_of, records_in, turned, is_erased_option, free_of_tail, free_in as free_bytes, is_free as ends_free, is_clean_tail, ends_with_unmount as unmounted};
 ghost use Rattle.jffs_log.specs.Volume.{sectors_in, sector_bytes};
 ghost use Rattle.jffs_log.specs.Scan.{first_bad};
@@ -27,7 +28,7 @@ pub(crate) fn read_sectors<F: Flash>(
     requires small { sectors * sector_size < 2 ^ 32 }
     requires whole { length (F.device flash.old).image ≡ sectors * sector_size }
     ensures read { IfOk result (λ found. AreRead sectors sector_size (F.device flash.old).image found.items) }
-    ensures same { IfOk result (λ _. F.device flash.new ≡ F.device flash.old) }
+    ensures same { IfOk result (λ _. Unchanged (F.device flash.old) (F.device flash.new)) }
     ensures refused { IfErr result (λ why. IsUnread why (F.device flash.old) (F.device flash.new)
         (first_bad 0 (sectors_in sectors sector_size (F.device flash.old).image))) }
 {
@@ -50,7 +51,7 @@ fn read_one<F: Flash>(
     requires inside { sector * length buffer.old + length buffer.old ≤ length (F.device flash.old).image }
     requires small { sector * length buffer.old + length buffer.old < 2 ^ 32 }
     ensures read { IfOk result (λ s. HasRead s sector (sector_bytes (length buffer.old) sector (F.device flash.old).image)) }
-    ensures same { IfOk result (λ _. F.device flash.new ≡ F.device flash.old) }
+    ensures same { IfOk result (λ _. Unchanged (F.device flash.old) (F.device flash.new)) }
     ensures refused { IfErr result (λ why. IsUnread why (F.device flash.old) (F.device flash.new)
         (bad_in (sector, sector_of (sector_bytes (length buffer.old) sector (F.device flash.old).image)))) }
     ensures length { length buffer.new ≡ length buffer.old }

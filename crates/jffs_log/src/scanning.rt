@@ -1,6 +1,7 @@
 //! A scan of a whole image.
 
 ghost use Rattle.std.specs.Prelude.{◌≡◌, IfOk, IfErr};
+ghost use Rattle.jffs_flash.specs.Device.{Unchanged};
 ghost use Rattle.jffs_log.specs.ScanFound.{IsFound, IsMounted, IsRefused};
 
 use crate::book::Book;
@@ -139,7 +140,7 @@ struct Found {
 fn find<F: Flash>(alloc: Global, flash: &mut F) -> Result<Found, ScanWhy>
     ensures found { IfOk result (λ found. IsFound (F.device flash.old).sectors (F.device flash.old).sector_size (F.device flash.old).image
         found.book found.tree found.clean found.limits) }
-    ensures same { IfOk result (λ _. F.device flash.new ≡ F.device flash.old) }
+    ensures same { IfOk result (λ _. Unchanged (F.device flash.old) (F.device flash.new)) }
     ensures refused { IfErr result (λ why. IsRefused (F.device flash.old) why (F.device flash.new)) }
 {
     let sectors = flash.sectors();

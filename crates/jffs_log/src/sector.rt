@@ -3,14 +3,12 @@
 ghost use Rattle.std.specs.Prelude.{◌≡◌, ◌<◌, ◌+◌, ◌^◌, ◌++◌, ◌==◌, length, map, sum_by, IsTrue, IfOk, OnOk};
 ghost use Rattle.std.specs.List.{AllByRecursion};
 ghost use Rattle.jffs_node.specs.Record.{is_lawful, record_len as length_of};
-ghost use Rattle.jffs_node.specs.Reading.{is_erased as erased_test};
 ghost use Rattle.jffs_log.specs.Image.{sector_of, records_in, placed_from};
 ghost use Rattle.jffs_log.specs.Book.{kept};
 ghost use Rattle.jffs_log.specs.ScanRead.{IsSpelled};
 
 use crate::book::Kept;
-use jffs_flash::ERASED_BYTE;
-use jffs_node::{NoMemory, Node, Read, decode, record_len};
+use jffs_node::{NoMemory, Node, Read, decode, is_erased, record_len};
 use std::alloc::{AllocError, Global};
 use std::collections::VecDeque;
 use std::marker::Model;
@@ -149,11 +147,4 @@ pub(crate) fn read_sector(alloc: Global, number: u32, sector: &[u8]) -> Result<S
             }
         }
     }
-}
-
-/// Whether all bytes are as an erase left them.
-fn is_erased(bytes: &[u8]) -> bool
-    ensures { result ≡ erased_test bytes.now }
-{
-    bytes.iter().all(|byte| *byte == ERASED_BYTE)
 }

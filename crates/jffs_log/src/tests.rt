@@ -86,6 +86,29 @@ fn blank(rt: &(impl Abort + AllocGlobal)) -> MemoryFlash {
     }
 }
 
+/// Writes the same file in versions 1 and 2.
+fn append_two<F: Flash>(
+    rt: &(impl Abort + AllocGlobal),
+    log: &mut Log<F>,
+    tree: &mut Tree,
+) -> Result<(), Cause> {
+    for version in 1..3 {
+        let node = written(rt.alloc(), version, 5)?;
+        append(rt, log, tree, &node)?;
+        apply(rt, tree, &node)?;
+    }
+    Ok(())
+}
+
+/// The first sector holds this image, and a scan finds both versions.
+fn comes_back(rt: &(impl Abort + AllocGlobal), log: Log<MemoryFlash>, image: &[u8]) {
+    let flash = log.into_flash();
+    assert_eq!(rt; flash.bytes().get(..1024).unwrap_or(&[]), image);
+    let again = mount(rt, flash);
+    assert_eq!(rt; versions(&again.log), 12);
+    assert_eq!(rt; again.log.live_weight(&again.tree), 72);
+}
+
 #[test]
 fn each_call_on_its_happy_path(rt: HostRuntime) -> Result<(), TestFail> {
     let Mounted {
@@ -95,23 +118,14 @@ fn each_call_on_its_happy_path(rt: HostRuntime) -> Result<(), TestFail> {
     } = mount(&rt, blank(&rt));
     assert_eq!(rt; log.erased(), 6);
     assert!(rt; !is_oldest_dead(&rt, &log, &tree));
-    let first = written(rt.alloc(), 1, 5)?;
-    append(&rt, &mut log, &tree, &first)?;
-    apply(&rt, &mut tree, &first)?;
-    let second = written(rt.alloc(), 2, 5)?;
-    append(&rt, &mut log, &tree, &second)?;
-    apply(&rt, &mut tree, &second)?;
+    append_two(&rt, &mut log, &mut tree)?;
     assert_eq!(rt; versions(&log), 12);
     assert_eq!(rt; log.erased(), 5);
     assert_eq!(rt; log.erases(), 0);
     assert_eq!(rt; log.live_weight(&tree), 72);
     assert!(rt; !is_oldest_dead(&rt, &log, &tree));
     let image = oldest_image(&rt, &mut log)?;
-    let flash = log.into_flash();
-    assert_eq!(rt; flash.bytes().get(..1024).unwrap_or(&[]), image.as_slice());
-    let again = mount(&rt, flash);
-    assert_eq!(rt; versions(&again.log), 12);
-    assert_eq!(rt; again.log.live_weight(&again.tree), 72);
+    comes_back(&rt, log, image.as_slice());
     Ok(())
 }
 

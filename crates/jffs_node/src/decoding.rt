@@ -40,11 +40,18 @@ fn is_closed(rest: &[u8]) -> bool
     rest.len() >= HEADER_LEN && rest[GATE_AT] == GATE_CLOSED
 }
 
+/// Whether all bytes are as an erase left them. Takes no memory.
+pub fn is_erased(bytes: &[u8]) -> bool
+    ensures { result ≡ erased_test bytes.now }
+{
+    is_all(bytes, ERASED)
+}
+
 /// What stands where no record was closed: nothing, or what an interrupted write left.
 fn without_record(rest: &[u8]) -> Read
     ensures { result ≡ (if erased_test rest.now then Read.Free else Read.Torn) }
 {
-    if is_all(rest, ERASED) {
+    if is_erased(rest) {
         Read::Free
     } else {
         Read::Torn
@@ -87,7 +94,7 @@ fn check_padding(rest: &[u8], amount: u32) -> Result<(), Why>
 {
     let end = HEADER_LEN + amount as usize;
     let len = len_with_data(amount) as usize;
-    if is_all(&rest[end..len], ERASED) {
+    if is_erased(&rest[end..len]) {
         Ok(())
     } else {
         Err(Why::Pad)

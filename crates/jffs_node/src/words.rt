@@ -5,11 +5,15 @@ ghost use Rattle.std.specs.Int.{w16, w32};
 ghost use Rattle.std.specs.List.{list_all};
 ghost use Rattle.jffs_node.specs.Reading.{number_at};
 
-/// Whether all bytes are this one.
+/// Whether all bytes are this one: the first is, and each other is as the one before it. Slices
+/// are compared many bytes at a time.
 pub(crate) fn is_all(bytes: &[u8], byte: u8) -> bool
     ensures { result ≡ list_all (λ b. b == byte) bytes.now }
 {
-    bytes.iter().all(|b| *b == byte)
+    let Some((first, rest)) = bytes.split_first() else {
+        return true;
+    };
+    *first == byte && rest == &bytes[..rest.len()]
 }
 
 /// The number of 32 bits that stands at a place.

@@ -1,19 +1,16 @@
 -- One node more, in a tree that is a map of inodes.
-use Rattle.std.proofs.Common.{◌≡◌, ℕ, ◌+◌, ◌≤◌, ◌≢◌, true, false, cond, not, eqb, T, IsTrue, map, is_some, List, option_map, [], length, refl, ⊎_elim, Option, Some, None, Result, Ok, Err, sym, ap, subst, ◌∙◌, nat_cmp}
+use Rattle.std.proofs.Common.{◌≡◌, ℕ, false, cond, not, eqb, T, IsTrue, map, is_some, List, refl, ⊎_elim, Option, Some, None, Result, Ok, Err, sym, ap, subst, ◌∙◌, nat_cmp}
 use Rattle.std.specs.Cmp.{nat_cmp_total, unsigned_tied}
 use Rattle.std.specs.FinMap.{nat_cmp-IsAntisymmetric}
 use Rattle.std.specs.FinMap.Entries as entries
 use Rattle.std.specs.List.Sorted.{IsStrictlySortedBy}
-use Rattle.std.specs.Option.{unwrap_or}
 use Rattle.std.specs.Result.{OnErr}
 use Rattle.std.specs.Map.{lookup}
 use Rattle.std.specs.BTreeMap.{is_at}
-use Rattle.std.proofs.lemmas.Bool.{cases_Bool, eqb-true, leb-true}
+use Rattle.std.proofs.lemmas.Bool.{cases_Bool, eqb-true}
 use Rattle.jffs_node.specs.declared.node.Node.{Node}
-use Rattle.jffs_node.specs.Record.{dsize}
-use Rattle.jffs_node.proofs.Fitting.{or_second}
 use Rattle.jffs_tree.specs.Origin.{Held, Tree}
-use Rattle.jffs_tree.specs.After.{held_in, held_after, keeps_places_in, without_inode, put_node, IsWritten}
+use Rattle.jffs_tree.specs.After.{held_in, held_after, without_inode, put_node, IsWritten}
 use Rattle.jffs_tree.proofs.Maps.{t_true, found_get, sorted_map}
 use Rattle.jffs_tree.proofs.Pointwise.{find_without, find_rewritten}
 
@@ -35,17 +32,6 @@ module _ (old new : Tree) (n : Node) where
           (λ same. ap (λ k. cond (eqb n.inode i) (Some (held_after n (held_in old k))) (held_in old i)) (eqb-true n.inode i same))
           (λ apart. ap (λ b. cond b (Some (held_after n (held_in old n.inode))) (held_in old i)) apart ∙ sym (ap (λ b. cond b (Some (held_after n (held_in old i))) (held_in old i)) apart))
           (cases_Bool (eqb n.inode i))
-
--- what the test on a node's places says of the inode that is found
-pub places_there : (tree : Tree) (n : Node) (h : Held) → lookup (is_at (nat_cmp n.inode)) tree ≡ Some h → keeps_places_in tree n ≡ true → dsize n ≢ n.rsize → length h.entry.bytes ≤ n.offset + n.rsize
-places_there tree n h there keeps differ =
-    ⊎_elim
-    (λ same. absurd (differ (eqb-true (dsize n) n.rsize same)))
-    (λ apart.
-    let found : held_in tree n.inode ≡ Some h = sym (found_get n.inode tree) ∙ there in
-    subst (λ (o : Option Held). length (unwrap_or (option_map (λ (x : Held). x.entry.bytes) o) []) ≤ n.offset + n.rsize) found
-    (leb-true (length (unwrap_or (option_map (λ (x : Held). x.entry.bytes) (held_in tree n.inode)) [])) (n.offset + n.rsize) (or_second (eqb (dsize n) n.rsize) _ keeps apart)))
-    (cases_Bool (eqb (dsize n) n.rsize))
 
 -- the map of inodes with one value new
 pub map_written : (old new : Tree) (n : Node) (o : Option Held) (w : Held) → lookup (is_at (nat_cmp n.inode)) old ≡ o → w ≡ held_after n o → IsStrictlySortedBy nat_cmp (map (λ e. e.0) new)

@@ -1,5 +1,5 @@
 -- Sector by sector; the count of faults is the first one's until a read fails.
-use Rattle.std.proofs.Common.{◌≡◌, ℕ, List, length, take, drop, ◌++◌, refl, sym, ap, subst, ◌∙◌, arith, length-append}
+use Rattle.std.proofs.Common.{◌≡◌, ℕ, List, length, take, drop, ◌++◌, sym, ap, subst, ◌∙◌, arith, length-append}
 use Rattle.std.proofs.lemmas.List.{length-take-le}
 use Rattle.jffs_log.specs.declared.scanning.ScanWhy.{ScanWhy}
 use Rattle.jffs_flash.specs.Device.{Device as FlashDevice}
@@ -27,7 +27,7 @@ returns-in_err-read-clause-refused g c =
     let all = first_bad 0 (sectors_in c.args.sectors len device.image) in
     let unread = subst (λ (n : ℕ). IsUnread why device after (bad_in (k, sector_of (sector_bytes n k device.image)))) at
     (subst (λ (d : FlashDevice). IsUnread why d after (bad_in (k, sector_of (sector_bytes (length c.deref_mut.result.now) k d.image)))) w.device c.in_err-read.ensures.refused) in
-    let cause = fault_read why _ after.faults _ _ all refl
+    let cause = fault_read why _ after.faults _ all
     (λ bad. bad_read c.args.sectors k len device.image c.loop-sector.found.items why c.loop-sector-test.true w.read bad) unread.cause in
     err_from c.from_residual-in_err-read.result why (λ (v : ScanWhy). IsUnread v device after all) c.from_residual-in_err-read.ensures.1 (record { cause = cause; rest = unread.rest })
 

@@ -4,7 +4,7 @@ use Rattle.jffs_flash.specs.Device.{Device, with_image, Fails}
 use Rattle.jffs_flash.specs.Image.{replaced, programmed, IsHalfProgrammed}
 use Rattle.jffs_log.specs.Gate.{IsWritten}
 use Rattle.jffs_log.proofs.Gate.{opened, first_half, second_whole, second_half}
-use Rattle.jffs_log.proofs.Results.{match_err, match_weaker}
+use Rattle.std.proofs.lemmas.Result.{MatchResult-from_err, MatchResult-weaker}
 use Rattle.jffs_log.proofs.writing.write_through.Goals as goal
 
 pub returns-in_err-program_erased : goal.returns-in_err-program_erased
@@ -21,8 +21,8 @@ returns-in_err-program_erased g c =
       faults = fails.faults;
       rest = fails.rest;
     } in
-    match_err c.from_residual.result c.in_err-program_erased.field-0.0 (new ≡ with_image old (replaced at (spelling n) old.image)) (Fails (IsWritten at n old.image) old new)
-    c.from_residual.ensures.1 written
+    MatchResult-from_err c.from_residual.result (λ _. new ≡ with_image old (replaced at (spelling n) old.image)) (λ _. Fails (IsWritten at n old.image) old new)
+    c.from_residual.ensures.0 (λ _. written)
 
 pub returns : goal.returns
 returns g c =
@@ -36,13 +36,12 @@ returns g c =
     c.in_ok-program_erased.ensures ∙ ap (λ (xs : List ℕ). with_image old (replaced at xs old.image)) open_gate in
     let Done : Device → Type 0 = λ d. new ≡ with_image d (programmed (at + 7) (0 ∷ []) d.image) in
     let Failed : Device → Type 0 = λ d. Fails (IsHalfProgrammed (at + 7) (0 ∷ []) d.image) d new in
-    match_weaker c.program.result (Done mid) (new ≡ with_image old (replaced at (spelling n) old.image)) (Failed mid) (Fails (IsWritten at n old.image) old new)
-    (λ e. subst Done first e ∙ ap (with_image old) (second_whole at n old.image c.requires.may.lawful c.requires.may.free.inside))
-    (λ h.
+    MatchResult-weaker c.program.result c.program.ensures
+    (λ _ e. subst Done first e ∙ ap (with_image old) (second_whole at n old.image c.requires.may.lawful c.requires.may.free.inside))
+    (λ _ h.
     let fails = subst Failed first h in
     record {
       left = second_half at n old.image new.image c.requires.may.lawful c.requires.may.free.inside fails.left;
       faults = fails.faults;
       rest = fails.rest;
     })
-    c.program.ensures

@@ -15,14 +15,14 @@ padding_is rest amount len a l =
     ∙ ap (λ (xs : List ℕ). list_all (λ b. eqb b 255) xs) (sym (drop-take (64 + amount) (fill_len amount) rest))
     ∙ ap (λ k. list_all (λ b. eqb b 255) (drop (64 + k) (take (len_of_data k) rest))) a
 
-pub returns-then-is_all : goal.returns-then-is_all
-returns-then-is_all c =
+pub returns-then-is_erased : goal.returns-then-is_erased
+returns-then-is_erased c =
     let rest = c.args.rest.now in
-    let holds : padding_holds rest ≡ true = sym (padding_is rest _ _ c.requires.amount c.len_with_data-len.ensures) ∙ sym c.is_all.ensures ∙ c.if-is_all.true in
+    let holds : padding_holds rest ≡ true = sym (padding_is rest _ _ c.requires.amount c.len_with_data-len.ensures) ∙ sym c.is_erased.ensures ∙ c.if-is_erased.true in
     sym (ap (λ t. checked t Pad tt) holds)
 
-pub returns-else-is_all : goal.returns-else-is_all
-returns-else-is_all c =
+pub returns-else-is_erased : goal.returns-else-is_erased
+returns-else-is_erased c =
     let rest = c.args.rest.now in
-    let broken : padding_holds rest ≡ false = sym (padding_is rest _ _ c.requires.amount c.len_with_data-len.ensures) ∙ sym c.is_all.ensures ∙ c.if-is_all.false in
+    let broken : padding_holds rest ≡ false = sym (padding_is rest _ _ c.requires.amount c.len_with_data-len.ensures) ∙ sym c.is_erased.ensures ∙ c.if-is_erased.false in
     sym (ap (λ t. checked t Pad tt) broken)

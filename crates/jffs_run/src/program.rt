@@ -9,6 +9,7 @@ use crate::writer::NoGate;
 use jffs_flash::{FlashNew, MemoryFlash};
 use jffs_log::{Mounted, ScanFault, scan};
 use jffs_text::{DumpFault, Script, ScriptFault, dump};
+use std::alloc::Global;
 use std::io;
 use std::io::{Read, Write};
 use std::sync::Wait;
@@ -73,8 +74,7 @@ fn run_script<Rt: AllocGlobal + Threads + Wait + Sync, R: Read, W: Write>(
     out: &mut W,
 ) -> Result<(), Fault> {
     let alloc = rt.alloc();
-    let text = read_whole(alloc, input).map_err(input_fault)?;
-    let script = Script::parse(alloc, &text).map_err(Fault::Script)?;
+    let script = read_script(alloc, input)?;
     let flash = MemoryFlash::new(alloc, script.sectors, script.sector_size).map_err(flash_fault)?;
     let run = run_threads(rt, alloc, &script, flash, &NoGate).map_err(run_fault)?;
     let Run {
@@ -98,6 +98,12 @@ fn run_script<Rt: AllocGlobal + Threads + Wait + Sync, R: Read, W: Write>(
     dump(alloc, &tree, out).map_err(dump_fault)?;
     out.flush()?;
     Ok(())
+}
+
+/// The script that a reader gives. Its text isn't kept.
+fn read_script<R: Read>(alloc: Global, input: &mut R) -> Result<Script, Fault> {
+    let text = read_whole(alloc, input).map_err(input_fault)?;
+    Script::parse(alloc, &text).map_err(Fault::Script)
 }
 
 fn input_fault(fault: InputFault) -> Fault {

@@ -16,7 +16,7 @@ use std::thread::Scope;
 /// How often serving goes on after memory was refused.
 const RETRIES_MAX: u32 = 100;
 
-/// Serves until an Unmount is answered, again after memory was refused, and then tells the writers
+/// Serves until an Unmount is answered, again after memory was refused, and then tells all others
 /// that it ended.
 fn run_log<R: Wait, F: Flash, T: Taker, W: Wait + Drop>(
     rt: &R,

@@ -99,8 +99,16 @@ fn run_in<
             flash: None,
         });
     };
-    let cleaning = start_cleaner(rt, scope, alloc, cleaner, script.cleaner);
-    let looking = start_readers(scope, alloc, places.readers, readers, &script.readers);
+    let cleaning = start_cleaner(rt, scope, alloc, cleaner, script.cleaner, ended);
+    let looking = start_readers(
+        rt,
+        scope,
+        alloc,
+        places.readers,
+        readers,
+        &script.readers,
+        ended,
+    );
     let writing = start_writers(
         rt,
         scope,

@@ -93,11 +93,13 @@ pub(crate) fn start_writers<'s, E, R: Wait + Sync, H: Hand + Send + 's, G: Gate 
     Started { handles, all: true }
 }
 
-fn start_reader<'s, E>(
+fn start_reader<'s, E, R: Wait + Sync>(
+    rt: &'s R,
     scope: &'s Scope<'s, E>,
     alloc: Global,
     reader: Reader,
     statement: &'s ReaderStatement,
+    ended: &'s AtomicBool,
 ) -> Option<ReaderHandle<'s>>
     ensures { IfSome result (λ handle. (handle.promise.reader.value ≡ reader) × (handle.promise.statement.now ≡ statement.entry.now)) }
 {
@@ -109,18 +111,20 @@ fn start_reader<'s, E>(
         promise,
         move || -> ReaderStop
             ensures { (index_of result.reader ≡ index_of reader) × FitsView (view_of (known result.reader)) statement.entry.now result.end }
-        { run_reader(alloc, reader, statement) },
+        { run_reader(rt, alloc, reader, statement, ended) },
     );
     started.ok()
 }
 
 /// Starts a thread for each reader, as far as threads can be made.
-pub(crate) fn start_readers<'s, E>(
+pub(crate) fn start_readers<'s, E, R: Wait + Sync>(
+    rt: &'s R,
     scope: &'s Scope<'s, E>,
     alloc: Global,
     handles: Vec<ReaderHandle<'s>>,
     readers: Vec<Reader>,
     statements: &'s [ReaderStatement],
+    ended: &'s AtomicBool,
 ) -> Started<ReaderHandle<'s>>
     requires empty { handles.items ≡ [] }
     requires room { vec_len readers ≤ vec_capacity handles }
@@ -132,7 +136,7 @@ pub(crate) fn start_readers<'s, E>(
     let mut handles = handles;
     for reader in readers {
         let statement = &statements[handles.len()];
-        let Some(handle) = start_reader(scope, alloc, reader, statement) else {
+        let Some(handle) = start_reader(rt, scope, alloc, reader, statement, ended) else {
             return Started {
                 handles,
                 all: false,

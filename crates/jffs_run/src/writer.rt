@@ -4,13 +4,16 @@ ghost use Rattle.std.specs.Prelude.{◌≡◌, ◌≢◌, ◌+◌, ◌∷◌, �
 ghost use Rattle.jffs_line.specs.Requests.{request};
 ghost use Rattle.jffs_run.specs.Numbered.{Wrote};
 
-use crossbeam_utils::Backoff;
 use jffs_line::{Hand, NotTaken, Why};
+use jffs_serve::Pauses;
 use jffs_text::Command;
 use jffs_tree::Wish;
 use std::alloc::Global;
 use std::sync::Wait;
 use std::sync::atomic::{AtomicBool, Ordering};
+
+/// The longest sleep at a full line, in microseconds.
+const SLEEP_MAX: u64 = 4000;
 
 /// Is told of each wish before it is offered.
 pub trait Gate {
@@ -66,7 +69,7 @@ pub(crate) fn offer_until<R: Wait, H: Hand>(
     ensures accepted { result ≡ Offered.Accepted → H.accepted hand.new ≡ H.accepted hand.old ++ request (H.sender hand.old) (length (H.accepted hand.old) + 1) wish ∷ [] }
     ensures refused { result ≢ Offered.Accepted → H.accepted hand.new ≡ H.accepted hand.old }
 {
-    let backoff = Backoff::new();
+    let mut pauses = Pauses::up_to(SLEEP_MAX);
     let mut wish = wish;
     for _ in rt.forever() {
         match hand.offer(rt, wish) {
@@ -82,7 +85,7 @@ pub(crate) fn offer_until<R: Wait, H: Hand>(
         if ended.load(Ordering::SeqCst) {
             return Offered::LogEnded;
         }
-        backoff.snooze();
+        pauses.pause(rt);
     }
     unreachable!()
 }

@@ -6,11 +6,10 @@ ghost use Rattle.jffs_run.specs.Started.{IsCleaning};
 
 use crate::promise::{Cleaner, Cleaning, Cleans};
 use jffs_line::Hand;
-use jffs_serve::clean_until;
+use jffs_serve::{Ended, clean_until};
 use std::alloc::Global;
 use std::snapshot::Snapshot;
 use std::sync::Wait;
-use std::sync::atomic::AtomicBool;
 use std::thread::{Scope, Threads};
 
 fn run_cleaner<R: Wait, H: Hand>(
@@ -18,7 +17,7 @@ fn run_cleaner<R: Wait, H: Hand>(
     alloc: Global,
     cleaner: Cleaner<H>,
     rounds: u32,
-    ended: &AtomicBool,
+    ended: &Ended,
 ) -> Cleaner<H>
     requires fresh { H.accepted cleaner.hand ≡ [] }
     ensures end { (H.sender result.hand ≡ H.sender cleaner.hand) × (H.line result.hand ≡ H.line cleaner.hand) }
@@ -40,7 +39,7 @@ pub(crate) fn start_cleaner<'s, E, R: Wait + Sync, H: Hand + Send + 's>(
     alloc: Global,
     cleaner: Cleaner<H>,
     rounds: Option<u32>,
-    ended: &'s AtomicBool,
+    ended: &'s Ended,
 ) -> Option<Cleaning<H>>
     requires fresh { H.accepted cleaner.hand ≡ [] }
     ensures cleaning { IfSome result (IsCleaning H.Hand cleaner.hand) }

@@ -8,18 +8,17 @@ ghost use Rattle.jffs_run.specs.Looking.{FitsView, FitsPath};
 
 use jffs_index::{Reader, View};
 use jffs_node::{Kind, Path};
-use jffs_serve::Pauses;
+use jffs_serve::{Ended, Pauses};
 use jffs_text::ReaderStatement;
 use std::alloc::{AllocError, Global};
 use std::sync::Wait;
-use std::sync::atomic::{AtomicBool, Ordering};
 
 /// How often a reader looks before it gives up. With the sleeps between, that takes more than an
 /// hour.
 const LOOKS_MAX: u32 = 1_000_000;
 
 /// The longest sleep between two looks, in microseconds.
-const SLEEP_MAX: u64 = 4000;
+const SLEEP_MAX: u64 = 10_000;
 
 /// What became of a reader.
 #[derive(Drop)]
@@ -47,7 +46,7 @@ pub(crate) fn run_reader<R: Wait>(
     alloc: Global,
     reader: Reader,
     statement: &ReaderStatement,
-    ended: &AtomicBool,
+    ended: &Ended,
 ) -> ReaderStop
     ensures index { index_of result.reader ≡ index_of reader }
     ensures end { FitsView (view_of (known result.reader)) statement.now result.end }
@@ -55,8 +54,7 @@ pub(crate) fn run_reader<R: Wait>(
     let mut reader = reader;
     let mut pauses = Pauses::up_to(SLEEP_MAX);
     for _ in 0..LOOKS_MAX {
-        // All is published before this is set, so the look after it sees all.
-        let is_last = ended.load(Ordering::SeqCst);
+        let is_last = ended.is_told();
         let found = reader.look(
             |view: &View| -> Option<ReaderEnd>
                 ensures { IfSome result (FitsView view.now statement.entry.now) }
@@ -64,7 +62,7 @@ pub(crate) fn run_reader<R: Wait>(
         );
         match found {
             Some(Some(end)) => return ReaderStop { reader, end },
-            Some(None) if !is_last => pauses.pause(rt),
+            Some(None) if !is_last => pauses.pause(rt, ended),
             _ => break,
         }
     }

@@ -8,12 +8,11 @@ ghost use Rattle.jffs_serve.specs.Copies.{HandsInCopies};
 
 use crate::copies::{Copying, copies_in};
 use crate::jobs::JobEnd;
-use crate::pauses::Pauses;
+use crate::pauses::{Ended, Pauses};
 use jffs_index::Reader;
 use jffs_line::{Hand, NotTaken, Why};
 use std::alloc::Global;
 use std::sync::Wait;
-use std::sync::atomic::{AtomicBool, Ordering};
 
 /// How often a copy is offered to a line that is full.
 const TRIES: u32 = 1000;
@@ -52,18 +51,10 @@ pub fn clean_loop<R: Wait, H: Hand>(
     ensures end { (H.sender hand.new ≡ H.sender hand.old) × (H.line hand.new ≡ H.line hand.old) }
     ensures reader { (index_of reader.new ≡ index_of reader.old) × BeginsWith (known reader.new) (known reader.old) }
 {
-    clean_until(
-        rt,
-        alloc,
-        jobs,
-        reader,
-        hand,
-        limit,
-        &AtomicBool::new(false),
-    )
+    clean_until(rt, alloc, jobs, reader, hand, limit, &Ended::new())
 }
 
-/// As `clean_loop`, and it also ends once the log thread has set `ended`.
+/// As `clean_loop`, and it also ends once the log thread has ended.
 pub fn clean_until<R: Wait, H: Hand>(
     rt: &R,
     alloc: Global,
@@ -71,7 +62,7 @@ pub fn clean_until<R: Wait, H: Hand>(
     reader: &mut Reader,
     hand: &mut H,
     limit: u32,
-    ended: &AtomicBool,
+    ended: &Ended,
 ) -> CleanerEnd
     ensures copies { HandsInCopies (H.accepted hand.old) (H.accepted hand.new) result.handed_in }
     ensures end { (H.sender hand.new ≡ H.sender hand.old) × (H.line hand.new ≡ H.line hand.old) }
@@ -80,12 +71,12 @@ pub fn clean_until<R: Wait, H: Hand>(
     let mut pauses = Pauses::up_to(IDLE_SLEEP_MAX);
     let mut end = CleanerEnd { handed_in: 0 };
     for _ in 0..limit {
-        if ended.load(Ordering::SeqCst) {
+        if ended.is_told() {
             break;
         }
         let image = jobs.take();
         let Some(found) = look(alloc, reader, &image) else {
-            pauses.pause(rt);
+            pauses.pause(rt, ended);
             continue;
         };
         if found.closed {
@@ -95,7 +86,7 @@ pub fn clean_until<R: Wait, H: Hand>(
         if image.is_some() {
             pauses = Pauses::up_to(IDLE_SLEEP_MAX);
         } else {
-            pauses.pause(rt);
+            pauses.pause(rt, ended);
         }
     }
     end
@@ -121,7 +112,7 @@ fn hand_in_all<R: Wait, H: Hand>(
     rt: &R,
     hand: &mut H,
     copies: Vec<Copying>,
-    ended: &AtomicBool,
+    ended: &Ended,
     end: &mut CleanerEnd,
 )
     requires counted { end.old.handed_in ≤ length (H.accepted hand.old) }
@@ -138,7 +129,7 @@ fn hand_in_all<R: Wait, H: Hand>(
 
 /// Offers a copy, again and again while the line is full, up to `TRIES` times or until the log
 /// thread has ended. Answers its number where it was accepted.
-fn hand_in<R: Wait, H: Hand>(rt: &R, hand: &mut H, copy: Copying, ended: &AtomicBool) -> Option<u32>
+fn hand_in<R: Wait, H: Hand>(rt: &R, hand: &mut H, copy: Copying, ended: &Ended) -> Option<u32>
     ensures accepted { IfSome result (λ seq. (seq ≡ length (H.accepted hand.new)) × HandsInCopies (H.accepted hand.old) (H.accepted hand.new) 1) }
     ensures refused { IfNone result (H.accepted hand.new ≡ H.accepted hand.old) }
     ensures end { (H.sender hand.new ≡ H.sender hand.old) × (H.line hand.new ≡ H.line hand.old) }
@@ -161,10 +152,10 @@ fn hand_in<R: Wait, H: Hand>(rt: &R, hand: &mut H, copy: Copying, ended: &Atomic
                 },
             ) => wish = back,
         }
-        if ended.load(Ordering::SeqCst) {
+        if ended.is_told() {
             break;
         }
-        pauses.pause(rt);
+        pauses.pause(rt, ended);
     }
     None
 }

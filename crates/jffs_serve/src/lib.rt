@@ -22,6 +22,6 @@ mod tests;
 pub use cleaner::{CleanerEnd, clean_loop, clean_until};
 pub use jobs::{JOBS_MAX, JobEnd, Jobs, job_ring};
 pub use laws::{failures_are_faults, full_volumes_are_heavy, replies_are_lawful};
-pub use pauses::Pauses;
+pub use pauses::{Ended, Pauses};
 pub use serving::serve;
 pub use session::{Served, Session};

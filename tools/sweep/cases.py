@@ -89,6 +89,17 @@ def script(seed, count):
     return "\n".join(lines) + "\n"
 
 
+def crowd(line):
+    """A script with all threads that there may be: 8 writers, 16 readers that wait for last answers, and a cleaner."""
+    rand, homes = random.Random(1), [f"/w{writer}" for writer in range(1, 9)]
+    writers = [commands_of(rand, home, 1024, 6, 0) for home in homes]
+    lines = ["volume 6 1024", f"line {line}", "cleaner 1000000"]
+    lines += [f"reader {at + 1} {len(writers[at])} {homes[at]}/a" for at in [*range(8), *range(8)]]
+    for commands in writers:
+        lines += ["writer"] + commands
+    return "\n".join(lines) + "\n"
+
+
 def examples():
     """The examples, each with its name."""
     return [(path.name, path.read_text()) for path in sorted((TOP / "examples").glob("*.script"))]

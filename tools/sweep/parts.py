@@ -13,6 +13,8 @@ from script_judge import Script, Wrong
 
 # Where the stored input of jffs_replay finds its image.
 DATA = TOP / "crates/jffs_replay/data"
+# Seconds within which a run whose allocations all fail from one on has to end.
+SOON = 2
 # Tests that bear each refusal: they pass, or give up with an error that tells of memory.
 STEADFAST = re.compile(r"jffs_(tree|flash|node|line) |jffs_core tests::refusals::")
 GAVE_UP = re.compile(r"\Aerror: [^\n]*(memory|AllocError)[^\n]*\nthe test failed: its result", re.IGNORECASE)
@@ -38,6 +40,19 @@ def memory(runner):
     subjects += jffs_scripts(runner) + replays(runner) + images(runner)
     runner.each(subjects, lambda subject: runner.refuse_each(*subject))
     runner.tally.tell("allocations refused", "tests or inputs")
+    runner.each(["shared 2", "rings 2"] * bool(runner.program("jffs")), lambda line: refuse_rest(runner, line))
+    runner.tally.tell("places from which on all allocations were refused", "scripts with 16 readers")
+
+
+def refuse_rest(runner, line):
+    """All allocations from one on are refused, from each in turn."""
+    script, at, ran = Script(cases.crowd(line)), 0, None
+    while ran is None or ran.refused:
+        at += runner.options.thin
+        ran = runner.run([runner.program("jffs")], script.text, at=at, on=True, limit=SOON)
+        why = ran.crash() or why_wrong(script_judge.judge, script, ran.status, ran.out, ran.refused)
+        runner.tally.add(f"{line}, all refused from allocation {at} on", why)
+    runner.tally.count("jffs", at // runner.options.thin - 1)
 
 
 def crates_with_tests():

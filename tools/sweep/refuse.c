@@ -1,4 +1,5 @@
-// Put before the C library by LD_PRELOAD: call number REFUSE_AT of an allocation (from 1; 0 for none) answers null.
+// Put before the C library by LD_PRELOAD: call number REFUSE_AT of an allocation (from 1; 0 for none) answers null, and
+// with REFUSE_ON each later one too.
 // The file REFUSE_SEEN is made when that call came; the number of all calls is written to REFUSE_COUNT at the end.
 #define _GNU_SOURCE
 #include <errno.h>
@@ -16,18 +17,20 @@ extern void *__libc_memalign(size_t, size_t);
 
 static atomic_long calls;
 static long refuse_at;
+static int refuse_on;
 
 __attribute__((constructor)) static void begin(void) {
     const char *at = getenv("REFUSE_AT");
     refuse_at = at ? atol(at) : 0;
+    refuse_on = getenv("REFUSE_ON") != NULL;
     atomic_store(&calls, 0);
 }
 
 static int refused(void) {
     long call = atomic_fetch_add(&calls, 1) + 1;
-    if (refuse_at == 0 || call != refuse_at)
+    if (refuse_at == 0 || call < refuse_at || (call > refuse_at && !refuse_on))
         return 0;
-    const char *seen = getenv("REFUSE_SEEN");
+    const char *seen = call == refuse_at ? getenv("REFUSE_SEEN") : NULL;
     int file = seen ? open(seen, O_CREAT | O_WRONLY, 0600) : -1;
     if (file >= 0)
         close(file);

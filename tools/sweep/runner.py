@@ -94,14 +94,16 @@ class Runner:
             self.tally.add(name, f"not built: run `{how}` in crates/{crate}, or ./test")
         return None
 
-    def run(self, words, text="", at=None, limit=20, cwd=TOP, processor=None):
-        """Runs a program; allocation number `at` is refused, and with 0 the allocations are only counted."""
+    def run(self, words, text="", at=None, on=False, limit=20, cwd=TOP, processor=None):
+        """Runs a program; allocation number `at` is refused, all later ones too where it goes on, and with 0 the
+        allocations are only counted."""
         own = self.folder / f"{threading.get_ident()}"
         seen, count = own.with_suffix(".seen"), own.with_suffix(".count")
         env = dict(os.environ)
         if at is not None:
             env.update(LD_PRELOAD=str(self.library), REFUSE_AT=str(at))
             env.update(REFUSE_SEEN=str(seen), REFUSE_COUNT=str(count))
+            env.update({"REFUSE_ON": "1"} if on else {})
         if processor is not None:
             words = ["taskset", "-c", str(processor)] + words
         started = time.monotonic()

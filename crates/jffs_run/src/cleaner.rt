@@ -6,7 +6,7 @@ ghost use Rattle.jffs_run.specs.Started.{IsCleaning};
 
 use crate::promise::{Cleaner, Cleaning, Cleans};
 use jffs_line::Hand;
-use jffs_serve::clean_loop;
+use jffs_serve::{Ended, clean_until};
 use std::alloc::Global;
 use std::snapshot::Snapshot;
 use std::sync::Wait;
@@ -17,6 +17,7 @@ fn run_cleaner<R: Wait, H: Hand>(
     alloc: Global,
     cleaner: Cleaner<H>,
     rounds: u32,
+    ended: &Ended,
 ) -> Cleaner<H>
     requires fresh { H.accepted cleaner.hand ≡ [] }
     ensures end { (H.sender result.hand ≡ H.sender cleaner.hand) × (H.line result.hand ≡ H.line cleaner.hand) }
@@ -27,7 +28,7 @@ fn run_cleaner<R: Wait, H: Hand>(
         mut reader,
         mut jobs,
     } = cleaner;
-    clean_loop(rt, alloc, &mut jobs, &mut reader, &mut hand, rounds);
+    clean_until(rt, alloc, &mut jobs, &mut reader, &mut hand, rounds, ended);
     Cleaner { hand, reader, jobs }
 }
 
@@ -38,6 +39,7 @@ pub(crate) fn start_cleaner<'s, E, R: Wait + Sync, H: Hand + Send + 's>(
     alloc: Global,
     cleaner: Cleaner<H>,
     rounds: Option<u32>,
+    ended: &'s Ended,
 ) -> Option<Cleaning<H>>
     requires fresh { H.accepted cleaner.hand ≡ [] }
     ensures cleaning { IfSome result (IsCleaning H.Hand cleaner.hand) }
@@ -53,7 +55,7 @@ pub(crate) fn start_cleaner<'s, E, R: Wait + Sync, H: Hand + Send + 's>(
         move || -> Cleaner<H>
             requires { H.accepted cleaner.hand ≡ [] }
             ensures { (H.sender result.hand ≡ H.sender cleaner.hand) × (H.line result.hand ≡ H.line cleaner.hand) × AreCopies (H.accepted result.hand) }
-        { run_cleaner(rt, alloc, cleaner, rounds) },
+        { run_cleaner(rt, alloc, cleaner, rounds, ended) },
     );
     match started {
         Ok(handle) => Some(Cleaning::Thread(handle)),

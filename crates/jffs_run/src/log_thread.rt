@@ -7,21 +7,20 @@ ghost use Rattle.jffs_run.specs.Serving.{HasServed};
 use crate::promise::{LogEnd, LogHandle, LogSide, Serves};
 use jffs_flash::Flash;
 use jffs_line::Taker;
-use jffs_serve::{Served, serve};
+use jffs_serve::{Ended, Served, serve};
 use std::snapshot::Snapshot;
 use std::sync::Wait;
-use std::sync::atomic::{AtomicBool, Ordering};
 use std::thread::Scope;
 
 /// How often serving goes on after memory was refused.
 const RETRIES_MAX: u32 = 100;
 
-/// Serves until an Unmount is answered, again after memory was refused, and then tells the writers
+/// Serves until an Unmount is answered, again after memory was refused, and then tells all others
 /// that it ended.
 fn run_log<R: Wait, F: Flash, T: Taker, W: Wait + Drop>(
     rt: &R,
     side: LogSide<F, T, W>,
-    ended: &AtomicBool,
+    ended: &Ended,
 ) -> LogEnd<F, T, W>
     requires ready { CanServe side.session side.publisher }
     ensures ends { T.ends result.side.taker ≡ T.ends side.taker }
@@ -40,7 +39,7 @@ fn run_log<R: Wait, F: Flash, T: Taker, W: Wait + Drop>(
         }
         served = serve(rt, &mut session, &mut taker, &mut publisher, &mut jobs);
     }
-    ended.store(true, Ordering::SeqCst);
+    ended.tell();
     LogEnd {
         side: LogSide {
             session,
@@ -64,7 +63,7 @@ pub(crate) fn start_log<
     rt: &'s R,
     scope: &'s Scope<'s, E>,
     side: LogSide<F, T, W>,
-    ended: &'s AtomicBool,
+    ended: &'s Ended,
 ) -> Option<LogHandle<F, T, W>>
     requires ready { CanServe side.session side.publisher }
     ensures promise { IfSome result (λ handle. handle.promise.side.value ≡ side) }

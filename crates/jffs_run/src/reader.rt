@@ -6,14 +6,19 @@ ghost use Rattle.jffs_index.specs.Ends.{index_of, known};
 ghost use Rattle.jffs_index.specs.Histories.{view_of};
 ghost use Rattle.jffs_run.specs.Looking.{FitsView, FitsPath};
 
-use crossbeam_utils::Backoff;
 use jffs_index::{Reader, View};
 use jffs_node::{Kind, Path};
+use jffs_serve::{Ended, Pauses};
 use jffs_text::ReaderStatement;
 use std::alloc::{AllocError, Global};
+use std::sync::Wait;
 
-/// How often a reader looks before it gives up.
+/// How often a reader looks before it gives up. With the sleeps between, that takes more than an
+/// hour.
 const LOOKS_MAX: u32 = 1_000_000;
+
+/// The longest sleep between two looks, in microseconds.
+const SLEEP_MAX: u64 = 10_000;
 
 /// What became of a reader.
 #[derive(Drop)]
@@ -34,14 +39,22 @@ pub(crate) struct ReaderStop {
 }
 
 /// Looks until the awaited request is answered, and reads the path then. `NotSeen`: it looked
-/// too often, the session closed without that answer, or the bytes could not be allocated.
-pub(crate) fn run_reader(alloc: Global, reader: Reader, statement: &ReaderStatement) -> ReaderStop
+/// too often, the session closed or the log thread ended without that answer, or the bytes could not
+/// be allocated.
+pub(crate) fn run_reader<R: Wait>(
+    rt: &R,
+    alloc: Global,
+    reader: Reader,
+    statement: &ReaderStatement,
+    ended: &Ended,
+) -> ReaderStop
     ensures index { index_of result.reader ≡ index_of reader }
     ensures end { FitsView (view_of (known result.reader)) statement.now result.end }
 {
     let mut reader = reader;
-    let backoff = Backoff::new();
+    let mut pauses = Pauses::up_to(SLEEP_MAX);
     for _ in 0..LOOKS_MAX {
+        let is_last = ended.is_told();
         let found = reader.look(
             |view: &View| -> Option<ReaderEnd>
                 ensures { IfSome result (FitsView view.now statement.entry.now) }
@@ -49,8 +62,8 @@ pub(crate) fn run_reader(alloc: Global, reader: Reader, statement: &ReaderStatem
         );
         match found {
             Some(Some(end)) => return ReaderStop { reader, end },
-            Some(None) => backoff.snooze(),
-            None => break,
+            Some(None) if !is_last => pauses.pause(rt, ended),
+            _ => break,
         }
     }
     ReaderStop {

@@ -22,11 +22,11 @@ use crate::starting::{start_readers, start_writers};
 use crate::writer::{Gate, offer_until};
 use jffs_flash::Flash;
 use jffs_line::{Control, Hand, Hands, Taker};
+use jffs_serve::Ended;
 use jffs_text::Script;
 use jffs_tree::Wish;
 use std::alloc::{AllocError, Global};
 use std::sync::Wait;
-use std::sync::atomic::AtomicBool;
 use std::thread;
 use std::thread::{Scope, Threads};
 
@@ -74,7 +74,7 @@ fn run_in<
     crew: Crew<H>,
     side: LogSide<F, T, W>,
     gate: &'s G,
-    ended: &'s AtomicBool,
+    ended: &'s Ended,
 ) -> Result<Finished<H, F, T, W>, RunFault<F>>
     requires crew { IsFit H.Hand script.now crew (publisher_index side.publisher) }
     requires ready { CanServe side.session side.publisher }
@@ -99,8 +99,16 @@ fn run_in<
             flash: None,
         });
     };
-    let cleaning = start_cleaner(rt, scope, alloc, cleaner, script.cleaner);
-    let looking = start_readers(scope, alloc, places.readers, readers, &script.readers);
+    let cleaning = start_cleaner(rt, scope, alloc, cleaner, script.cleaner, ended);
+    let looking = start_readers(
+        rt,
+        scope,
+        alloc,
+        places.readers,
+        readers,
+        &script.readers,
+        ended,
+    );
     let writing = start_writers(
         rt,
         scope,
@@ -148,7 +156,7 @@ fn ask_unmount<R: Wait, H: Hand>(
     rt: &R,
     control: Control<H>,
     log_ended: bool,
-    ended: &AtomicBool,
+    ended: &Ended,
 ) -> Control<H>
     requires idle { H.accepted control.hand ≡ [] }
     ensures end { (H.sender result.hand ≡ H.sender control.hand) × (H.line result.hand ≡ H.line control.hand) }
@@ -189,7 +197,7 @@ pub(crate) fn run_all<
     ensures ends { IfOk result (λ finished. T.ends finished.log.side.taker ≡ T.ends side.taker) }
     ensures served { IfOk result (λ finished. HasServed side.session side.publisher (T.taken side.taker) finished.log.side.session finished.log.side.publisher (T.taken finished.log.side.taker) finished.log.served) }
 {
-    let ended = AtomicBool::new(false);
+    let ended = Ended::new();
     let ended = &ended;
     thread::scope(
         thread::scope_env(),

@@ -15,11 +15,11 @@ use crate::reader::{ReaderStop, run_reader};
 use crate::writer::{Gate, WriterEnd, run_writer};
 use jffs_index::Reader;
 use jffs_line::Hand;
+use jffs_serve::Ended;
 use jffs_text::{Command, ReaderStatement, Writer};
 use std::alloc::Global;
 use std::snapshot::Snapshot;
 use std::sync::Wait;
-use std::sync::atomic::AtomicBool;
 use std::thread::Scope;
 
 /// The threads that were started, and whether all of them could be.
@@ -37,7 +37,7 @@ fn start_writer<'s, E, R: Wait + Sync, H: Hand + Send + 's, G: Gate + Sync>(
     hand: H,
     commands: &'s [Command],
     gate: &'s G,
-    ended: &'s AtomicBool,
+    ended: &'s Ended,
 ) -> Option<WriterHandle<'s, H>>
     requires fresh { H.accepted hand ≡ [] }
     ensures { IfSome result (λ handle. (handle.promise.hand.value ≡ hand) × (handle.promise.commands.now ≡ commands.entry.now)) }
@@ -65,7 +65,7 @@ pub(crate) fn start_writers<'s, E, R: Wait + Sync, H: Hand + Send + 's, G: Gate 
     hands: Vec<H>,
     writers: &'s [Writer],
     gate: &'s G,
-    ended: &'s AtomicBool,
+    ended: &'s Ended,
 ) -> Started<WriterHandle<'s, H>>
     requires empty { handles.items ≡ [] }
     requires room { vec_len hands ≤ vec_capacity handles }
@@ -93,11 +93,13 @@ pub(crate) fn start_writers<'s, E, R: Wait + Sync, H: Hand + Send + 's, G: Gate 
     Started { handles, all: true }
 }
 
-fn start_reader<'s, E>(
+fn start_reader<'s, E, R: Wait + Sync>(
+    rt: &'s R,
     scope: &'s Scope<'s, E>,
     alloc: Global,
     reader: Reader,
     statement: &'s ReaderStatement,
+    ended: &'s Ended,
 ) -> Option<ReaderHandle<'s>>
     ensures { IfSome result (λ handle. (handle.promise.reader.value ≡ reader) × (handle.promise.statement.now ≡ statement.entry.now)) }
 {
@@ -109,18 +111,20 @@ fn start_reader<'s, E>(
         promise,
         move || -> ReaderStop
             ensures { (index_of result.reader ≡ index_of reader) × FitsView (view_of (known result.reader)) statement.entry.now result.end }
-        { run_reader(alloc, reader, statement) },
+        { run_reader(rt, alloc, reader, statement, ended) },
     );
     started.ok()
 }
 
 /// Starts a thread for each reader, as far as threads can be made.
-pub(crate) fn start_readers<'s, E>(
+pub(crate) fn start_readers<'s, E, R: Wait + Sync>(
+    rt: &'s R,
     scope: &'s Scope<'s, E>,
     alloc: Global,
     handles: Vec<ReaderHandle<'s>>,
     readers: Vec<Reader>,
     statements: &'s [ReaderStatement],
+    ended: &'s Ended,
 ) -> Started<ReaderHandle<'s>>
     requires empty { handles.items ≡ [] }
     requires room { vec_len readers ≤ vec_capacity handles }
@@ -132,7 +136,7 @@ pub(crate) fn start_readers<'s, E>(
     let mut handles = handles;
     for reader in readers {
         let statement = &statements[handles.len()];
-        let Some(handle) = start_reader(scope, alloc, reader, statement) else {
+        let Some(handle) = start_reader(rt, scope, alloc, reader, statement, ended) else {
             return Started {
                 handles,
                 all: false,

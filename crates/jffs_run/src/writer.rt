@@ -4,13 +4,15 @@ ghost use Rattle.std.specs.Prelude.{◌≡◌, ◌≢◌, ◌+◌, ◌∷◌, �
 ghost use Rattle.jffs_line.specs.Requests.{request};
 ghost use Rattle.jffs_run.specs.Numbered.{Wrote};
 
-use crossbeam_utils::Backoff;
 use jffs_line::{Hand, NotTaken, Why};
+use jffs_serve::{Ended, Pauses};
 use jffs_text::Command;
 use jffs_tree::Wish;
 use std::alloc::Global;
 use std::sync::Wait;
-use std::sync::atomic::{AtomicBool, Ordering};
+
+/// The longest sleep at a full line, in microseconds.
+const SLEEP_MAX: u64 = 10_000;
 
 /// Is told of each wish before it is offered.
 pub trait Gate {
@@ -60,13 +62,13 @@ pub(crate) fn offer_until<R: Wait, H: Hand>(
     rt: &R,
     hand: &mut H,
     wish: Wish,
-    ended: &AtomicBool,
+    ended: &Ended,
 ) -> Offered
     ensures end { (H.sender hand.new ≡ H.sender hand.old) × (H.line hand.new ≡ H.line hand.old) }
     ensures accepted { result ≡ Offered.Accepted → H.accepted hand.new ≡ H.accepted hand.old ++ request (H.sender hand.old) (length (H.accepted hand.old) + 1) wish ∷ [] }
     ensures refused { result ≢ Offered.Accepted → H.accepted hand.new ≡ H.accepted hand.old }
 {
-    let backoff = Backoff::new();
+    let mut pauses = Pauses::up_to(SLEEP_MAX);
     let mut wish = wish;
     for _ in rt.forever() {
         match hand.offer(rt, wish) {
@@ -79,10 +81,10 @@ pub(crate) fn offer_until<R: Wait, H: Hand>(
             ) => return Offered::Spent,
             Err(NotTaken { wish: back, .. }) => wish = back,
         }
-        if ended.load(Ordering::SeqCst) {
+        if ended.is_told() {
             return Offered::LogEnded;
         }
-        backoff.snooze();
+        pauses.pause(rt, ended);
     }
     unreachable!()
 }
@@ -95,7 +97,7 @@ pub(crate) fn run_writer<R: Wait, H: Hand, G: Gate>(
     hand: H,
     commands: &[Command],
     gate: &G,
-    ended: &AtomicBool,
+    ended: &Ended,
 ) -> WriterEnd<H>
     requires fresh { H.accepted hand ≡ [] }
     ensures end { (H.sender result.hand ≡ H.sender hand) × (H.line result.hand ≡ H.line hand) }

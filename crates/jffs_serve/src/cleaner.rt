@@ -8,7 +8,7 @@ ghost use Rattle.jffs_serve.specs.Copies.{HandsInCopies};
 
 use crate::copies::{Copying, copies_in};
 use crate::jobs::JobEnd;
-use crossbeam_utils::Backoff;
+use crate::pauses::{Ended, Pauses};
 use jffs_index::Reader;
 use jffs_line::{Hand, NotTaken, Why};
 use std::alloc::Global;
@@ -16,6 +16,12 @@ use std::sync::Wait;
 
 /// How often a copy is offered to a line that is full.
 const TRIES: u32 = 1000;
+
+/// The longest sleep at a full line, in microseconds.
+const FULL_SLEEP_MAX: u64 = 100;
+
+/// The longest sleep without an image, in microseconds.
+const IDLE_SLEEP_MAX: u64 = 1000;
 
 /// What the cleaner did.
 #[derive(Clone, Copy, Debug, PartialEq, Eq)]
@@ -32,7 +38,7 @@ struct Found {
 }
 
 /// At most `limit` rounds, until the session is closed. In each it looks for an image, and hands in a
-/// copy for every record there that still lives.
+/// copy for every record there that still lives. A round without an image ends with a pause.
 pub fn clean_loop<R: Wait, H: Hand>(
     rt: &R,
     alloc: Global,
@@ -45,20 +51,42 @@ pub fn clean_loop<R: Wait, H: Hand>(
     ensures end { (H.sender hand.new ≡ H.sender hand.old) × (H.line hand.new ≡ H.line hand.old) }
     ensures reader { (index_of reader.new ≡ index_of reader.old) × BeginsWith (known reader.new) (known reader.old) }
 {
-    let backoff = Backoff::new();
+    clean_until(rt, alloc, jobs, reader, hand, limit, &Ended::new())
+}
+
+/// As `clean_loop`, and it also ends once the log thread has ended.
+pub fn clean_until<R: Wait, H: Hand>(
+    rt: &R,
+    alloc: Global,
+    jobs: &mut JobEnd,
+    reader: &mut Reader,
+    hand: &mut H,
+    limit: u32,
+    ended: &Ended,
+) -> CleanerEnd
+    ensures copies { HandsInCopies (H.accepted hand.old) (H.accepted hand.new) result.handed_in }
+    ensures end { (H.sender hand.new ≡ H.sender hand.old) × (H.line hand.new ≡ H.line hand.old) }
+    ensures reader { (index_of reader.new ≡ index_of reader.old) × BeginsWith (known reader.new) (known reader.old) }
+{
+    let mut pauses = Pauses::up_to(IDLE_SLEEP_MAX);
     let mut end = CleanerEnd { handed_in: 0 };
     for _ in 0..limit {
+        if ended.is_told() {
+            break;
+        }
         let image = jobs.take();
         let Some(found) = look(alloc, reader, &image) else {
-            backoff.snooze();
+            pauses.pause(rt, ended);
             continue;
         };
         if found.closed {
             break;
         }
-        hand_in_all(rt, hand, found.copies, &mut end);
-        if image.is_none() {
-            backoff.snooze();
+        hand_in_all(rt, hand, found.copies, ended, &mut end);
+        if image.is_some() {
+            pauses = Pauses::up_to(IDLE_SLEEP_MAX);
+        } else {
+            pauses.pause(rt, ended);
         }
     }
     end
@@ -80,27 +108,33 @@ fn look(alloc: Global, reader: &mut Reader, image: &Option<Vec<u8>>) -> Option<F
 }
 
 /// Hands the copies in, in order, and counts those that are accepted.
-fn hand_in_all<R: Wait, H: Hand>(rt: &R, hand: &mut H, copies: Vec<Copying>, end: &mut CleanerEnd)
+fn hand_in_all<R: Wait, H: Hand>(
+    rt: &R,
+    hand: &mut H,
+    copies: Vec<Copying>,
+    ended: &Ended,
+    end: &mut CleanerEnd,
+)
     requires counted { end.old.handed_in ≤ length (H.accepted hand.old) }
     ensures copies { (before : List Request) → HandsInCopies before (H.accepted hand.old) end.old.handed_in → HandsInCopies before (H.accepted hand.new) end.new.handed_in }
     ensures counted { end.new.handed_in ≤ length (H.accepted hand.new) }
     ensures end { (H.sender hand.new ≡ H.sender hand.old) × (H.line hand.new ≡ H.line hand.old) }
 {
     for copy in copies {
-        if let Some(_seq) = hand_in(rt, hand, copy) {
+        if let Some(_seq) = hand_in(rt, hand, copy, ended) {
             end.handed_in += 1;
         }
     }
 }
 
-/// Offers a copy, again and again while the line is full, up to `TRIES` times. Answers its number
-/// where it was accepted.
-fn hand_in<R: Wait, H: Hand>(rt: &R, hand: &mut H, copy: Copying) -> Option<u32>
+/// Offers a copy, again and again while the line is full, up to `TRIES` times or until the log
+/// thread has ended. Answers its number where it was accepted.
+fn hand_in<R: Wait, H: Hand>(rt: &R, hand: &mut H, copy: Copying, ended: &Ended) -> Option<u32>
     ensures accepted { IfSome result (λ seq. (seq ≡ length (H.accepted hand.new)) × HandsInCopies (H.accepted hand.old) (H.accepted hand.new) 1) }
     ensures refused { IfNone result (H.accepted hand.new ≡ H.accepted hand.old) }
     ensures end { (H.sender hand.new ≡ H.sender hand.old) × (H.line hand.new ≡ H.line hand.old) }
 {
-    let backoff = Backoff::new();
+    let mut pauses = Pauses::up_to(FULL_SLEEP_MAX);
     let mut wish = copy.wish();
     for _ in 0..TRIES {
         match hand.offer(rt, wish) {
@@ -116,11 +150,12 @@ fn hand_in<R: Wait, H: Hand>(rt: &R, hand: &mut H, copy: Copying) -> Option<u32>
                     wish: back,
                     why: Why::Full,
                 },
-            ) => {
-                wish = back;
-                backoff.snooze();
-            }
+            ) => wish = back,
         }
+        if ended.is_told() {
+            break;
+        }
+        pauses.pause(rt, ended);
     }
     None
 }

@@ -13,13 +13,15 @@ mod cleaner;
 mod copies;
 mod jobs;
 mod laws;
+mod pauses;
 mod serving;
 mod session;
 #[cfg(test)]
 mod tests;
 
-pub use cleaner::{CleanerEnd, clean_loop};
+pub use cleaner::{CleanerEnd, clean_loop, clean_until};
 pub use jobs::{JOBS_MAX, JobEnd, Jobs, job_ring};
 pub use laws::{failures_are_faults, full_volumes_are_heavy, replies_are_lawful};
+pub use pauses::{Ended, Pauses};
 pub use serving::serve;
 pub use session::{Served, Session};

@@ -2,7 +2,7 @@ use Rattle.std.proofs.Common.{◌≡◌}
 use Rattle.jffs_index.specs.Histories.{BeginsWith}
 use Rattle.jffs_index.specs.Ends.{known, index_of}
 use Rattle.jffs_serve.specs.Copies.{HandsInCopies}
-use Rattle.jffs_serve.proofs.cleaner.clean_loop.Given as goal
+use Rattle.jffs_serve.proofs.cleaner.clean_until.Given as goal
 
 abbrev pub invariant-loop : goal.invariant-loop
 invariant-loop g l = record {

@@ -45,7 +45,7 @@ module _ (m n : Counts) (v0 i0 : ℕ) (w : Option ℕ) (updates : (q : ℕ × �
       ∙ ap (λ b. unwrap_or (cond b w (lookup (is_at (mark_cmp (v, i))) m)) 0) (mark_tied (v0, i0) (v, i))
       ∙ unwrapped (eqb v v0 && eqb i i0) w (lookup (is_at (mark_cmp (v, i))) m)
 
-  here : mark_of n v0 i0 ≡ unwrap_or w 0
+  pub here : mark_of n v0 i0 ≡ unwrap_or w 0
   here = set_mark v0 i0 ∙ ap (λ b. cond (b && eqb i0 i0) (unwrap_or w 0) (mark_of m v0 i0)) (eq-eqb v0 v0 refl) ∙ ap (λ b. cond b (unwrap_or w 0) (mark_of m v0 i0)) (eq-eqb i0 i0 refl)
 
   elsewhere : (v i : ℕ) → (eqb v v0 && eqb i i0) ≡ false → mark_of n v i ≡ mark_of m v i

@@ -53,8 +53,13 @@ impl Marks {
         if count == 0 {
             return Ok(());
         }
-        let before = self.at(version, inode);
-        self.counts.insert((version, inode), before + count)?;
+        let Some(before) = self.counts.insert((version, inode), count)? else {
+            return Ok(());
+        };
+        let Some(kept) = self.counts.get_mut(&(version, inode)) else {
+            unreachable!()
+        };
+        *kept += before;
         Ok(())
     }
 

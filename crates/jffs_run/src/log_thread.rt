@@ -13,7 +13,7 @@ use std::sync::Wait;
 use std::sync::atomic::{AtomicBool, Ordering};
 use std::thread::Scope;
 
-/// How often serving goes on after memory was refused.
+/// How often serving goes on after allocation failed.
 const RETRIES_MAX: u32 = 100;
 
 /// Serves until an Unmount is answered, again after memory was refused, and then tells the writers

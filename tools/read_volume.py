@@ -147,4 +147,5 @@ def main():
         sys.exit(print("refused", why) or 3)
 
 
-main()
+if __name__ == "__main__":
+    main()

@@ -115,7 +115,7 @@ abbrev pub erased_times : ℕ → Layout → Layout
 erased_times zero log = log
 erased_times (suc k) log = erase_oldest (erased_times k log)
 
--- The oldest sector may be erased: it isn't the tail, and holds no live record.
+-- The oldest sector may be erased: none of its records is live, and it is another one than the tail.
 pub record IsDeadOldest (c : Standing) : Type 0 where
   pub several : 2 ≤ length (layout_in c.image c.book).sectors
   pub dead : AllByRecursion (λ p. lives_in c.tree p ≡ false) (oldest_in c.image c.book)

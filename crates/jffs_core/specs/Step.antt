@@ -56,7 +56,7 @@ room_of n = elim (is_unmount n.kind) [ true ↦ rooms.Unmount | false ↦ rooms.
 abbrev pub had_room : Turn → NewNode → Bool
 had_room t n = has_room (room_of n) (record_len (with n 0 0 0)) t.free t.erased
 
--- the request's node had no room when the request was taken
+-- when the request was taken, its node had no room
 pub record HadNoRoom (t : Turn) (q : Request) (n : NewNode) : Type 0 where
   pub decided : decision t q ≡ Ok n
   pub none : had_room t n ≡ false

@@ -6,10 +6,11 @@ use jffs_tree::Outcome;
 /// What a sender's request was answered.
 #[derive(Clone, Copy, Debug, PartialEq, Eq)]
 pub struct Answer {
-    /// The sender's number.
+    /// The number of the sender, as its request had it.
     pub writer: u16,
-    /// The request's number among those that the sender's line accepted, from 1.
+    /// The request's number, as the request had it; a line numbers each sender's from 1.
     pub seq: u32,
+    /// What became of the request.
     pub outcome: Outcome,
 }
 
@@ -17,6 +18,8 @@ pub struct Answer {
 /// Unmount of a clean log, append none.
 #[derive(Drop)]
 pub struct Answered {
+    /// What became of the request.
     pub outcome: Outcome,
+    /// The node that was appended for the request itself; a copy that made room isn't it.
     pub node: Option<Node>,
 }

@@ -24,7 +24,9 @@ impl<F: Flash> Core<F> {
     ghost use Rattle.jffs_core.specs.Erases.{ErasesAtMost};
     ghost use Rattle.jffs_core.specs.Trees.{TellsNode};
 
-    /// Makes the place for one answer. Memory: nothing is changed.
+    /// Reserves memory for one more answer.
+    ///
+    /// `Memory` if allocation failed: nothing is changed.
     pub fn reserve_answer(&mut self) -> Result<(), Cause>
         ensures same { IsSameButPlaces self.old self.new }
         ensures reserved { OnOk result (length self.new.answers < self.new.places) }
@@ -34,12 +36,15 @@ impl<F: Flash> Core<F> {
         Ok(())
     }
 
-    /// Answers a request and keeps the answer, for which a place is reserved: the caller's condition.
+    /// Answers a request and keeps the answer. Precondition: memory for an answer is reserved.
     ///
-    /// The answer is a lawful step from the history before to the one after. Failed: nothing was
-    /// changed, and no call of the device was made. After Device or Failed the core is failed; after
-    /// Device the image holds that history, or that and the node in hand: a copy that makes room for
-    /// the request, or the node that was decided for it. Nothing is said of it once an erase failed.
+    /// The answer is a lawful step from the history before to the one after. A request that is
+    /// refused for a cause from RootFixed to InodesSpent adds no node; VersionsSpent, Memory and
+    /// NoSpace add at most copies, which change no file. After Device the core is failed, and the
+    /// image holds the history, or it and the node in hand: a copy that was to make room, or the
+    /// node that was decided for the request. Once an erase failed, nothing is known of the image.
+    /// A core that had failed answers Failed: no call of the device is made, and nothing but the
+    /// answers is changed.
     pub fn answer(&mut self, request: Request) -> Outcome
         requires reserved { length self.old.answers < self.old.places }
         ensures kept { self.new.answers ≡ self.old.answers ++ record { writer = request.writer; seq = request.seq; outcome = result } ∷ [] }
@@ -53,9 +58,9 @@ impl<F: Flash> Core<F> {
         self.answer_with_node(request).outcome
     }
 
-    /// Answers a request as `answer` does, and gives the node that was appended for it too: it may be
-    /// applied to the tree that the core had, or to any of the same state, and makes the state of the
-    /// tree that it has then.
+    /// Answers a request as [`answer`](Core::answer) does, and also returns the node that was
+    /// appended for it. That node may be applied to the tree that the core had, or to any of the
+    /// same state, and makes the state of the tree that it has then.
     pub fn answer_with_node(&mut self, request: Request) -> Answered
         requires reserved { length self.old.answers < self.old.places }
         ensures kept { self.new.answers ≡ self.old.answers ++ record { writer = request.writer; seq = request.seq; outcome = result.outcome } ∷ [] }
@@ -111,7 +116,7 @@ impl<F: Flash> Core<F> {
         }
     }
 
-    /// Appends what a request wants, or tells why nothing is appended.
+    /// Appends what a request wants, or returns why nothing is appended.
     fn carry_out(&mut self, request: &Request) -> Result<Answered, Cause>
         requires working { self.old.failed ≡ false }
         ensures acted { (past : List Node) → Knows past self.old → HasActed past self.old self.new request.now result }

@@ -25,7 +25,7 @@ impl<F: Flash> Core<F> {
     }
 
     /// Puts a node at the end of the history: the log's place is made, the tree is changed, and the
-    /// record is programmed. It may follow all nodes before it: the caller's condition.
+    /// record is programmed. Precondition: it may follow all nodes before it.
     ///
     /// NoSpace and Memory: nothing is changed. Device: the tree has the node, and the log has it or
     /// has it not.

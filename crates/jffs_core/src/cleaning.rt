@@ -14,7 +14,7 @@ use jffs_tree::Cause;
 /// What a cleaning did.
 #[derive(Clone, Copy, Debug, PartialEq, Eq)]
 pub enum Cleaned {
-    /// The oldest sector was erased, after so many of its records were copied.
+    /// The oldest sector, with this number, was erased; before that `copies` records were copied.
     Erased { sector: u32, copies: u32 },
     /// The log has at most one sector, and nothing was changed.
     OneSector,
@@ -32,13 +32,13 @@ impl<F: Flash> Core<F> {
     ghost use Rattle.jffs_core.specs.Erases.{ErasesAtMost};
     ghost use Rattle.jffs_core.specs.Trees.{KeepsTree};
 
-    /// Copies each record of the oldest sector that is live at its turn, and erases the sector. A log
-    /// of at most one sector is left as it is.
+    /// Copies each record of the oldest sector that is live at its turn, and erases the sector. A
+    /// log of at most one sector is left as it is.
     ///
-    /// Refusals: VersionsSpent and NoSpace where a copy has no version or no room, Memory, Device,
-    /// and Failed on a core that failed before, where nothing is changed. The copies that were made
-    /// stay. NoSpace: some copy found no room when its turn came, which can be only while fewer than
-    /// two sectors were erased.
+    /// `VersionsSpent` if no version is left for a copy; `NoSpace` if a copy has no room, which can
+    /// be only while fewer than two sectors were erased; `Memory` if allocation failed; `Device` if
+    /// the flash failed, and the core is failed from then on. The copies that were made stay.
+    /// `Failed` on a core that had failed: nothing is changed.
     pub fn clean_oldest(&mut self) -> Result<Cleaned, Cause>
         ensures cleaned { IfOk result (λ done. (mounted past : List Node) → StandsFor mounted past self.old → Cleans mounted past done self.old self.new) }
         ensures stopped { IfErr result (λ cause. (mounted past : List Node) → StandsFor mounted past self.old → Stops mounted past cause self.old self.new) }
@@ -53,9 +53,11 @@ impl<F: Flash> Core<F> {
         self.clean_one()
     }
 
-    /// Erases dead sectors, the oldest first, up to one that a live record stands in or that is the
-    /// tail; returns how many that were. Device, or Failed on a core that failed before.
-    /// Takes no memory.
+    /// Erases dead sectors, the oldest first, up to the tail or to the first sector that has a live
+    /// record. Returns how many were erased. Takes no memory.
+    ///
+    /// `Device` if the flash failed, and the core is failed from then on; `Failed` on a core that
+    /// had failed: nothing is changed.
     pub fn erase_dead(&mut self) -> Result<u32, Cause>
         ensures erased { IfOk result (λ count. (mounted past : List Node) → StandsFor mounted past self.old → ErasesDead mounted past count self.old self.new) }
         ensures stopped { IfErr result (λ cause. (mounted past : List Node) → StandsFor mounted past self.old → StandsFor mounted past self.new × StopIs cause past self.old self.new) }
@@ -100,7 +102,7 @@ impl<F: Flash> Core<F> {
         self.log.oldest_dead(&self.tree)
     }
 
-    /// Makes room for a fresh record of so many bytes: cleans the oldest sector, until there is
+    /// Makes room for a fresh record of `len` bytes: cleans the oldest sector, until there is
     /// room, or each sector that held the log was cleaned.
     pub(crate) fn make_room(&mut self, len: u32) -> Result<(), Cause>
         requires working { self.old.failed ≡ false }
@@ -234,7 +236,7 @@ impl<F: Flash> Core<F> {
         self.log.oldest_nodes(self.alloc)
     }
 
-    /// Erases the oldest sector. It has to be dead, and not the tail: the caller's conditions.
+    /// Erases the oldest sector. Precondition: it is dead, and not the tail.
     fn erase_oldest(&mut self) -> Result<(), Cause>
         requires working { self.old.failed ≡ false }
         requires several { 2 ≤ length (layout_in self.old.image self.old.book).sectors }

@@ -1,4 +1,4 @@
-//! What the log side tells a cleaner: whether it is wanted, and the oldest sector's bytes.
+//! What a cleaner needs of the log side: whether it is wanted, and the oldest sector's bytes.
 
 ghost use Rattle.std.specs.Prelude.{◌≡◌, ◌≤◌, false, IfOk, OnOk, IfErr};
 ghost use Rattle.jffs_log.specs.Volume.{sector_bytes};
@@ -20,9 +20,11 @@ impl<F: Flash> Core<F> {
         self.log.held() >= 2 && self.log.erased() <= self.log.sectors() / 2
     }
 
-    /// The bytes of the oldest sector, read from the device. The log has a sector: the caller's
-    /// condition. Memory: nothing is changed. Device: the core is failed from then on. Failed
-    /// after that.
+    /// The bytes of the oldest sector, read from the device. Precondition: the log has a sector, or
+    /// the core has failed.
+    ///
+    /// `Memory` if allocation failed: nothing is changed. `Device` if the read failed: the core is
+    /// failed from then on. `Failed` on a core that had failed: nothing is changed.
     pub fn oldest_image(&mut self) -> Result<Vec<u8>, Cause>
         requires some { self.old.failed ≡ false → 1 ≤ self.old.book.held }
         ensures same { self.new ≡ record self.old { failed = self.new.failed; faults = self.new.faults } }

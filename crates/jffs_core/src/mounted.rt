@@ -17,7 +17,7 @@ pub struct Core<F: Flash> {
     pub(crate) tree: Tree,
     /// The longest data of a node, and the numbers that come next. None is given twice.
     pub(crate) limits: Limits,
-    /// Whether the log ends with an unmount node, and nothing was programmed behind it.
+    /// Whether the log ends with an unmount node, and nothing was programmed after it.
     pub(crate) clean: bool,
     pub(crate) closed: bool,
     pub(crate) answers: Vec<Answer>,
@@ -50,9 +50,10 @@ impl<F: Flash> Model for Core<F> {
 impl<F: Flash> Core<F> {
     ghost use Rattle.jffs_core.specs.Past.{IsFresh, IsLeftBy};
 
-    /// Mounts a device. A refusal hands it back.
+    /// Mounts a device: scans it, whatever it holds, and never writes to it. The core stands for
+    /// the log that was found, without answers.
     ///
-    /// The core stands for the log that was found, without answers.
+    /// A refusal has the scan's reason, and hands the device back.
     pub fn mount(alloc: Global, flash: F) -> Result<Core<F>, ScanFault<F>>
         ensures mounted { IfOk result (λ c. IsFresh (F.device flash) c) }
     {
@@ -73,14 +74,15 @@ impl<F: Flash> Core<F> {
         })
     }
 
-    /// The longest data of a node, and the numbers that come next.
+    /// The most bytes of data that a node may have, and the version and inode that come next, if
+    /// any is left.
     pub fn limits(&self) -> Limits
         ensures { result ≡ self.now.limits }
     {
         self.limits
     }
 
-    /// Whether the log ends with an unmount node, and nothing was programmed behind it.
+    /// Whether the log ends with an unmount node, and nothing was programmed after it.
     pub fn clean(&self) -> bool
         ensures { result ≡ self.now.clean }
     {
@@ -94,7 +96,7 @@ impl<F: Flash> Core<F> {
         self.closed
     }
 
-    /// Whether the device failed; from then on each answer is Failed.
+    /// Whether the device failed in this session; from then on each request is answered Failed.
     pub fn failed(&self) -> bool
         ensures { result ≡ self.now.failed }
     {
@@ -115,7 +117,7 @@ impl<F: Flash> Core<F> {
         &self.tree
     }
 
-    /// The log.
+    /// The log, to be looked at.
     pub fn log(&self) -> &Log<F>
         ensures image { result.now.device.image ≡ self.now.image }
         ensures book { result.now.book ≡ self.now.book }
@@ -124,7 +126,7 @@ impl<F: Flash> Core<F> {
         &self.log
     }
 
-    /// Gives the device back.
+    /// Gives the device back. The answers are dropped.
     pub fn into_flash(self) -> F
         ensures { IsLeftBy self (F.device result) }
     {

@@ -14,10 +14,11 @@ pub const ERASED_BYTE: u8 = 0xff;
 #[error("a call of the flash device failed")]
 pub struct FlashFault;
 
-/// A flash device: sectors of one size, which stand one after another.
+/// A flash device: sectors of one size, one after another.
 ///
-/// Its image is the list of all its bytes. A place `at` is an index into it, in bytes; a range may cross sectors. The
-/// number of sectors and their size never change. A call fails exactly where [`faults`](Flash::faults) has risen.
+/// Its image is the list of all its bytes; `at` is an index into it, in bytes, and a range may
+/// cross sectors. The number of sectors and their size never change. A call fails exactly where
+/// [`faults`](Flash::faults) has risen, and its one error is `FlashFault`.
 pub trait Flash {
     // The device as its callers see it.
     ghost device: { Self → Device };
@@ -31,31 +32,34 @@ pub trait Flash {
     fn sector_size(&self) -> u32
         ensures { result ≡ (device self.now).sector_size };
 
-    /// A count that rises with each call that fails, and with no other.
+    /// How many calls have failed: it rises with each that does, and with no other.
     fn faults(&self) -> u64
         ensures { result ≡ (device self.now).faults };
 
-    /// Fills the buffer with the bytes from `at` on. The range lies inside the device: the caller's condition.
+    /// Fills the buffer with the bytes from `at` on. Precondition: the range lies inside the
+    /// device.
     ///
-    /// The image is the same afterwards, also after a failure. Then the buffer may hold any bytes.
+    /// The image stays as it is, after a failure too; the buffer may then hold any bytes.
     fn read(&mut self, at: u32, buffer: &mut [u8]) -> Result<(), FlashFault>
         requires { at + length buffer.old ≤ length (device self.old).image }
         ensures device { Reads result (device self.old) (device self.new) }
         ensures filled { OnOk result (buffer.new ≡ window at (length buffer.old) (device self.old).image) };
 
-    /// Programs the bytes from `at` on: each byte `old` of the range becomes `old & new`. The range lies inside the
-    /// device: the caller's condition.
+    /// Programs the bytes from `at` on: each byte `old` of the range becomes `old & new`.
+    /// Precondition: the range lies inside the device.
     ///
-    /// After a failure some bits of the range may not be cleared yet: none that was zero is one, and none that should
-    /// stay one is zero. Outside the range nothing changes, whether the call failed or not.
+    /// After a failure some bits of the range may not be cleared yet: none that was zero is one,
+    /// and none that should stay one is zero. Outside the range nothing changes, whether the call
+    /// failed or not.
     fn program(&mut self, at: u32, bytes: &[u8]) -> Result<(), FlashFault>
         requires { at + length bytes.now ≤ length (device self.old).image }
         ensures { Programs at bytes.now result (device self.old) (device self.new) };
 
-    /// Erases a sector, counted from 0: each of its bytes becomes [`ERASED_BYTE`]. The device has that sector: the
-    /// caller's condition.
+    /// Erases a sector, counted from 0: each of its bytes becomes [`ERASED_BYTE`]. Precondition:
+    /// the device has that sector.
     ///
-    /// After a failure that sector may hold any bytes. The rest of the image is the same either way.
+    /// After a failure that sector may hold any bytes. The rest of the image is the same either
+    /// way.
     fn erase(&mut self, sector: u32) -> Result<(), FlashFault>
         requires { sector < (device self.old).sectors }
         ensures { Erases sector result (device self.old) (device self.new) };

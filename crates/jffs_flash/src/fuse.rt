@@ -29,7 +29,7 @@ pub enum Fail {
     Half,
 }
 
-/// Flash in memory that passes so many fused calls and then fails each.
+/// Flash in memory that lets a number of fused calls pass and then fails each.
 #[derive(Drop)]
 pub struct FuseFlash {
     inner: MemoryFlash,
@@ -49,9 +49,11 @@ impl Model for FuseFlash {
 }
 
 impl FuseFlash {
-    /// A fuse over `inner` that passes `calls` fused calls and then fails each.
+    /// A fuse over `inner`: `calls` calls of the kind `fused` pass, and each one after them fails
+    /// and does what `fail` says.
     ///
-    /// None fails any more once [`faults`](Flash::faults) has its last value.
+    /// None fails any more once [`faults`](Flash::faults) has its last value, 2^64 - 1. Takes no
+    /// memory.
     pub fn new(inner: MemoryFlash, calls: u64, fused: Fused, fail: Fail) -> FuseFlash
         ensures { result ≡ fuse_of inner calls fused fail }
     {

@@ -11,14 +11,14 @@ use std::alloc::Global;
 use std::marker::Model;
 use thiserror::Error;
 
-/// Why no flash in memory was made.
+/// Why no flash in memory was made, in the order in which the reasons are tried.
 #[derive(Clone, Copy, Debug, PartialEq, Eq, Error)]
 pub enum FlashNew {
     /// A volume may not have these sizes.
     #[error("a volume may not have so many sectors of this size")]
     Geometry,
 
-    /// There was no memory for the bytes.
+    /// Allocation failed.
     #[error("out of memory")]
     Memory,
 }
@@ -43,9 +43,10 @@ impl Model for MemoryFlash {
 }
 
 impl MemoryFlash {
-    /// Erased flash of so many sectors of so many bytes each, in sizes that a volume may have.
+    /// Erased flash of `sectors` sectors of `sector_size` bytes each.
     ///
-    /// `Geometry` where a volume may not have these sizes, which is tried first; `Memory` where the bytes find no room.
+    /// `Geometry` where a volume may not have these sizes (see
+    /// [`is_geometry`](crate::is_geometry)); `Memory` if allocation failed.
     pub fn new(alloc: Global, sectors: u32, sector_size: u32) -> Result<MemoryFlash, FlashNew>
         ensures erased { IfOk result (λ flash. flash ≡ erased_device sectors sector_size) }
         ensures allowed { OnOk result (IsTrue (allows_geometry sectors sector_size)) }
@@ -61,7 +62,8 @@ impl MemoryFlash {
         }
     }
 
-    /// Flash that holds these bytes, the sectors one after another. Any sizes will do, and it takes no memory.
+    /// Flash that holds these bytes, the sectors one after another. Any sizes will do, in bytes and
+    /// sectors. Precondition: there are `sectors` times `sector_size` bytes. Takes no memory.
     pub fn from_bytes(sectors: u32, sector_size: u32, bytes: Vec<u8>) -> MemoryFlash
         requires { vec_len bytes ≡ sectors * sector_size }
         ensures { result ≡ device_of sectors sector_size bytes.items }

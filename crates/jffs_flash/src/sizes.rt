@@ -12,14 +12,14 @@ pub const MAX_SECTORS: u32 = 64;
 /// The sector sizes that a volume may have, in bytes.
 pub const SECTOR_SIZES: [u32; 5] = [1024, 2048, 4096, 8192, 16384];
 
-/// Whether a volume may have so many sectors of so many bytes each.
+/// Whether a volume may have `sectors` sectors of `sector_size` bytes each.
 pub fn is_geometry(sectors: u32, sector_size: u32) -> bool
     ensures { IsTrue result ↔ IsTrue (allows_geometry sectors sector_size) }
 {
     MIN_SECTORS <= sectors && sectors <= MAX_SECTORS && is_sector_size(sector_size)
 }
 
-/// Whether a sector may have so many bytes.
+/// Whether a sector may have that many bytes.
 fn is_sector_size(sector_size: u32) -> bool
     ensures { result ≡ allows_sector_size sector_size }
 {

@@ -21,11 +21,11 @@ use std::sync::Wait;
 
 type IndexWriter = Writer<Page, Change, Option<Index>, Published>;
 
-// It is not `Drop`: end it by `close`.
+/// The one writer of an index. It is not `Drop`: it is ended by [`close`](Inner::close).
 pub struct Inner {
     writer: IndexWriter,
     head: Head,
-    // The history, with so many steps. It lacks the last of those that were put.
+    // The history, with the number of its steps. It lacks the last of those that were put.
     seen: Reached,
     logged: u64,
     put: u64,
@@ -58,6 +58,10 @@ impl Inner {
     ghost use Rattle.jffs_index.specs.Writing.{all_put};
     ghost use Rattle.jffs_index.specs.Ends.{told_of, told_index, index_of, known};
 
+    /// Opens an index over a tree, which readers see without answers. Precondition: at least one
+    /// reader, and fewer than 2^32.
+    ///
+    /// `NoMemory` if allocation failed: the tree is gone.
     pub fn open<R: Wait>(
         rt: &R,
         alloc: Global,
@@ -88,7 +92,9 @@ impl Inner {
         }
     }
 
-    // A reader that knows what is published.
+    /// A reader that knows what is published.
+    ///
+    /// `AllocError` if its place could not be had: nothing is changed.
     pub fn reader(&mut self) -> Result<Reader, AllocError>
         ensures same { self.new ≡ self.old }
         ensures reader { IfOk result (λ r. (index_of r ≡ self.old.index) × (known r ≡ self.old.published)) }
@@ -101,7 +107,10 @@ impl Inner {
         })
     }
 
-    // Adds a step at the end of the pending ones. Where there is no memory the step comes back.
+    /// Adds a step at the end of the pending ones. Precondition: its node, if it has one, may be
+    /// applied after all steps put.
+    ///
+    /// If allocation failed the step comes back, and nothing is changed.
     pub fn put(&mut self, step: Step) -> Result<(), Step>
         requires { fits (view_of (all_put self.old)) step ≡ true }
         ensures published { (self.new.published ≡ self.old.published) × (self.new.index ≡ self.old.index) }
@@ -121,6 +130,9 @@ impl Inner {
         }
     }
 
+    /// Publishes all pending steps at once, and gives the writer back.
+    ///
+    /// `NoMemory` if allocation failed: nothing is published, and the steps are still pending.
     pub fn publish_once<R: Wait>(self, rt: &R) -> (Inner, Result<(), NoMemory>)
         ensures index { result.0.index ≡ self.index }
         ensures published { MatchResult result.1 (λ _. (result.0.published ≡ all_put self) × (result.0.pending ≡ [])) (λ _. (result.0.published ≡ self.published) × (result.0.pending ≡ self.pending)) }
@@ -207,14 +219,14 @@ impl Inner {
         }
     }
 
-    // What readers look at now.
+    /// What readers look at now. Takes no memory.
     pub fn view(&self) -> &View
         ensures { result.now ≡ view_of self.now.published }
     {
         &self.writer.published().view
     }
 
-    // What is published now, for a reader to learn.
+    /// What is published now, for a reader to learn. Takes no memory.
     pub fn tell(&self) -> Told
         ensures { (told_of result ≡ self.now.published) × (told_index result ≡ self.now.index) }
     {
@@ -223,7 +235,7 @@ impl Inner {
         }
     }
 
-    // Ends the index, once no reader is inside: a look is `None` from now on.
+    /// Ends the index, once no reader is inside: a look is `None` from now on.
     pub fn close<R: Wait>(self, rt: &R) {
         let Inner {
             writer,

@@ -12,13 +12,13 @@ use std::alloc::Global;
 use std::sync::Wait;
 use thiserror::Error;
 
-/// Why no index was made; the tree is then gone.
+/// Why no index was made, in the order in which the reasons are tried. The tree is then gone.
 #[derive(Clone, Copy, Debug, PartialEq, Eq, Error)]
 pub enum IndexFault {
     /// No reader was asked for, or more than `READERS_MAX`.
     #[error("an index has 1 to 17 readers")]
     Places,
-    /// A growth was refused.
+    /// Allocation failed.
     #[error("no memory for an index")]
     Memory,
     /// A reader's place could not be had.
@@ -29,7 +29,11 @@ pub enum IndexFault {
 /// The most readers of an index: sixteen, and the cleaner.
 pub const READERS_MAX: usize = 17;
 
-/// Opens an index over a tree, with so many readers, who see the tree and no answers.
+/// Opens an index over a tree, with `readers` readers, 1 to [`READERS_MAX`], who see the tree and
+/// no answers.
+///
+/// `Places` for any other number of readers, `Memory` if allocation failed, `NoPlace` if a reader's
+/// place could not be had. After each of them the tree is gone.
 pub fn publish_index<R: Wait + Drop>(
     rt: R,
     alloc: Global,

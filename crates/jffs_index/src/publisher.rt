@@ -13,7 +13,9 @@ use jffs_tree::Tree;
 use std::alloc::{AllocError, Global};
 use std::sync::Wait;
 
-/// It keeps the handle `R`, since its drop waits for the readers that look.
+/// The end of an index that adds steps and publishes them.
+///
+/// It keeps the runtime `R`, since its drop waits for the readers that look.
 pub struct Publisher<R: Wait + Drop> {
     inner: Inner,
     rt: R,
@@ -42,7 +44,7 @@ impl<R: Wait + Drop> Publisher<R> {
         Ok(Publisher { inner, rt })
     }
 
-    // A reader that knows what is published.
+    /// A reader that knows what is published.
     pub(crate) fn reader(&mut self) -> Result<Reader, AllocError>
         ensures same { (published self.new ≡ published self.old) × (pending self.new ≡ pending self.old) × (publisher_index self.new ≡ publisher_index self.old) }
         ensures reader { IfOk result (λ r. (index_of r ≡ publisher_index self.old) × (known r ≡ published self.old)) }
@@ -50,7 +52,10 @@ impl<R: Wait + Drop> Publisher<R> {
         self.inner.reader()
     }
 
-    /// Adds a step at the end of the pending ones. Where there is no memory the step comes back.
+    /// Adds a step at the end of the pending ones. Precondition: its node, if it has one, may be
+    /// applied after all steps put ([`View::fits`] of the view that they make).
+    ///
+    /// If allocation failed the step comes back, and nothing is changed.
     pub fn put(&mut self, step: Step) -> Result<(), Step>
         requires { fits (view_of (all_put self.old)) step ≡ true }
         ensures published { (published self.new ≡ published self.old) × (publisher_index self.new ≡ publisher_index self.old) }
@@ -60,7 +65,10 @@ impl<R: Wait + Drop> Publisher<R> {
         self.inner.put(step)
     }
 
-    /// Publishes all pending steps at once. It waits for readers that still look at what was published before the last call.
+    /// Publishes all pending steps at once. It waits for readers that still look at what was
+    /// published before the last call.
+    ///
+    /// `NoMemory` if allocation failed: readers see what they saw, and the steps are still pending.
     pub fn publish(&mut self) -> Result<(), NoMemory>
         ensures index { publisher_index self.new ≡ publisher_index self.old }
         ensures published { MatchResult result (λ _. (published self.new ≡ all_put self.old) × (pending self.new ≡ [])) (λ _. (published self.new ≡ published self.old) × (pending self.new ≡ pending self.old)) }
@@ -73,14 +81,14 @@ impl<R: Wait + Drop> Publisher<R> {
         )
     }
 
-    /// What readers look at now.
+    /// What readers look at now. Takes no memory.
     pub fn view(&self) -> &View
         ensures { result.now ≡ view_of (published self.now) }
     {
         self.inner.view()
     }
 
-    /// What is published now, for a reader to learn.
+    /// What is published now, for a reader of this index to learn. Takes no memory.
     pub fn tell(&self) -> Told
         ensures { (told_of result ≡ published self.now) × (told_index result ≡ publisher_index self.now) }
     {

@@ -5,6 +5,7 @@ use crate::page::Page;
 use crate::rule::{Opened, Reached};
 use std::marker::Model;
 
+/// A beginning of an index's history that was seen. No more than its length is stored.
 #[derive(Drop)]
 pub struct Sight {
     count: u64,

@@ -47,15 +47,17 @@ impl View {
         }
     }
 
-    /// The inode at a path.
+    /// The inode at a path, if one is there.
     pub fn resolve(&self, path: &Path) -> Option<u32>
         ensures { result ≡ resolve (state_in self.now.tree) path.now }
     {
         self.tree.resolve(path)
     }
 
-    /// The names in a directory, each with its inode, by their bytes, equal names by inode.
-    /// None for what isn't a present directory. `NoMemory` where a growth was refused.
+    /// The names in a directory, each with its inode, sorted by their bytes, equal names by inode;
+    /// empty for what isn't a present directory.
+    ///
+    /// `NoMemory` if allocation failed.
     pub fn names(&self, inode: u32) -> Result<Vec<(Name, u32)>, NoMemory>
         ensures all { IfOk result (λ names. IsPermutation (names_in self.now.tree inode) names.items) }
         ensures ordered { IfOk result (λ names. IsSorted name_cmp names.items) }
@@ -63,7 +65,8 @@ impl View {
         self.tree.names(inode)
     }
 
-    /// Reads bytes from a place on, as many as there are and as the slice takes.
+    /// Fills `out` with the file's bytes from `offset` on, as many as there are and fit. Returns
+    /// how many: 0 for what isn't a present file.
     pub fn read(&self, inode: u32, offset: u32, out: &mut [u8]) -> usize
         ensures count { result ≡ min (length out.old) (length (bytes_in self.now.tree inode) - offset) }
         ensures read { out.new ≡ take result (drop offset (bytes_in self.now.tree inode)) ++ drop result out.old }
@@ -71,29 +74,30 @@ impl View {
         self.tree.read(inode, offset, out)
     }
 
-    /// How many bytes it has; a directory has none.
+    /// How many bytes the inode has, 0 of a directory; `None` if it isn't present.
     pub fn size(&self, inode: u32) -> Option<u32>
         ensures { result ≡ size_of self.now.tree inode }
     {
         self.tree.size(inode)
     }
 
-    /// What the inode is, where it is present.
+    /// What the inode is, if it is present.
     pub fn kind(&self, inode: u32) -> Option<Kind>
         ensures { result ≡ kind_in self.now.tree inode }
     {
         self.tree.kind(inode)
     }
 
-    /// Where it stands, and under which name; the root has neither.
+    /// The directory that holds the inode, and its name there, if it is present; the root has
+    /// neither.
     pub fn parent_name(&self, inode: u32) -> Option<(u32, Name)>
         ensures { result ≡ parent_name_in self.now.tree inode }
     {
         self.tree.parent_name(inode)
     }
 
-    /// Whether the inode is there and this version of it is live. A source that the log side
-    /// copied beside a request may still count, since such a copy is no step.
+    /// Whether the inode is present and this version of it is live. A source that cleaning copied
+    /// beside a request may still count, since such a copy is no step.
     pub fn live(&self, inode: u32, version: u32) -> bool
         ensures { result ≡ holds_version self.now.tree inode version }
     {
@@ -101,7 +105,10 @@ impl View {
     }
 
     /// The copy that would take the place of a live node, with its inode's name and the bytes of
-    /// its range as they are here. `NoMemory` where a growth was refused.
+    /// its range as they are here. Precondition: the node's version is live in its inode
+    /// ([`View::live`]).
+    ///
+    /// `NoMemory` if allocation failed.
     pub fn cleaning_copy(&self, source: &Node) -> Result<NewNode, NoMemory>
         requires live { holds_version self.now.tree source.now.inode source.now.version ≡ true }
         ensures { IfOk result (λ new. new ≡ copy_for (state_in self.now.tree) source.now) }
@@ -109,14 +116,14 @@ impl View {
         self.tree.cleaning_copy(source)
     }
 
-    /// How the latest request of that sender and number was answered.
+    /// How the latest request of that sender with that number was answered, if it was.
     pub fn answer(&self, writer: u16, seq: u32) -> Option<Outcome>
         ensures { result ≡ outcome_at self.now.outcomes writer seq }
     {
         self.outcomes.get(writer, seq)
     }
 
-    /// How many requests were answered.
+    /// How many steps the view shows, each the answer to one request.
     pub fn answered(&self) -> u64
         ensures { result ≡ self.now.answered }
     {
@@ -138,7 +145,7 @@ impl View {
     }
 
     /// Takes in a step. One whose node doesn't fit leaves the tree. Refused memory changes nothing,
-    /// and so does the step behind the last that can be counted.
+    /// and so does the step after the last that can be counted.
     pub(crate) fn take_in(&mut self, step: &Step) -> Result<(), AllocError>
         ensures { MatchResult result (λ _. self.new ≡ after_tested self.old step.now) (λ _. self.new ≡ self.old) }
     {

@@ -10,17 +10,17 @@ use jffs_tree::Wish;
 use std::alloc::Global;
 use std::sync::Wait;
 
-/// The cleaner's number.
+/// The number of the cleaner as a sender.
 pub const CLEANER: u16 = 9;
 
-/// The control's number.
+/// The number of the control as a sender.
 pub const CONTROL: u16 = 10;
 
 pub(crate) const MOST_WRITERS: u16 = 8;
 
 pub(crate) const MOST_CAPACITY: usize = 256;
 
-/// A sender's end of a line.
+/// A sender's end of a line. What kind of wish it hands in, nobody asks.
 pub trait Hand: Drop {
     /// The sender's number.
     ghost sender: { Self → ℕ };
@@ -31,14 +31,21 @@ pub trait Hand: Drop {
     /// The requests that were accepted, in order.
     ghost accepted: { Self → List Request };
 
-    /// Hands in a wish, or gives it back. `Spent` where the sender's last number is used, and else `Full` where no place was found.
+    /// Hands in a wish, and returns its number among its sender's, from 1; or gives it back, and
+    /// nothing is changed.
+    ///
+    /// `Spent` if the sender's last number, 4,294,967,295, is used, which is tried first; `Full` if
+    /// no place was found.
     fn offer<R: Wait>(&mut self, rt: &R, wish: Wish) -> Result<u32, NotTaken>
         ensures end { (sender self.new ≡ sender self.old) × (line self.new ≡ line self.old) }
         ensures accepted { IfOk result (λ seq. (seq ≡ length (accepted self.old) + 1) × (accepted self.new ≡ accepted self.old ++ request (sender self.old) seq wish ∷ [])) }
         ensures refused { IfErr result (λ e. (e.wish ≡ wish) × (accepted self.new ≡ accepted self.old)) }
         ensures spent { IsErrAnd result (λ e. e.why ≡ Spent) ↔ (length (accepted self.old) ≡ u32.MAX) };
 
-    /// Hands in a wish, and waits for a place, asleep where it takes long. Its one refusal is `Spent`, which gives the wish back.
+    /// Hands in a wish, waits for a place, asleep where it takes long, and returns its number among
+    /// its sender's, from 1.
+    ///
+    /// `Spent` alone, as for `offer`: the wish comes back, and nothing is changed.
     fn put<R: Wait>(&mut self, rt: &R, wish: Wish) -> Result<u32, NotTaken>
         ensures end { (sender self.new ≡ sender self.old) × (line self.new ≡ line self.old) }
         ensures accepted { IfOk result (λ seq. (seq ≡ length (accepted self.old) + 1) × (accepted self.new ≡ accepted self.old ++ request (sender self.old) seq wish ∷ [])) }
@@ -49,7 +56,7 @@ pub trait Hand: Drop {
     ghost numbered: { (hand : Self) → IsNumbered (accepted hand) };
 }
 
-/// The end of a line that takes.
+/// The end of a line that takes requests. A line has one.
 pub trait Taker: Drop {
     /// The ends of the hands that belong to it.
     ghost ends: { Self → List End };
@@ -57,14 +64,15 @@ pub trait Taker: Drop {
     /// The requests of a sender that were taken, in order.
     ghost taken: { Self → ℕ → List Request };
 
-    /// Takes a request. `None` where no hand is left.
+    /// Takes a request; waits for one where none is there. `None` where no hand is left: nothing is
+    /// changed.
     fn take<R: Wait>(&mut self, rt: &R) -> Option<Request>
         ensures ends { ends self.new ≡ ends self.old }
         ensures taken { IfSome result (λ r. (w : ℕ) → taken self.new w ≡ taken self.old w ++ of w (r ∷ [])) }
         ensures none { IfNone result ((w : ℕ) → taken self.new w ≡ taken self.old w) };
 }
 
-/// The control's hand, which unmounts.
+/// The control's hand, which asks for the unmount.
 #[derive(Drop)]
 pub struct Control<H: Hand> {
     hand: H,
@@ -76,12 +84,14 @@ impl<H: Hand> Control<H> {
     ghost use Rattle.jffs_line.specs.declared.request.Why.TheVariants.{Spent};
     ghost use Rattle.jffs_tree.specs.declared.wish.Wish.TheVariants.{Unmount};
 
+    /// The control over its hand.
     pub fn new(hand: H) -> Control<H>
         ensures { result.hand ≡ hand }
     {
         Control { hand }
     }
 
+    /// The hand itself.
     pub fn into_hand(self) -> H
         ensures { result ≡ self.hand }
     {
@@ -89,7 +99,10 @@ impl<H: Hand> Control<H> {
         hand
     }
 
-    /// Hands in an unmount, and waits for a place, asleep where it takes long. Its one refusal is `Spent`.
+    /// Hands in an Unmount, waits for a place, asleep where it takes long, and returns its number
+    /// among the control's, from 1.
+    ///
+    /// `Spent` alone: the control's last number is used, and nothing is changed.
     pub fn unmount<R: Wait>(&mut self, rt: &R) -> Result<u32, NotTaken>
         ensures end { (H.sender self.new.hand ≡ H.sender self.old.hand) × (H.line self.new.hand ≡ H.line self.old.hand) }
         ensures accepted { IfOk result (λ seq. (seq ≡ length (H.accepted self.old.hand) + 1) × (H.accepted self.new.hand ≡ H.accepted self.old.hand ++ request (H.sender self.old.hand) seq Unmount ∷ [])) }
@@ -121,23 +134,33 @@ impl<H: Hand> Hand for Control<H> {
 /// All hands of a line.
 #[derive(Drop)]
 pub struct Hands<H: Hand> {
+    /// Those of the writers: the first has number 1.
     pub writers: Vec<H>,
+    /// That of the cleaner, number 9, which is there also where no cleaner is.
     pub cleaner: H,
+    /// That of the control, number 10.
     pub control: Control<H>,
 }
 
 /// All ends of a line.
 #[derive(Drop)]
 pub struct Ends<H: Hand, T: Taker> {
+    /// Where requests come in.
     pub hands: Hands<H>,
+    /// Where they go out.
     pub taker: T,
 }
 
 /// A taker that takes all ends of its line back, in one thread.
 pub trait Settle: Taker {
+    /// The hands of the same form.
     type Of: Hand;
 
-    /// For each sender, what was taken of it and then what waits is what was accepted. Memory is the one refusal, and the ends are then gone.
+    /// Returns what was handed in and never taken. So all that a hand accepted was taken, or is in
+    /// here after that. Precondition: `hands` and the taker belong to one line, and no end of it is
+    /// missing.
+    ///
+    /// `Memory` alone, if allocation failed: the ends are then gone, with what waited.
     fn settle<R: Wait>(
         self,
         rt: &R,

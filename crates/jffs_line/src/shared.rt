@@ -110,7 +110,11 @@ impl SharedHand {
     ghost use Rattle.jffs_line.specs.Shared.{shared_line, shared_accepted, shared_capacity, WasFull};
     ghost use Rattle.jffs_line.specs.declared.request.Why.TheVariants.{Spent, Full};
 
-    /// Hands in a wish, or gives it back. `Full`: all places were taken when it tried.
+    /// Hands in a wish, and returns its number among its sender's, from 1; or gives it back, and
+    /// nothing is changed.
+    ///
+    /// `Spent` if the sender's last number, 4,294,967,295, is used, which is tried first; `Full` if
+    /// all places were taken when it tried.
     pub fn try_hand_in<R: Wait>(&mut self, rt: &R, wish: Wish) -> Result<u32, NotTaken>
         ensures end { (self.new.number ≡ self.old.number) × (shared_line self.new ≡ shared_line self.old) }
         ensures accepted { IfOk result (λ seq. (seq ≡ length (shared_accepted self.old) + 1) × (shared_accepted self.new ≡ shared_accepted self.old ++ request self.old.number seq wish ∷ [])) }
@@ -150,7 +154,9 @@ impl SharedHand {
         }
         unreachable!()
     }
-    /// Hands in a wish, and waits for a place. Its one refusal is `Spent`.
+    /// Hands in a wish, waits for a place, and returns its number among its sender's, from 1.
+    ///
+    /// `Spent` alone, as for `try_hand_in`: the wish comes back, and nothing is changed.
     pub fn hand_in<R: Wait>(&mut self, rt: &R, wish: Wish) -> Result<u32, NotTaken>
         ensures end { (self.new.number ≡ self.old.number) × (shared_line self.new ≡ shared_line self.old) }
         ensures accepted { IfOk result (λ seq. (seq ≡ length (shared_accepted self.old) + 1) × (shared_accepted self.new ≡ shared_accepted self.old ++ request self.old.number seq wish ∷ [])) }
@@ -217,7 +223,7 @@ impl Hand for SharedHand {
 // wakes it another; the looks last long enough for a sender that is at work on its next request.
 const TRIES: u32 = 16;
 
-/// The end of the shared line that takes.
+/// The end of the shared line that takes requests.
 #[derive(Drop)]
 pub struct SharedTaker {
     receives: Receives,

@@ -153,7 +153,7 @@ fn the_control_is_served_last(rt: HostRuntime) -> Result<(), Fail> {
     assert_eq!(rt; hands.control.unmount(&rt).ok(), Some(1));
     let copy = wish(alloc, 5).ok_or("memory")?;
     assert_eq!(rt; hands.cleaner.try_hand_in(copy).ok(), Some(1));
-    // The control's request waited before the cleaner's, and is taken behind it.
+    // The control's request waited before the cleaner's, and is taken after it.
     for sender in [1, 2, 9, 10] {
         assert_eq!(rt;
             taker.take(&rt).map(|r| (r.writer, r.seq)),

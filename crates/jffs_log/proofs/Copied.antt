@@ -165,7 +165,7 @@ same_node (k ∷ past) m n h a b e =
     b)
     a
 
--- a live node is the newest of its inode, or the origin of one of its bytes
+-- of a live node: no later one is of its inode, or a byte of the file comes from it
 live_node : (past : List Node) (n : Node) → is_history past ≡ true → Among n past → is_live past n.version ≡ true
     → (newest past n.inode ≡ Some n) ⊎ ((p : ℕ) × (p < size_in past n.inode) × (origin past n.inode p ≡ Some n))
 live_node past n h a live =

@@ -1,4 +1,4 @@
-//! Reading of what stands at a place of a sector.
+//! Reading of what stands at a position of a sector.
 
 ghost use Rattle.std.specs.Prelude.{◌≡◌, ◌^◌, ◌<◌, ◌≤◌, ◌==◌, ◌||◌, not, nat_lt, length, if◌then◌else◌, IfOk, OnErr};
 ghost use Rattle.jffs_node.specs.Record.{len_of_data};
@@ -14,10 +14,11 @@ use crate::read::{NoMemory, Read, Why};
 use crate::words::{is_all, word_at};
 use std::alloc::Global;
 
-/// What stands at a place, where `rest` is the sector from there to its end and no record may be longer than
-/// `record_max` bytes. The data of a closed record is copied; nothing else takes memory.
+/// What begins at a position of a sector: `rest` is the sector's bytes from there on, and a record
+/// has at most `record_max` bytes. The data of a closed record are copied; nothing else takes
+/// memory.
 ///
-/// `NoMemory` where there is none for the data of a closed record.
+/// `NoMemory` if allocation failed for the data of a closed record.
 #[tactic(none)]
 pub fn decode(alloc: Global, rest: &[u8], record_max: u32) -> Result<Read, NoMemory>
     ensures read { IfOk result (λ read. read ≡ found record_max rest.now) }

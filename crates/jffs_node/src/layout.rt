@@ -1,9 +1,10 @@
-//! Where the fields of a record stand. Places and lengths are in bytes, counted from the record's start.
+//! Where the fields of a record stand. Positions and lengths are in bytes, counted from the record's start.
 
-/// The length of a record's header: every field but the data stands in it.
+/// The length of a record's header, in bytes: every field but the data stands in it.
 pub const HEADER_LEN: usize = 64;
 
-/// The place of the gate: the one byte that is programmed after the record, in a call of its own.
+/// The position of the gate: the one byte that is programmed after the record, in a call of its
+/// own.
 pub const GATE_AT: usize = 7;
 
 /// The gate while its record is being programmed: as an erase left it.
@@ -12,10 +13,10 @@ pub const GATE_OPEN: u8 = ERASED;
 /// The gate of a record that counts.
 pub const GATE_CLOSED: u8 = 0x00;
 
-/// A byte after an erase. Behind the data it fills a record up.
+/// A byte after an erase. After the data it fills a record up.
 pub const ERASED: u8 = 0xFF;
 
-/// The length of a record is a multiple of this.
+/// The length of a record is a multiple of this many bytes.
 pub const RECORD_ALIGN: u32 = 4;
 
 /// The first bytes of each record.

@@ -10,10 +10,10 @@ ghost use Rattle.std.specs.Cmp.Lexicographic.{slice_cmp, nat_list_eq_equiv, nat_
 use std::cmp::Ordering;
 use std::marker::Model;
 
-/// The most bytes of a name: what the header has room for behind its numbers.
+/// The most bytes of a name: what the header has room for after its numbers.
 pub const NAME_MAX: usize = 20;
 
-/// A name: 1 to 20 printable bytes without `/`.
+/// A name: 1 to 20 bytes, each from `21` to `7E` but not `/`. Names are ordered by their bytes.
 #[derive(Clone, Copy)]
 pub struct Name {
     bytes: [u8; NAME_MAX],
@@ -37,7 +37,7 @@ impl Model for Name {
 }
 
 impl Name {
-    /// The name that these bytes spell, if they are one.
+    /// The name that has these bytes; `None` where a name can't have them. Takes no memory.
     pub fn from_bytes(bytes: &[u8]) -> Option<Name>
         ensures { result ≡ (if is_name bytes.now then Some bytes.now else None) }
     {
@@ -52,7 +52,7 @@ impl Name {
         })
     }
 
-    /// The bytes of the name.
+    /// The bytes of the name, 1 to 20.
     pub fn bytes(&self) -> &[u8]
         ensures value { result.now ≡ self.now }
         ensures lawful { IsTrue (is_name self.now) }

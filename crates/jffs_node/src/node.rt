@@ -48,7 +48,7 @@ impl Kind {
     }
 }
 
-/// A node of the log: what one record says of one inode.
+/// A node of the log: one change of one inode, or the end of a session.
 #[derive(Drop)]
 pub struct Node {
     /// What the node is about.
@@ -67,9 +67,9 @@ pub struct Node {
     pub offset: u32,
     /// How many bytes of the file are removed at `offset` before the data is put there.
     pub rsize: u32,
-    /// Who asked for the node.
+    /// The number of the sender that asked for the node; 0 if cleaning made it. Any number is read.
     pub writer: u16,
-    /// Which of its writer's requests this answers.
+    /// Which of its sender's requests this answers; 0 if cleaning made it. Any number is read.
     pub seq: u32,
     /// The file's size after this node, in bytes. A node with a size is written in the second form, one without in the first.
     pub size: Option<u32>,

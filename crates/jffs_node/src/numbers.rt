@@ -8,7 +8,7 @@ use crate::layout::{HEADER_LEN, RECORD_ALIGN};
 use crate::node::{FILE_MAX, FIRST_INODE, Kind, Node, ROOT_INODE};
 use crate::read::Why;
 
-/// How long the record of so many bytes of data is: with the header, and filled up to a multiple of four.
+/// The length of a record with that many bytes of data: with the header, filled up to a multiple of 4.
 pub(crate) fn len_with_data(amount: u32) -> u64
     ensures { result ≡ len_of_data amount }
 {
@@ -72,7 +72,7 @@ fn is_in_file(node: &Node, amount: u32) -> bool
         && (node.rsize <= amount || amount == 0)
 }
 
-/// No place, no data, and nothing removed.
+/// No offset, no data, and nothing removed.
 fn has_no_range(node: &Node, amount: u32) -> bool
     ensures { result ≡ no_range_test node.now amount }
 {
@@ -89,7 +89,7 @@ fn size_numbers_hold(node: &Node, amount: u32) -> bool
     }
 }
 
-/// Whether a range of a file ends within so many bytes.
+/// Whether a range of a file ends within that many bytes.
 fn ends_within(offset: u32, len: u32, end: u32) -> bool
     ensures { result ≡ nat_le (offset + len) end }
 {

@@ -33,14 +33,14 @@ impl Model for Path {
     ghost invariant = { λ a. IsPath a.names.items };
 }
 
-/// Why a text is no path. Where it has several faults, this is the first in this order: no slash at its start, then
-/// the first bad name from the left, then too many names.
+/// Why a text is no path. Of several faults the first in this order is given: no slash at its
+/// start; the leftmost bad name; too many names.
 #[derive(Clone, Copy, Debug, Error, PartialEq, Eq)]
 pub enum PathFault {
     /// The text doesn't begin with a slash.
     #[error("a path begins with a slash")]
     NoSlash,
-    /// Nothing stands between two slashes, or behind the last.
+    /// Nothing stands between two slashes, or after the last.
     #[error("a name is empty")]
     NameEmpty,
     /// A name has more than 20 bytes.
@@ -52,7 +52,7 @@ pub enum PathFault {
     /// There are more than eight names.
     #[error("a path has more than {PATH_DEPTH_MAX} names")]
     Deep,
-    /// Memory for the names was refused.
+    /// Allocation failed.
     #[error("out of memory")]
     Memory,
 }
@@ -71,7 +71,8 @@ impl<T: Drop> From<AllocFailed<T>> for PathFault {
 impl Path {
     /// The path that a text spells: a slash before each name, and a slash alone for the root.
     ///
-    /// `Memory` where memory for the names is refused; each other fault is that of the text.
+    /// `Memory` if allocation failed for the names; it may come in place of a fault further to the
+    /// right. Every other fault is that of the text.
     pub fn parse(alloc: Global, text: &str) -> Result<Path, PathFault>
         ensures { result ≢ Err PathFault.Memory → result ≡ path_of text.now }
     {
@@ -98,7 +99,7 @@ impl Path {
         }
     }
 
-    /// The names from the root on.
+    /// The names from the root on, at most 8. Takes no memory.
     pub fn names(&self) -> &[Name]
         ensures value { result.now ≡ self.now }
         ensures lawful { IsPath self.now }
@@ -131,7 +132,7 @@ fn name_of(bytes: &[u8]) -> Result<Name, PathFault>
     Name::from_bytes(bytes).ok_or(PathFault::NameByte)
 }
 
-/// What stands before the first slash, and what behind it if there is one.
+/// What stands before the first slash, and what after it if there is one.
 fn split_first_name(text: &[u8]) -> (&[u8], Option<&[u8]>)
     ensures pieces { pieces_of (Some text.now) ≡ result.0.now ∷ pieces_of (option_copied result.1) }
     ensures shorter { left_len (option_copied result.1) < left_len (Some text.now) }

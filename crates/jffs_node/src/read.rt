@@ -1,10 +1,10 @@
-//! What is found at a place of a sector.
+//! What is found at a position of a sector.
 
 use crate::node::Node;
 use std::alloc::{AllocError, AllocFailed};
 use thiserror::Error;
 
-/// The rule that a closed record breaks first.
+/// The rule that a closed record breaks first, in the order in which the rules are checked.
 #[derive(Clone, Copy, Debug, PartialEq, Eq)]
 pub enum Why {
     /// The first bytes are not the magic.
@@ -13,7 +13,7 @@ pub enum Why {
     Kind,
     /// An unknown flag, two flags, or a flag of an unmount record.
     Flags,
-    /// No name where one belongs or the other way round, a byte that no name has, or bytes behind the name.
+    /// No name where one belongs or the other way round, a byte that no name has, or bytes after the name.
     Name,
     /// An unknown form, or the second form for anything but a file that is there.
     Form,
@@ -21,11 +21,11 @@ pub enum Why {
     Spare,
     /// Numbers that don't suit each other or the sector.
     Size,
-    /// Bytes behind the data that are not as an erase left them.
+    /// Bytes after the data that are not as an erase left them.
     Pad,
 }
 
-/// What is found at a place of a sector.
+/// What is found at a position of a sector.
 #[derive(Drop)]
 pub enum Read {
     /// A closed record, and its length in bytes.
@@ -38,7 +38,7 @@ pub enum Read {
     Bad(Why),
 }
 
-/// Memory was asked for and refused. What was asked for has not been done.
+/// Allocation failed. What was asked for has not been done.
 #[derive(Clone, Copy, Debug, Error, PartialEq, Eq)]
 #[error("out of memory")]
 pub struct NoMemory;

@@ -9,7 +9,8 @@ use crate::name::NAME_MAX;
 use crate::node::{Kind, Node};
 use crate::numbers::len_with_data;
 
-/// How many bytes the record of a node has: a header, and the data filled up to a multiple of four.
+/// How many bytes the record of a node has: the header, and the data filled up to a multiple of 4.
+/// Precondition: that number is less than 2^32.
 pub fn record_len(node: &Node) -> u32
     requires { length_of node.now < 2 ^ 32 }
     ensures { result ≡ length_of node.now }
@@ -18,7 +19,9 @@ pub fn record_len(node: &Node) -> u32
     len_with_data(amount) as u32
 }
 
-/// Writes the closed record of a node, which fills the slice. To program it with an open gate, change the byte at `GATE_AT`.
+/// Writes the closed record of a node into `out`. Preconditions: the node is lawful, and `out` has
+/// as many bytes as its record. To program the record with an open gate, change the byte at
+/// [`GATE_AT`](crate::GATE_AT).
 pub fn encode_into(node: &Node, out: &mut [u8])
     requires lawful { IsTrue (is_lawful node.now) }
     requires long { length out.old ≡ length_of node.now }
@@ -84,7 +87,7 @@ fn bytes_of_name(node: &Node) -> &[u8]
     }
 }
 
-/// Writes bytes at a place, and gives the place after them.
+/// Writes bytes at a position, and returns the position after them.
 fn put(out: &mut [u8], at: usize, bytes: &[u8]) -> usize
     requires { at + length bytes.now ≤ length out.old }
     ensures at { result ≡ at + length bytes.now }
@@ -96,7 +99,7 @@ fn put(out: &mut [u8], at: usize, bytes: &[u8]) -> usize
     end
 }
 
-/// Writes one byte so many times at a place, and gives the place after them.
+/// Writes one byte a number of times at a position, and returns the position after them.
 fn fill(out: &mut [u8], at: usize, count: usize, byte: u8) -> usize
     requires { at + count ≤ length out.old }
     ensures at { result ≡ at + count }

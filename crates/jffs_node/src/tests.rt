@@ -21,7 +21,7 @@ const UNMOUNT: [u8; 64] = [
     0, 0, 0, 0, 0, 0, 0, 0, 0,
 ];
 
-/// A sector that begins with these bytes, one of them changed, and is erased behind them.
+/// A sector that begins with these bytes, one of them changed, and is erased after them.
 fn sector_with(alloc: Global, front: &[u8], at: usize, byte: u8) -> Result<Vec<u8>, AllocError> {
     let mut sector = Vec::with_capacity(alloc, SECTOR)?;
     sector.extend_from_slice(front)?;

@@ -1,4 +1,4 @@
-//! Reading the fields of a record, whose bytes stand at fixed places.
+//! Reading the fields of a record, whose bytes stand at fixed positions.
 
 ghost use Rattle.std.specs.Prelude.{◌≡◌, ◌==◌, ◌+◌, ◌≤◌, length};
 ghost use Rattle.std.specs.Int.{w16, w32};
@@ -16,7 +16,7 @@ pub(crate) fn is_all(bytes: &[u8], byte: u8) -> bool
     *first == byte && rest == &bytes[..rest.len()]
 }
 
-/// The number of 32 bits that stands at a place.
+/// The number of 32 bits that stands at a position.
 pub(crate) fn word_at(rest: &[u8], at: usize) -> u32
     requires { at + 4 ≤ length rest.now }
     ensures { result ≡ number_at w32 at rest.now }
@@ -24,7 +24,7 @@ pub(crate) fn word_at(rest: &[u8], at: usize) -> u32
     u32::from_be_bytes([rest[at], rest[at + 1], rest[at + 2], rest[at + 3]])
 }
 
-/// The number of 16 bits that stands at a place.
+/// The number of 16 bits that stands at a position.
 pub(crate) fn half_at(rest: &[u8], at: usize) -> u16
     requires { at + 2 ≤ length rest.now }
     ensures { result ≡ number_at w16 at rest.now }

@@ -38,7 +38,7 @@ abbrev pub RunsLeaveContents : Type 0
 RunsLeaveContents = (before : Device) (start : Standing) (account : Account) (fresh : IsFresh before start) (run : IsRun start account)
     → run.core.failed ≡ false → LeavesContents start (past_of fresh.scanned.log) (requests_in run.replies) account
 
--- Over a device that failed, but not in an erase, it leaves the state before or after the request in hand.
+-- Over a device that failed, but not in an erase, it leaves the state before the request that was in hand, or that after it.
 abbrev pub FailedRunsLeaveHistory : Type 0
 FailedRunsLeaveHistory = (before : Device) (start : Standing) (account : Account) (fresh : IsFresh before start) (run : IsRun start account)
     → run.core.failed ≡ true → account.device.erase_failed ≡ false → LeavesHistory start (past_of fresh.scanned.log) run.replies account

@@ -1,16 +1,16 @@
-//! Why a run had no end.
+//! Why a run was given up.
 
 use jffs_node::NoMemory;
 use std::alloc::AllocError;
 use thiserror::Error;
 
-/// Why a run had no end.
+/// Why a run was given up.
 #[derive(Clone, Copy, Debug, PartialEq, Eq, Error)]
 pub enum RunWhy {
     /// The device doesn't mount.
     #[error("Mount")]
     Mount,
-    /// The line could not be made, or a sender's numbers are spent.
+    /// The line could not be made, or a sender's last number is used.
     #[error("Line")]
     Line,
     /// The published index could not be made.
@@ -22,7 +22,7 @@ pub enum RunWhy {
     /// The ends of the line could not be taken back.
     #[error("Settle")]
     Settle,
-    /// A growth was refused.
+    /// Allocation failed.
     #[error("Memory")]
     Memory,
 }
@@ -39,10 +39,13 @@ impl From<AllocError> for RunWhy {
     }
 }
 
-/// A refused run, with the device where the log thread gave it back or was never started.
+/// A run that was given up, with the device, where the log thread gave it back or was never
+/// started.
 #[derive(Drop)]
 pub struct RunFault<F> {
+    /// The first reason that was met.
     pub why: RunWhy,
+    /// The device; none only where a thread could not be started.
     pub flash: Option<F>,
 }
 

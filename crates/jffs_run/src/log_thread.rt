@@ -12,7 +12,7 @@ use std::snapshot::Snapshot;
 use std::sync::Wait;
 use std::thread::Scope;
 
-/// How often serving goes on after memory was refused.
+/// How often serving goes on after allocation failed.
 const RETRIES_MAX: u32 = 100;
 
 /// Serves until an Unmount is answered, again after memory was refused, and then tells all others

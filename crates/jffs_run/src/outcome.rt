@@ -10,7 +10,9 @@ use std::snapshot::Snapshot;
 /// alone can see it.
 #[derive(Drop)]
 pub enum AcceptedBy {
+    /// By the hands of a shared line.
     Shared(Snapshot<Hands<SharedHand>>),
+    /// By the hands of the rings.
     Rings(Snapshot<Hands<RingHand>>),
 }
 
@@ -25,7 +27,9 @@ pub struct Run<F, A = AcceptedBy> {
     pub waiting: Vec<Request>,
     /// What became of each reader, in the script's order.
     pub readers: Vec<ReaderEnd>,
+    /// How serving ended, in its last call.
     pub served: Served,
+    /// The device, as the log thread left it.
     pub flash: F,
 }
 

@@ -8,8 +8,9 @@ use jffs_tree::Outcome;
 use std::io;
 use std::io::Write;
 
-/// `W.N appended` or `W.N refused CAUSE` for each answered request of a writer, by writer and
-/// then by number. The cleaner and the control, which have higher numbers, have no lines.
+/// The line of each answered request of a writer, `appended` or `refused CAUSE` after `W.N`, by
+/// writer and then by number. The cleaner and the control, which have higher numbers, have no
+/// lines.
 pub(crate) fn print_answers<W: Write>(answers: &[Answer], out: &mut W) -> io::Result<()> {
     for writer in 1..=WRITERS_MAX {
         for answer in answers
@@ -22,7 +23,8 @@ pub(crate) fn print_answers<W: Write>(answers: &[Answer], out: &mut W) -> io::Re
     Ok(())
 }
 
-/// `reader R HEX`, `reader R none` or `reader R not seen` for each reader, counted from 1.
+/// The line of each reader, counted from 1: after `reader R` the bytes in hex, `none` where its
+/// path was no file, or `not seen`.
 pub(crate) fn print_readers<W: Write>(readers: &[ReaderEnd], out: &mut W) -> io::Result<()> {
     for (index, end) in readers.iter().enumerate() {
         write!(out, "reader {} ", index + 1)?;

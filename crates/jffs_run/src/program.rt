@@ -32,9 +32,11 @@ impl From<io::Error> for Fault {
     }
 }
 
-/// Runs the script that a reader gives in threads, on erased memory flash, and writes what became
-/// of it. Gives the exit status: 0, 1 after a line `fault: WHY`, 2 after a line that refuses the
-/// script. A line that tells of a fault and can't be written is dropped.
+/// Runs the script that `input` gives in threads, on erased flash in memory, and writes what became
+/// of it to `out`, after the run and a fresh scan.
+///
+/// Returns the exit status: 0, 1 after a line `fault: WHY`, 2 after a line that refuses the script.
+/// Such a line is dropped where it can't be written.
 pub fn run_program<Rt: AllocGlobal + Threads + Wait + Sync, R: Read, W: Write>(
     rt: &Rt,
     input: &mut R,

@@ -150,8 +150,8 @@ fn run_in<
     })
 }
 
-/// Has the control ask for the Unmount, until that is accepted or the log thread has ended, unless
-/// a writer found that it had.
+/// Has the control ask for the Unmount, until the line takes that in or the log thread is gone,
+/// unless a writer found it gone.
 fn ask_unmount<R: Wait, H: Hand>(
     rt: &R,
     control: Control<H>,

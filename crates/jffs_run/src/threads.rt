@@ -46,7 +46,7 @@ struct Opened<W: Wait + Drop> {
     job_end: JobEnd,
 }
 
-/// Opens the index over a copy of the core's tree, for so many readers and the cleaner, and makes
+/// Opens the index over a copy of the core's tree, for `readers` readers and the cleaner, and makes
 /// the job ring.
 fn open<W: Wait + Drop, F: Flash>(
     rt: W,
@@ -159,9 +159,10 @@ fn settle_all<R: Wait, F: Flash + Drop, T: Settle, W: Wait + Drop>(
 }
 
 /// Runs a script in threads: one for the log, one for each writer and each reader, and one for the
-/// cleaner where the script asks for it. `gate` is told of each wish in its writer's thread. The
-/// device may hold a volume already. A fault hands it back, unless the log thread could not be
-/// started.
+/// cleaner where the script asks for it; and joins them all. `gate` is called for each wish in its
+/// writer's thread. The device may hold a volume already: the script's own sizes are not looked at.
+///
+/// A fault has its reason, and hands the device back unless a thread could not be started.
 pub fn run_threads<R: Threads + Wait + Sync, F: Flash + Send + Drop, G: Gate + Sync>(
     rt: &R,
     alloc: Global,

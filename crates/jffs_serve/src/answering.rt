@@ -78,7 +78,7 @@ impl<F: Flash> Session<F> {
         if self.core.failed() || self.core.closed() {
             return;
         }
-        // A fault makes the core failed, which each later answer tells.
+        // A fault makes the core failed, and each later answer says so.
         let _ = self.core.erase_dead();
     }
 

@@ -9,7 +9,7 @@ use jffs_node::{Bytes, HEADER_LEN, Name, NoMemory, Node, Read, decode};
 use jffs_tree::Wish;
 use std::alloc::Global;
 
-/// A sector takes at least so many records: none is longer than this part of it.
+/// The longest record is the fourth part of a sector.
 const RECORDS_PER_SECTOR: usize = 4;
 
 /// A copy to be asked for: that of the node of version `source`.
@@ -46,7 +46,7 @@ impl Copying {
 }
 
 /// The copies of the records of an image that live in the view, in order. Where memory is refused
-/// for one, it is left out; for the record itself, what is behind it is left out too.
+/// for one, it is left out; for the record itself, what is after it is left out too.
 pub(crate) fn copies_in(alloc: Global, view: &View, image: &[u8]) -> Vec<Copying> {
     let mut copies = Vec::new(alloc);
     let record_max = u32::try_from(image.len() / RECORDS_PER_SECTOR).unwrap_or(u32::MAX);

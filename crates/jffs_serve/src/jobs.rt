@@ -9,20 +9,21 @@ use std::alloc::Global;
 /// The most images that a ring of jobs holds.
 pub const JOBS_MAX: usize = 64;
 
-/// The log side's end of the ring.
+/// The log thread's end of the ring of jobs.
 #[derive(Drop)]
 pub struct Jobs {
     pub(crate) producer: Producer<Vec<u8>>,
 }
 
-/// The cleaner's end of the ring.
+/// The cleaner's end of the ring of jobs.
 #[derive(Drop)]
 pub struct JobEnd {
     pub(crate) consumer: Consumer<Vec<u8>>,
 }
 
-/// A ring for so many images, 1 to `JOBS_MAX`; any other number is Capacity. Memory where a growth
-/// was refused.
+/// A ring for `capacity` images, 1 to [`JOBS_MAX`], with nothing in it.
+///
+/// `Capacity` for any other number, `Memory` if allocation failed.
 pub fn job_ring(alloc: Global, capacity: usize) -> Result<(Jobs, JobEnd), LineFault>
     ensures capacity { IsErrOf result LineFault.Capacity ↔ ((capacity ≡ 0) ⊎ (64 < capacity)) }
 {
@@ -39,7 +40,8 @@ impl Jobs {
     ghost use Rattle.std.specs.Prelude.{◌≡◌, ◌++◌, ◌∷◌, [], OnOk, IfErr};
     ghost use Rattle.rtrb.specs.Ring.{sent};
 
-    /// Puts an image into the ring; a full ring hands it back. Takes no memory.
+    /// Adds an image at the end of the ring. A full ring hands it back, and nothing is changed.
+    /// Takes no memory.
     pub fn send(&mut self, image: Vec<u8>) -> Result<(), Vec<u8>>
         ensures added { OnOk result (sent self.new.producer ≡ sent self.old.producer ++ image ∷ []) }
         ensures full { IfErr result (λ back. (back ≡ image) × (sent self.new.producer ≡ sent self.old.producer)) }

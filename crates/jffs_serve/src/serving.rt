@@ -18,14 +18,15 @@ use jffs_line::Taker;
 use jffs_node::NoMemory;
 use std::sync::Wait;
 
-/// Takes requests and answers them, until an Unmount was answered, no hand is left, or memory is
-/// refused. After Memory a further call goes on: first it sends the step that is kept.
+/// Takes requests and answers them, until an Unmount was answered, no hand is left, or allocation
+/// fails; waits for requests and for readers on the way. After Memory a further call goes on: first
+/// it sends the step that is kept.
 ///
-/// The answers are lawful for the requests, from whatever history the core stood for to the one that
-/// it stands for then, over any number of calls.
+/// The answers are lawful for the requests, from whatever history the core stood for to the one
+/// that it stands for then, over any number of calls.
 ///
-/// What is published has the state of the core's tree, as an index has that was opened over a copy of it:
-/// the caller's condition. So each node that the core appends may be applied there.
+/// Precondition: what is published has the state of the core's tree, as an index has that was
+/// opened over a copy of it. So each node that the core appends may be applied there.
 pub fn serve<R: Wait, W: Wait + Drop, F: Flash, T: Taker>(
     rt: &R,
     session: &mut Session<F>,
@@ -90,7 +91,7 @@ fn answer_next<R: Wait, F: Flash, T: Taker>(
 }
 
 /// Puts and publishes the step that is kept, if one is. Answers how serving ends then, if it does.
-/// Where memory is refused, what is still to be done is kept.
+/// If allocation fails, what is still to be done is kept.
 fn send_kept<F: Flash, W: Wait + Drop>(
     session: &mut Session<F>,
     publisher: &mut Publisher<W>,

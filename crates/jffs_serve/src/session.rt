@@ -12,11 +12,11 @@ use jffs_tree::Cause;
 pub enum Served {
     /// An Unmount was answered Closed, now or earlier.
     Closed,
-    /// An Unmount was refused.
+    /// An Unmount was refused for this cause.
     NotClosed(Cause),
     /// No hand is left, and nothing waits.
     Ended,
-    /// A growth was refused. Nothing is lost, and serving again goes on.
+    /// Allocation failed. Nothing is lost, and serving again goes on.
     Memory,
 }
 
@@ -40,7 +40,7 @@ pub struct Session<F: Flash> {
 }
 
 impl<F: Flash> Session<F> {
-    /// A session over a core, with nothing to send.
+    /// A session over a core, with no step to send.
     pub fn new(core: Core<F>) -> Session<F>
         ensures core { result.core ≡ core }
         ensures kept { result.kept ≡ None }
@@ -52,14 +52,14 @@ impl<F: Flash> Session<F> {
         }
     }
 
-    /// The core.
+    /// The core that is served, to be looked at.
     pub fn core(&self) -> &Core<F>
         ensures { result.now ≡ self.now.core }
     {
         &self.core
     }
 
-    /// Gives the core back. A step that wasn't sent is lost.
+    /// Gives the core back. A step that wasn't published is lost.
     pub fn into_core(self) -> Core<F>
         ensures { result ≡ self.core }
     {

@@ -5,7 +5,7 @@ ghost use Rattle.jffs_text.specs.Causes.{cause_text};
 
 use jffs_tree::Cause;
 
-/// The name of a cause.
+/// The name of a cause, as it is printed.
 pub fn cause_name(cause: Cause) -> &'static str
     ensures { result.now ≡ cause_text cause }
 {

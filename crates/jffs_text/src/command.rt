@@ -42,8 +42,11 @@ pub enum Command {
 }
 
 impl Command {
-    /// Reads the words of one command, all that are left: `Command` where they begin with no
-    /// command's word, or are too few or too many, then the first word that is none of its kind.
+    /// Reads one command from all the words that are left.
+    ///
+    /// `Command` where they begin with no command's word, or are too few or too many; then the
+    /// error of the first word, from the left, that isn't what should stand there: `Path`,
+    /// `Number`, `Hex`, or `Memory` if allocation failed.
     pub fn of_words(alloc: Global, mut words: Words<'_>) -> Result<Command, ScriptWhy> {
         match Keyword::take(&mut words) {
             Some(Keyword::Edit(edit)) => Command::parse(alloc, edit, words),
@@ -51,7 +54,7 @@ impl Command {
         }
     }
 
-    /// Reads the words behind the command's first one, from left to right.
+    /// Reads the words after the command's first one, from left to right.
     pub(crate) fn parse(
         alloc: Global,
         edit: Edit,
@@ -93,8 +96,10 @@ impl Command {
         })
     }
 
-    /// The wish of a command. The command stays: the wish has a path of its own, and shares the bytes.
-    /// `NoMemory` where a growth was refused.
+    /// The wish of a command. The command stays: the wish has a path of its own, and shares the
+    /// bytes.
+    ///
+    /// `NoMemory` if allocation failed.
     pub fn wish(&self, alloc: Global) -> Result<Wish, NoMemory>
         ensures { IfOk result (λ wish. wish ≡ wish_of self.now) }
     {

@@ -21,7 +21,7 @@ pub enum DumpFault {
     /// The writer failed.
     #[error("Write")]
     Write,
-    /// A growth was refused, perhaps the writer's own.
+    /// Allocation failed, perhaps the writer's own.
     #[error("Memory")]
     Memory,
 }
@@ -52,7 +52,10 @@ const CHUNK_LEN: usize = 256;
 
 /// Writes a line for each directory, `d PATH`, and for each file, `f PATH SIZE HEX`, where an empty
 /// file has `-` for its bytes. Names are sorted by their bytes, and follow the directory that holds
-/// them. After an error a beginning of that text is written.
+/// them.
+///
+/// `Write` if the writer failed, `Memory` if allocation failed. After an error a beginning of that
+/// text is written.
 pub fn dump<W: Write>(alloc: Global, tree: &Tree, out: &mut W) -> Result<(), DumpFault>
     ensures whole { OnOk result (Appends (W.contents out.old) (W.contents out.new) (dump_text (state_in tree.now))) }
     ensures begun { IsBegun (W.contents out.old) (W.contents out.new) (dump_text (state_in tree.now)) }
@@ -62,7 +65,7 @@ pub fn dump<W: Write>(alloc: Global, tree: &Tree, out: &mut W) -> Result<(), Dum
     dump_names(tree, ROOT_INODE, PATH_DEPTH_MAX, &mut path, out)
 }
 
-/// What stands below a directory, so many levels down; `path` is the directory's own, without
+/// What stands below a directory, at most `levels` down; `path` is the directory's own, without
 /// a slash at its end.
 fn dump_names<W: Write>(
     tree: &Tree,
@@ -151,7 +154,8 @@ fn dump_bytes<W: Write>(tree: &Tree, inode: u32, size: u32, out: &mut W) -> io::
     Ok(())
 }
 
-/// Bytes in lower case hex. After an error a beginning of that is written.
+/// Writes bytes in lower case hex. The error is the writer's; after it a beginning of that is
+/// written.
 pub fn write_hex<W: Write>(bytes: &[u8], out: &mut W) -> io::Result<()>
     ensures whole { OnOk result (Appends (W.contents out.old) (W.contents out.new) (hex bytes.now)) }
     ensures begun { IsBegun (W.contents out.old) (W.contents out.new) (hex bytes.now) }

@@ -4,8 +4,8 @@ use jffs_node::NoMemory;
 use std::alloc::{AllocError, AllocFailed};
 use thiserror::Error;
 
-/// Why a script is refused. In a line the reasons are tried in this order, but for `Empty`,
-/// which is known only at the end, and `Memory`, which comes wherever a growth is refused.
+/// Why a script is refused. On one line the reasons are tried as they stand here, with two
+/// exceptions: `Empty` is known only at the end, and `Memory` comes wherever allocation fails.
 #[derive(Clone, Copy, Debug, PartialEq, Eq, Error)]
 pub enum ScriptWhy {
     /// Each line is empty or a comment.
@@ -21,7 +21,7 @@ pub enum ScriptWhy {
     /// of `line`; or `volume` once more.
     #[error("Command")]
     Command,
-    /// A header statement after a `writer`, or a second `line` or `cleaner`.
+    /// A second `line` or `cleaner`, or any of `line`, `cleaner` and `reader` below a `writer`.
     #[error("Header")]
     Header,
     /// A command before the first `writer`.
@@ -39,7 +39,7 @@ pub enum ScriptWhy {
     /// A word that isn't a path.
     #[error("Path")]
     Path,
-    /// A growth was refused.
+    /// Allocation failed.
     #[error("Memory")]
     Memory,
 }

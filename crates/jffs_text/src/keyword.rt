@@ -1,4 +1,4 @@
-//! The first word of a line, and how many words stand behind it.
+//! The first word of a line, and how many words stand after it.
 
 use crate::word::Words;
 

@@ -20,13 +20,13 @@ pub const READERS_MAX: usize = 16;
 pub const WRITERS_MAX: usize = 8;
 /// The most commands of one writer.
 pub const COMMANDS_MAX: usize = 4096;
-/// The most requests that a line may be asked to hold.
+/// The most requests that a line, or each of its rings, may be asked to hold.
 pub const CAPACITY_MAX: u32 = 256;
 /// The most rounds of a cleaner.
 pub const ROUNDS_MAX: u32 = 1_000_000;
 
-/// The line that a script asks for: its form, and how many requests it holds, 1 to 256, in
-/// the whole shared line or in each ring.
+/// The line that a script asks for: its form and its capacity, 1 to 256 requests. One queue of that
+/// capacity serves all senders, or each sender has a ring of it.
 #[derive(Clone, Copy, Debug, PartialEq, Eq)]
 pub struct LineChoice {
     pub form: LineForm,
@@ -42,35 +42,41 @@ const USUAL_LINE: LineChoice = LineChoice {
 /// A reader: it looks until request `seq` of `writer` is answered, and then reads `path`.
 #[derive(Drop)]
 pub struct ReaderStatement {
-    /// 1 to 8.
+    /// The number of a writer, 1 to 8, who need not be there.
     pub writer: u32,
-    /// At least 1.
+    /// The number of one of that writer's requests, from 1.
     pub seq: u32,
+    /// What is read then.
     pub path: Path,
 }
 
-/// The commands of one writer, in order.
+/// What one writer asks for.
 #[derive(Drop)]
 pub struct Writer {
+    /// At most 4,096 commands, in order.
     pub commands: Vec<Command>,
 }
 
 /// A script that was read: the volume, the line, who takes part, and what each writer asks for.
 #[derive(Drop)]
 pub struct Script {
+    /// How many sectors the volume has, 6 to 64.
     pub sectors: u32,
-    /// In bytes.
+    /// How long each is: 1024, 2048, 4096, 8192 or 16384 bytes.
     pub sector_size: u32,
+    /// How requests go to the log thread.
     pub line: LineChoice,
     /// The rounds of the cleaner, 1 to 1,000,000, where there is one.
     pub cleaner: Option<u32>,
+    /// At most 16 readers, in the order of their lines.
     pub readers: Vec<ReaderStatement>,
+    /// At most 8 writers; the first has number 1.
     pub writers: Vec<Writer>,
 }
 
 impl Script {
-    /// Reads a script. An error names the first line that is refused, and the first reason
-    /// that holds there.
+    /// Reads a script. An error has the first line that is refused, from 1, and the first reason
+    /// that holds there; `Memory` comes wherever allocation failed.
     pub fn parse(alloc: Global, text: &[u8]) -> Result<Script, ScriptFault> {
         let mut draft = Draft::new(alloc);
         for (index, line) in text.split(|byte| *byte == b'\n').enumerate() {
@@ -210,7 +216,7 @@ fn volume_sizes(keyword: Option<Keyword>, mut words: Words<'_>) -> Result<(u32, 
     }
 }
 
-/// A line as text: printable ASCII, and not too long. Else `Text`.
+/// A line as text. `Text` if it has a byte outside `20` to `7E`, or more than [`LINE_MAX`] bytes.
 pub fn line_text(line: &[u8]) -> Result<&str, ScriptWhy> {
     if line.len() > LINE_MAX || !is_printable(line) {
         return Err(ScriptWhy::Text);

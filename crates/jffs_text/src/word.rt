@@ -17,7 +17,7 @@ pub struct Words<'a> {
 }
 
 impl<'a> Words<'a> {
-    /// The words of a line.
+    /// The words of a line, all of them still to come.
     pub fn of(line: &'a str) -> Words<'a> {
         Words {
             count: spaces_in(line.as_bytes()) + 1,
@@ -30,7 +30,7 @@ impl<'a> Words<'a> {
         self.count
     }
 
-    /// The next word; an empty one where none is left.
+    /// Takes the next word; it is empty where none is left.
     pub fn take(&mut self) -> &'a str {
         if self.count == 0 {
             return "";
@@ -52,7 +52,7 @@ impl<'a> Words<'a> {
         }
     }
 
-    /// The next word, a number between these two.
+    /// Takes the next word, a number from `least` to `most`. `Number` if it isn't one.
     pub fn take_number(&mut self, least: u32, most: u32) -> Result<u32, ScriptWhy>
         ensures least { IfOk result (λ n. least ≤ n) }
         ensures most { IfOk result (λ n. n ≤ most) }
@@ -63,7 +63,7 @@ impl<'a> Words<'a> {
         }
     }
 
-    /// The next word, a path.
+    /// Takes the next word, a path. `Path` if it isn't one, `Memory` if allocation failed.
     pub fn take_path(&mut self, alloc: Global) -> Result<Path, ScriptWhy> {
         match Path::parse(alloc, self.take()) {
             Ok(path) => Ok(path),
@@ -72,7 +72,8 @@ impl<'a> Words<'a> {
         }
     }
 
-    /// The next word, bytes in hex; `-` stands for none.
+    /// Takes the next word, bytes in lower case hex; `-` stands for none. `Hex` if it isn't that,
+    /// `Memory` if allocation failed.
     pub fn take_bytes(&mut self, alloc: Global) -> Result<Vec<u8>, ScriptWhy> {
         let word = self.take();
         if word == "-" {
@@ -81,7 +82,7 @@ impl<'a> Words<'a> {
         bytes_of_hex(alloc, word)
     }
 
-    /// The next word, one byte in hex.
+    /// Takes the next word, one byte as two digits of hex. `Hex` if it isn't that.
     pub fn take_byte(&mut self) -> Result<u8, ScriptWhy> {
         let digits = self.take().as_bytes();
         let mut byte = [0u8; 1];

@@ -1,4 +1,4 @@
-//! What is told of an operation.
+//! What is printed of an operation.
 
 use jffs_tree::{Cause, Limits};
 
@@ -13,17 +13,17 @@ pub enum Did {
     ClosedAt(u64),
     /// The core is closed, and no node was written.
     Closed,
-    /// The oldest sector was erased, after so many of its records were copied.
+    /// The oldest sector, with this number, was erased; before that `copies` records were copied.
     Cleaned { sector: u32, copies: u32 },
     /// The log has at most one sector, and nothing was changed.
     OneSector,
-    /// So many sectors were erased.
+    /// This many sectors were erased.
     Erased(u32),
-    /// What was asked for was not done.
+    /// What was asked for was not done, for this cause.
     Refused(Cause),
 }
 
-/// What is told of a core that works, behind each answer.
+/// What is printed of a core that works, after each answer.
 #[derive(Clone, Copy, Debug, PartialEq, Eq)]
 pub struct Totals {
     /// How many sectors are erased.
@@ -39,9 +39,10 @@ pub struct Totals {
 /// The answer to an operation on a core.
 #[derive(Clone, Copy, Debug, PartialEq, Eq)]
 pub struct Answered {
+    /// What was done.
     pub did: Did,
     /// How many copies cleaning made for a request.
     pub copies: u64,
-    /// What stands then; None where the core failed.
+    /// What stands then; `None` if the core failed.
     pub totals: Option<Totals>,
 }

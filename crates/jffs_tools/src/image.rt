@@ -28,7 +28,9 @@ pub(crate) fn show<W: Write>(alloc: Global, image: Image, out: &mut W) -> Result
 
 /// Scans an image and writes what is on it: whether it is clean, the numbers that come next, the
 /// sectors of the log, its records, and the tree; or the one line that says why it is refused.
-/// Write where the writer failed, Memory where a growth was refused.
+///
+/// `Write` if the writer failed, `Memory` if allocation failed; a beginning of the lines may be
+/// written then.
 pub fn print_image<W: Write>(
     alloc: Global,
     flash: MemoryFlash,

@@ -12,19 +12,21 @@ use std::alloc::Global;
 pub struct Fuse {
     /// How many fused calls pass.
     pub calls: u32,
+    /// Which calls are fused.
     pub fused: Fused,
+    /// What a call does that fails.
     pub fail: Fail,
 }
 
 /// One line of a replay.
 #[derive(Drop)]
 pub enum Operation<'a> {
-    /// Erased flash of so many sectors of so many bytes.
+    /// Erased flash of these sizes; the second is in bytes.
     Flash {
         sectors: u32,
         sector_size: u32,
     },
-    /// Flash with a file's bytes.
+    /// Flash of these sizes with a file's bytes.
     Open {
         file: &'a str,
         sectors: u32,
@@ -32,18 +34,24 @@ pub enum Operation<'a> {
     },
     /// A fuse that goes round the flash at the next mount.
     Fuse(Fuse),
+    /// The flash is mounted.
     Mount,
+    /// A request to the core.
     Request(Request),
+    /// The oldest sector is cleaned.
     CleanOldest,
+    /// Dead sectors are erased, the oldest first.
     EraseDead,
     /// The digest of the whole image.
     Digest,
 }
 
 impl<'a> Operation<'a> {
-    /// Reads an operation from the words of its line. `Command` where the first word or the
-    /// number of words is wrong, then the first word that is none of its kind, `Path` for a name
-    /// that is none, and `Memory` where a growth was refused.
+    /// Reads an operation from the words of its line.
+    ///
+    /// `Command` where the first word or the number of words is wrong; then the error of the first
+    /// word, from the left, that isn't what should stand there, which is `Path` for a name too;
+    /// `Memory` if allocation failed.
     pub fn parse(alloc: Global, mut words: Words<'a>) -> Result<Operation<'a>, ScriptWhy> {
         let count = words.count();
         match (words.take(), count) {

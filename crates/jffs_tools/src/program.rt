@@ -28,10 +28,12 @@ Drives a core operation by operation, and writes one line for each:
 Status: 0, 2 after a wrong call or a line that is no operation, 1 after a fault.
 ";
 
-/// Shows what is on the image that a reader gives, of the sizes that two words say, and reads no
+/// Shows what is on the image that `input` gives, of the sizes that two words say, and reads no
 /// more than the image and one byte. `words` is how the program was called, with its own name
-/// first. Gives the exit status: 0, 3 where the scan refuses the image, 2 after a wrong call, 1
-/// where it can't read, write or find memory; for the last two one line goes to `errors`.
+/// first.
+///
+/// Returns the exit status: 0; 3 where the scan refuses the image; 2 after a wrong call; 1 if it
+/// can't read, write or allocate. For the last two one line goes to `errors`.
 pub fn run_image<R: Read, W: Write, E: Write>(
     alloc: Global,
     words: &[String],
@@ -82,7 +84,7 @@ fn write_help<W: Write>(help: &str, out: &mut W) -> Result<(), ToolFault> {
     Ok(())
 }
 
-/// The two numbers behind the program's name.
+/// The two numbers after the program's name.
 fn image_sizes(words: &[String]) -> Result<(u32, u32), ToolFault> {
     match words {
         [_, sectors, size] => Ok((number_of(sectors)?, number_of(size)?)),
@@ -98,10 +100,13 @@ fn number_of(word: &String) -> Result<u32, ToolFault> {
     words.take_number(0, u32::MAX).map_err(|_| ToolFault::Words)
 }
 
-/// Runs the operations that a reader gives, each before the next line is read, and writes one line
-/// for each, which is flushed at once. Gives the exit status: 0, 2 after a wrong call or a line
-/// that is no operation or can't be done, 1 where it can't read, write or find memory; for the
-/// last two one line goes to `errors`, with the number of the line where there is one.
+/// Runs the operations that `input` gives, each before the next line is read, and writes one line
+/// for each to `out`, which is flushed at once. `words` is how the program was called, with its own
+/// name first.
+///
+/// Returns the exit status: 0; 2 after a wrong call, or a line that is no operation or can't be
+/// done; 1 if it can't read, write or allocate. For the last two one line goes to `errors`, with
+/// the number of the line where there is one.
 pub fn run_replay<Rt: Files + AllocGlobal, R: Read, W: Write, E: Write>(
     rt: &Rt,
     words: &[String],

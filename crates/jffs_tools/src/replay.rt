@@ -39,7 +39,7 @@ pub struct Replay {
 }
 
 impl Replay {
-    /// No flash yet.
+    /// A replay without flash.
     pub fn new(alloc: Global) -> Replay {
         Replay {
             alloc,
@@ -48,9 +48,11 @@ impl Replay {
         }
     }
 
-    /// Begins with erased flash of so many sectors of so many bytes, in place of any that stood
-    /// there. Flash that is larger than any volume takes no memory: a mount refuses it as
-    /// Geometry. `Memory` where allocation failed: nothing is changed.
+    /// Begins with erased flash of `sectors` sectors of `sector_size` bytes, in place of any that
+    /// stood there. Flash that is larger than any volume takes no memory: a mount refuses it as
+    /// Geometry.
+    ///
+    /// `Memory` if allocation failed: nothing is changed.
     pub fn begin_erased(&mut self, sectors: u32, sector_size: u32) -> Result<(), ToolFault> {
         let length = device_length(sectors, sector_size);
         if length > VOLUME_MAX {
@@ -61,10 +63,11 @@ impl Replay {
         self.begin(sectors, sector_size, bytes)
     }
 
-    /// Begins with flash that holds these bytes, in place of any that stood there. Where they and
-    /// the flash are larger than any volume they aren't kept, and a mount refuses the flash as
-    /// Geometry. `Length` where they aren't as many as the sectors have together: nothing is
-    /// changed.
+    /// Begins with flash that holds these bytes, in place of any that stood there. Where the bytes
+    /// and the flash are larger than any volume they aren't kept, and a mount refuses the flash as
+    /// Geometry.
+    ///
+    /// `Length` if they aren't as many as the sectors have together: nothing is changed.
     pub fn begin(
         &mut self,
         sectors: u32,
@@ -78,13 +81,16 @@ impl Replay {
         Ok(())
     }
 
-    /// Puts a fuse round the flash at the next mount.
+    /// Puts a fuse round the flash at the next mount, in place of one that waits for it.
     pub fn fuse(&mut self, fuse: Fuse) {
         self.fuse = Some(fuse);
     }
 
-    /// Mounts the bare flash and writes what the mount found, or why it is refused. `NoFlash`
-    /// where there is none.
+    /// Mounts the bare flash, with its fuse if one waits, and writes what the mount found, or why
+    /// it is refused.
+    ///
+    /// `NoFlash` where there is none; `Write` or `Memory` if the line can't be written or
+    /// allocation failed.
     pub fn mount<W: Write>(&mut self, out: &mut W) -> Result<(), ToolFault> {
         let flash = match mem::replace(&mut self.device, Device::Absent) {
             Device::Absent => return Err(ToolFault::NoFlash),
@@ -116,8 +122,10 @@ impl Replay {
         Ok(())
     }
 
-    /// Answers a request. `NotMounted` without a core, `Closed` where an Unmount was answered
-    /// Closed, `Memory` where the place for the answer was refused: nothing is changed.
+    /// Answers a request.
+    ///
+    /// `NotMounted` without a core, `Closed` where an Unmount was answered Closed, `Memory` if
+    /// allocation failed for the answer: nothing is changed.
     pub fn request(&mut self, request: Request) -> Result<Answered, ToolFault> {
         let core = self.core()?;
         if core.closed() {
@@ -149,7 +157,7 @@ impl Replay {
         })
     }
 
-    /// Erases the oldest sectors while they hold nothing live. `NotMounted` without a core.
+    /// Erases dead sectors, the oldest first. `NotMounted` without a core.
     pub fn erase_dead(&mut self) -> Result<Answered, ToolFault> {
         let core = self.core()?;
         let did = match core.erase_dead() {
@@ -163,8 +171,10 @@ impl Replay {
         })
     }
 
-    /// Writes the SHA-256 digest of the whole image in hex. `NoFlash` where there is none, `Large`
-    /// of flash that is larger than any volume.
+    /// Writes the SHA-256 digest of the whole image in lower case hex.
+    ///
+    /// `NoFlash` where there is none, `Large` of flash that is larger than any volume, `Memory` if
+    /// allocation failed, `Write` if the writer did.
     pub fn digest<W: Write>(&self, out: &mut W) -> Result<(), ToolFault> {
         out.write_all(digest_text(self.alloc, self.bytes()?)?.as_bytes())?;
         Ok(())
@@ -226,7 +236,7 @@ fn fused(flash: MemoryFlash, fuse: Option<Fuse>) -> FuseFlash {
     }
 }
 
-/// `mounted clean next V I`, and each line of the dump behind a bar.
+/// `mounted clean next V I`, and each line of the dump after a bar.
 fn write_mounted<W: Write>(
     alloc: Global,
     core: &Core<FuseFlash>,

@@ -1,4 +1,4 @@
-//! What is told of a core.
+//! What is printed of a core.
 
 ghost use Rattle.std.specs.Prelude.{◌≡◌, ◌+◌, ◌*◌, ◌++◌, ◌∷◌, [], List};
 ghost use Rattle.jffs_log.specs.declared.book.Kept.{Kept};
@@ -28,7 +28,7 @@ pub(crate) fn totals(core: &Core<FuseFlash>) -> Option<Totals>
 /// How many versions there are: all that fit 32 bits, and 0.
 const VERSIONS: u64 = 1 << 32;
 
-/// The version that comes next; behind the last one, how many there are. Each record takes one, so
+/// The version that comes next; after the last one, how many there are. Each record takes one, so
 /// the difference of two such numbers is how many were appended between.
 pub(crate) fn count_given(core: &Core<FuseFlash>) -> u64
     ensures { result ≡ given_before core.now.limits.next_version }

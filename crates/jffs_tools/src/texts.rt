@@ -25,7 +25,7 @@ fn number_text(alloc: Global, number: Option<u32>) -> Result<String, AllocError>
     }
 }
 
-/// `next VERSION INODE`.
+/// `next VERSION INODE`, with `none` where no number is left. The error: allocation failed.
 pub fn next_text(alloc: Global, limits: &Limits) -> Result<String, AllocError>
     ensures { IfOk result (λ s. string_bytes s ≡ text_of_next limits.now) }
 {
@@ -45,7 +45,7 @@ pub fn mounted_text(clean: bool) -> &'static str
     }
 }
 
-/// `mounted clean next VERSION INODE`, or `mounted unclean ..`.
+/// `mounted clean next VERSION INODE`, or `mounted unclean ..`. The error: allocation failed.
 pub fn mounted_next_text(alloc: Global, clean: bool, limits: &Limits) -> Result<String, AllocError>
     ensures { IfOk result (λ s. string_bytes s ≡ text_of_mounted clean ++ (codes " " ++ text_of_next limits.now)) }
 {
@@ -54,14 +54,15 @@ pub fn mounted_next_text(alloc: Global, clean: bool, limits: &Limits) -> Result<
     format!(in alloc; "{mounted} {next}")
 }
 
-/// The SHA-256 digest of an image, in lower case hex.
+/// The SHA-256 digest of an image, in lower case hex. The error: allocation failed.
 pub fn digest_text(alloc: Global, image: &[u8]) -> Result<String, AllocError>
     ensures { IfOk result (λ s. string_bytes s ≡ encode_lower (sha256 image.now)) }
 {
     hex::encode(alloc, &Sha256::digest(image))
 }
 
-/// `refused WHY`, and of a bad record `refused BadRecord SECTOR PLACE REASON`.
+/// `refused WHY`, and of a bad record `refused BadRecord SECTOR PLACE REASON`. The error:
+/// allocation failed.
 pub fn scan_refused_text(alloc: Global, why: ScanWhy) -> Result<String, AllocError>
     ensures { IfOk result (λ s. string_bytes s ≡ text_of_refused (why_text why)) }
 {
@@ -87,7 +88,7 @@ fn bad_record_text(alloc: Global, sector: u32, place: u32, rule: &str) -> Result
 }
 
 /// `sectors` and then the numbers of the `held` sectors that stand from `first` on, round a device
-/// of so many sectors.
+/// of `sectors` sectors. The error: allocation failed.
 pub fn sectors_text(
     alloc: Global,
     first: u32,
@@ -106,7 +107,7 @@ pub fn sectors_text(
     Ok(text)
 }
 
-/// The sector behind another, round the device.
+/// The sector after another, round the device.
 fn next_sector(sector: u32, sectors: u32) -> u32
     ensures { result ≡ sector_behind sectors sector }
 {
@@ -116,7 +117,8 @@ fn next_sector(sector: u32, sectors: u32) -> u32
     }
 }
 
-/// `record SECTOR PLACE LENGTH VERSION live`, or with `dead` at its end.
+/// `record SECTOR PLACE LENGTH VERSION live`, or with `dead` at its end. The error: allocation
+/// failed.
 pub fn record_text(alloc: Global, kept: &Kept, live: bool) -> Result<String, AllocError>
     ensures { IfOk result (λ s. string_bytes s ≡ text_of_record kept.now live) }
 {
@@ -199,7 +201,8 @@ fn rest_text(alloc: Global, copies: u64, totals: &Option<Totals>) -> Result<Stri
 }
 
 /// The line that answers an operation on a core, without its end: what was done, and unless the
-/// core failed ` after N copies` where there were any, and ` ; erased N erases N weight N next V I`.
+/// core failed ` after N copies` where there were any, and ` ; erased N erases N weight N next V
+/// I`. The error: allocation failed.
 pub fn answered_text(alloc: Global, answered: &Answered) -> Result<String, AllocError>
     ensures { IfOk result (λ s. string_bytes s ≡ text_of_answered answered.now) }
 {

@@ -47,7 +47,7 @@ abbrev pub newest : List Node → ℕ → Option Node
 newest [] i = None
 newest (n ∷ past) i = if concerns i n then (if n.deleted then None else Some n) else newest past i
 
--- What a tree holds of an inode: its entry, the version of each byte's last writer, and its newest node's version and form.
+-- What a tree holds of an inode: its entry; of each byte the version that wrote it last; of its newest node the version and the form.
 pub record Held : Type 0 where
   pub entry : Entry
   pub writers : List (Option ℕ)

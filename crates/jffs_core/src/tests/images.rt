@@ -26,14 +26,14 @@ const LAST: [u8; 45] = [
     0, 0, 0, 0, 0, 0, 0, 0, 0, 1, 0, 1, 0, 0, 0, 1, 0, 0, 0, 0, 0x61,
 ];
 
-/// The record of a write of `!` at 8 behind `hello`, which makes a hole.
+/// The record of a write of `!` at 8 after `hello`, which makes a hole.
 pub(super) const WRITTEN_BEHIND: [u8; 68] = [
     0x4A, 0x46, 0x46, 0x31, 1, 0, 1, 0, 0, 0, 0, 2, 0, 0, 0, 1, 0, 0, 0, 4, 0, 0, 0, 8, 0, 0, 0, 1,
     0, 0, 0, 0, 0, 1, 0, 2, 0, 0, 0, 1, 0, 0, 0, 9, 0x66, 0, 0, 0, 0, 0, 0, 0, 0, 0, 0, 0, 0, 0, 0,
     0, 0, 0, 0, 0, 0x21, 0xFF, 0xFF, 0xFF,
 ];
 
-/// Version, offset, data length and removed length of the truncation behind it.
+/// Version, offset, data length and removed length of the truncation after it.
 pub(super) const TRUNCATED: [u8; 20] = [0, 0, 0, 5, 0, 0, 0, 9, 0, 0, 0, 0, 0, 0, 0, 0, 0, 1, 0, 2];
 
 /// An erased volume with these bytes at these places.

@@ -1,4 +1,4 @@
-//! Runs in which any one growth may be refused.
+//! Runs in which any one allocation may fail.
 
 use crate::cleaning::Cleaned;
 use crate::tests::session::Session;
@@ -32,7 +32,7 @@ fn appended(session: &Session<MemoryFlash>) -> usize {
         .count()
 }
 
-// Run both with each growth refused in turn. Behind a cleaning that was given up the tenth write may
+// Run both with each allocation failing in turn. After a cleaning that was given up the tenth write may
 // find room.
 #[test]
 fn a_full_volume_survives_each_refusal(rt: HostRuntime) -> Result<(), Fail> {

@@ -21,7 +21,7 @@ pub(super) struct Session<F: Flash> {
 }
 
 impl<F: Flash + Drop> Session<F> {
-    /// Over a device. Where a growth is refused it is mounted again.
+    /// Over a device. If allocation fails it is mounted again.
     pub(super) fn over(alloc: Global, flash: F) -> Result<Session<F>, Fail> {
         let flash = match Core::mount(alloc, flash) {
             Ok(core) => return Ok(Session::of(alloc, core)),
@@ -59,7 +59,7 @@ impl<F: Flash + Drop> Session<F> {
         Ok(self.answer(wish)?)
     }
 
-    /// Answers a wish. Where a growth is refused the place is asked for again.
+    /// Answers a wish. If allocation fails the place is asked for again.
     fn answer(&mut self, wish: Wish) -> Result<Outcome, Cause> {
         self.seq = self.seq.saturating_add(1);
         if self.core.reserve_answer().is_err() {
@@ -124,7 +124,7 @@ impl<F: Flash + Drop> Session<F> {
 }
 
 impl Session<MemoryFlash> {
-    /// Over an erased device. Where a growth is refused it is made again.
+    /// Over an erased device. If allocation fails it is made again.
     pub(super) fn erased(alloc: Global, sectors: u32) -> Result<Session<MemoryFlash>, Fail> {
         let flash = match MemoryFlash::new(alloc, sectors, SECTOR_SIZE) {
             Ok(flash) => flash,

@@ -41,7 +41,7 @@ fn ring(
     Ok((hand, ring))
 }
 
-// Makes a sender's ring, and puts its ends behind the others.
+// Makes a sender's ring, and puts its ends after the others.
 fn add(
     alloc: Global,
     capacity: usize,
@@ -113,7 +113,10 @@ fn line(alloc: Global, capacity: usize, writers: u16) -> Result<RingLine, AllocE
     })
 }
 
-/// A ring with room for `capacity` requests for each of that many writers, the cleaner and the control.
+/// A ring with room for `capacity` requests, 1 to 256, for each of `writers` writers, at most 8,
+/// the cleaner and the control. Nothing waits in them.
+///
+/// `Capacity`, `Senders`, tried in this order, or `Memory` if allocation failed.
 pub fn ring_line(alloc: Global, capacity: usize, writers: u16) -> Result<RingLine, LineFault>
     ensures capacity { IsErrAnd result (λ e. e ≡ Capacity) ↔ ((capacity ≡ 0) ⊎ (256 < capacity)) }
     ensures writers { IsErrAnd result (λ e. e ≡ Senders) ↔ ((0 < capacity) × (capacity ≤ 256) × (8 < writers)) }

@@ -94,7 +94,10 @@ fn line(alloc: Global, capacity: usize, writers: u16) -> Result<SharedLine, Allo
     })
 }
 
-/// A shared line with room for `capacity` requests, with hands for that many writers, the cleaner and the control.
+/// A shared line with room for `capacity` requests, 1 to 256, with hands for `writers` writers, at
+/// most 8, the cleaner and the control. Nothing waits in it.
+///
+/// `Capacity`, `Senders`, tried in this order, or `Memory` if allocation failed.
 pub fn shared_line<R>(
     _rt: &R,
     alloc: Global,

@@ -47,7 +47,11 @@ fn drain<R: Wait>(
     unreachable!()
 }
 
-/// Takes all ends of a line back. For each sender, what was taken of it and then what waits is what was accepted.
+/// Takes all ends of a line back, and returns what was handed in and never taken. So all that a
+/// hand accepted was taken, or is in here after that. Precondition: `hands` and `taker` belong to
+/// one line, and no end of it is missing.
+///
+/// `Memory` alone, if allocation failed: the ends are then gone, with what waited.
 pub fn settle<R: Wait>(
     rt: &R,
     alloc: Global,

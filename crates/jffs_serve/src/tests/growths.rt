@@ -1,4 +1,4 @@
-//! A session in which any growth may be refused.
+//! A session in which any allocation may fail.
 
 ghost use Rattle.jffs_serve.specs.Showing.{CanServe};
 
@@ -49,7 +49,7 @@ fn serve_on<R: Wait, W: Wait + Drop>(
     Served::Memory
 }
 
-/// The answers where no growth is refused.
+/// The answers where no allocation fails.
 fn wanted() -> [Answer; 3] {
     [
         appended(1, 1),
@@ -70,7 +70,7 @@ fn appended(seq: u32, version: u32) -> Answer {
     }
 }
 
-/// Whether an answer is the wanted one, but for one growth that was refused; `first` is what the
+/// Whether an answer is the wanted one, but for one allocation that failed; `first` is what the
 /// first request was answered.
 fn is_expected(answer: &Answer, wanted: &Answer, first: Outcome) -> bool {
     let memory = Outcome::Refused(Cause::Memory);
@@ -84,7 +84,7 @@ fn is_expected(answer: &Answer, wanted: &Answer, first: Outcome) -> bool {
         && (answer.outcome == outcome || answer.outcome == memory)
 }
 
-/// Whether the answers are the wanted ones, with at most one growth refused.
+/// Whether the answers are the wanted ones, with at most one allocation that failed.
 fn are_expected(answers: &[Answer]) -> bool {
     let [a, b, c] = wanted();
     match answers {
@@ -123,7 +123,7 @@ fn check(rt: &impl Abort, session: &Session<MemoryFlash>, reader: &mut Reader) {
     assert!(rt; shows(reader, answers));
 }
 
-// Run it with each growth refused in turn.
+// Run it with each allocation failing in turn.
 #[test]
 #[tactic(auto, using(crate::proofs::Showing::can_begin))]
 fn each_growth_refused_in_turn(rt: HostRuntime) -> Result<(), Fail> {

@@ -71,7 +71,7 @@ fn push_sector(image: &mut Vec<u8>, records: &[Record]) -> Result<(), AllocError
     fill(image, begin, 1024)
 }
 
-/// Erased bytes, until so many stand behind the place.
+/// Erased bytes, until `length` stand after the position.
 fn fill(image: &mut Vec<u8>, begin: usize, length: usize) -> Result<(), AllocError> {
     for _ in 0..length {
         if image.len().saturating_sub(begin) < length {

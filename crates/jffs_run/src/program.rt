@@ -76,9 +76,6 @@ fn run_script<Rt: AllocGlobal + Threads + Wait + Sync, R: Read, W: Write>(
     out: &mut W,
 ) -> Result<(), Fault> {
     let alloc = rt.alloc();
-    let script = read_script(alloc, input)?;
-    let flash = MemoryFlash::new(alloc, script.sectors, script.sector_size).map_err(flash_fault)?;
-    let run = run_threads(rt, alloc, &script, flash, &NoGate).map_err(run_fault)?;
     let Run {
         accepted: _,
         answers,
@@ -86,7 +83,7 @@ fn run_script<Rt: AllocGlobal + Threads + Wait + Sync, R: Read, W: Write>(
         readers,
         served,
         flash,
-    } = run;
+    } = run_input(rt, input)?;
     let Mounted {
         log: _,
         tree,
@@ -100,6 +97,17 @@ fn run_script<Rt: AllocGlobal + Threads + Wait + Sync, R: Read, W: Write>(
     dump(alloc, &tree, out).map_err(dump_fault)?;
     out.flush()?;
     Ok(())
+}
+
+/// Runs the script that a reader gives, which isn't kept.
+fn run_input<Rt: AllocGlobal + Threads + Wait + Sync, R: Read>(
+    rt: &Rt,
+    input: &mut R,
+) -> Result<Run<MemoryFlash>, Fault> {
+    let alloc = rt.alloc();
+    let script = read_script(alloc, input)?;
+    let flash = MemoryFlash::new(alloc, script.sectors, script.sector_size).map_err(flash_fault)?;
+    run_threads(rt, alloc, &script, flash, &NoGate).map_err(run_fault)
 }
 
 /// The script that a reader gives. Its text isn't kept.

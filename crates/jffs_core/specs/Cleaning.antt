@@ -30,7 +30,7 @@ pub record CopyStopped (cause : Cause) (past : List Node) (source : Node) (old n
   pub stands : RefusedAt cause past old new
   pub no_room : cause ≡ NoSpace → copy_has_room source (session past old) ≡ false
 
--- Several records were handled, and so many copies were made.
+-- Several records were handled, and `copies` copies were made.
 pub record HasCopied (nodes past after : List Node) (copies : ℕ) (old new : Standing) : Type 0 where
   pub added : OnlyCopies past after
   pub stands : WorksOn after old new
@@ -49,7 +49,7 @@ pub record HasErased (past : List Node) (old new : Standing) : Type 0 where
   pub stands : WorksOn past old new
   pub log : layout_in new.image new.book ≡ erase_oldest (layout_in old.image old.book)
 
--- Room was made for a fresh record of so many bytes: copies were added, and the log is as after so many cleanings.
+-- Room was made for a fresh record of `len` bytes: copies were added, and the log is as after some cleanings.
 pub record HasMadeRoom (len : ℕ) (past after : List Node) (old new : Standing) : Type 0 where
   pub copies : OnlyCopies past after
   pub stands : WorksOn after old new
@@ -110,7 +110,7 @@ pub record Stops (mounted past : List Node) (cause : Cause) (old new : Standing)
   pub why : StopIs cause after old new
   pub wants : WantsCopy cause past after old
 
--- so many of the oldest sectors are erased
+-- the oldest sectors are erased, as many as the number says
 abbrev pub erased_times : ℕ → Layout → Layout
 erased_times zero log = log
 erased_times (suc k) log = erase_oldest (erased_times k log)

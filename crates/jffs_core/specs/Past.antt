@@ -19,7 +19,7 @@ use Rattle.jffs_core.specs.History.{MayFollow, Grows, contents}
 use Rattle.jffs_core.specs.Standing.{Standing}
 use Rattle.jffs_core.specs.Step.{ends_with_unmount}
 
--- the log ends with an unmount node, and nothing was programmed behind it
+-- the log ends with an unmount node, and nothing was programmed after it
 abbrev pub is_clean_in : List ℕ → Book → Bool
 is_clean_in image b = is_clean (sectors_in b.sectors b.sector_size image)
 
@@ -35,7 +35,7 @@ pub record IsPast (past : List Node) (image : List ℕ) (b : Book) (tree : Tree)
 abbrev pub Knows : List Node → Standing → Type 0
 Knows past c = IsPast past c.image c.book c.tree c.limits c.clean
 
--- The book has the sizes of the device. It tells of the image, and the core knows some history, unless the device failed.
+-- The book has the sizes of the device. Unless the device failed, it describes the image, and the core knows some history.
 pub record HasBook (failed : Bool) (count len : ℕ) (image : List ℕ) (b : Book) (tree : Tree) (limits : Limits) (clean : Bool) : Type 0 where
   pub sizes : HasSizes count len b
   pub book : failed ≡ false → IsBook image b
@@ -45,7 +45,7 @@ pub record HasBook (failed : Bool) (count len : ℕ) (image : List ℕ) (b : Boo
 abbrev pub session : List Node → Standing → Session
 session past c = record { past = past; log = layout_in c.image c.book }
 
--- a record of so many bytes has room in the log
+-- a record of `len` bytes has room in the log
 abbrev pub has_room_for : Standing → Room → ℕ → Bool
 has_room_for c room len = has_room room len (layout_in c.image c.book).free (layout_in c.image c.book).erased
 

@@ -1,4 +1,4 @@
--- A device with a fuse: it passes so many fused calls, and then fails each.
+-- A device with a fuse: it lets a number of fused calls pass, and then fails each.
 use Rattle.std.specs.Prelude.{ℕ, Bool, true, false, ◌+◌, ◌-◌, ◌*◌, ◌/◌, ◌&&◌, ◌==◌, nat_lt, List, ◌++◌, length, take, drop, replicate}
 use Rattle.jffs_flash.specs.declared.fuse.Fused.{Fused}
 use Rattle.jffs_flash.specs.declared.fuse.Fused.TheVariants.{Writes, All}

@@ -6,7 +6,7 @@ use Rattle.std.specs.Int.Bits.{bit_and}
 abbrev pub erased_byte : ℕ
 erased_byte = 255
 
--- so many bytes from a place on
+-- `len` bytes from the position `at` on
 abbrev pub window : ℕ → ℕ → List ℕ → List ℕ
 window at len image = take len (drop at image)
 

@@ -2,10 +2,10 @@
 use Rattle.std.specs.Prelude.{ℕ, Bool, ◌&&◌, nat_le, ◌==◌, [], ◌∷◌}
 use Rattle.std.specs.List.{list_any}
 
--- a sector is so many bytes long
+-- a sector may have that many bytes
 abbrev pub is_sector_size : ℕ → Bool
 is_sector_size z = list_any (λ y. y == z) (1024 ∷ 2048 ∷ 4096 ∷ 8192 ∷ 16384 ∷ [])
 
--- a volume has so many sectors, each so long
+-- a volume may have that many sectors of that many bytes
 abbrev pub is_geometry : ℕ → ℕ → Bool
 is_geometry sectors sector_size = nat_le 6 sectors && nat_le sectors 64 && is_sector_size sector_size

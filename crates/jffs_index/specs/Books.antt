@@ -1,4 +1,4 @@
--- The rule of the book, and what its step tells.
+-- The rule of the book, and what its step says.
 use Rattle.std.specs.Prelude.{ℕ, ◌≡◌, true, List, [], ◌∷◌, ◌++◌, length, None}
 use Rattle.logbook.specs.Pages.{Cell, Step as Change, View, Book, Named}
 use Rattle.jffs_tree.specs.declared.wish.Outcome.TheVariants.{Closed}
@@ -11,7 +11,7 @@ IsCounted cells steps = cells ≡ (length steps, true) ∷ (0, true) ∷ []
 abbrev pub head_of : Book → Named
 head_of b = record { tracked = true; key = 0; book = b }
 
--- where the length that was found is the one that was known, the batch stands behind all that was known
+-- where the length that was found is the one that was known, the batch stands after all that was known
 abbrev pub Adds : List Step → Change Step → View Step ℕ → ℕ → View Step ℕ → Type 0
 Adds batch s v found w = found ≡ s.old → w.0 ≡ v.0 ++ batch
 

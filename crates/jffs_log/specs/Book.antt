@@ -41,11 +41,11 @@ pub record IsKept (count len : ℕ) (image : List ℕ) (first many tail used fre
   pub exact : free ≡ free_of_tail len (last_or None held)
   pub listed : records ≡ map kept (flat_map records_in held)
 
--- the book tells of this image
+-- the book describes this image
 abbrev pub IsBook : List ℕ → Book → Type 0
 IsBook image b = IsKept b.sectors b.sector_size image b.first b.held b.tail b.used b.free b.records.items
 
--- the device has so many sectors of so many bytes
+-- the device has `count` sectors of `len` bytes
 abbrev pub HasSizes : ℕ → ℕ → Book → Type 0
 HasSizes count len b = (count ≡ b.sectors) × (len ≡ b.sector_size)
 

@@ -109,11 +109,11 @@ cleaned sector_size s =
     let after = handled_each sector_size (oldest_records s.log.sectors) s in
     record { past = after.past; log = erase_oldest after.log }
 
--- a fresh record of so many bytes has room
+-- a fresh record of `len` bytes has room
 abbrev pub fresh_has_room : ℕ → Session → Bool
 fresh_has_room len s = has_room Fresh len s.log.free s.log.erased
 
--- Room is made for a fresh record of so many bytes, by at most so many cleanings.
+-- Room is made for a fresh record of `len` bytes, by at most as many cleanings as the last number says.
 abbrev pub room_made : ℕ → ℕ → ℕ → Session → Session
 room_made sector_size len zero s = s
 room_made sector_size len (suc left) s = if fresh_has_room len s then s else room_made sector_size len left (cleaned sector_size s)

@@ -113,6 +113,6 @@ abbrev pub is_clean_tail : Option (ℕ × Sector) → Bool
 is_clean_tail None = false
 is_clean_tail (Some tail) = ends_with_unmount tail.1.reading.nodes && is_free tail.1.reading.ending
 
--- the log ends with an unmount node, and nothing was programmed behind it
+-- the log ends with an unmount node, and nothing was programmed after it
 abbrev pub is_clean : List Sector → Bool
 is_clean sectors = is_clean_tail (tail_of sectors)

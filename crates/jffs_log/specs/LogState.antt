@@ -36,14 +36,14 @@ log_layout s = layout_in s.device.image s.book
 abbrev pub HasHistory : List Node → LogState → Type 0
 HasHistory past s = IsHistory s.device.image s.book past
 
--- What always holds of a log: while the device works, the book tells of its image.
+-- What always holds of a log: while the device works, the book describes its image.
 pub record IsLog (s : LogState) : Type 0 where
   pub sizes : HasSizes s.device.sectors s.device.sector_size s.book
   pub held : s.book.held ≤ s.book.sectors
   pub few : length s.book.records.items < 2 ^ 32
   pub told : s.failed ≡ false → IsBook s.device.image s.book
 
--- the node's record may stand in so many bytes
+-- the node's record may stand in `free` bytes of a sector
 pub record FitsIn (sector_size free : ℕ) (n : Node) : Type 0 where
   pub lawful : IsTrue (is_lawful n)
   pub fits : IsTrue (has_place n.kind (dsize n) (sector_size / 4) free)

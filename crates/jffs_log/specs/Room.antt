@@ -13,7 +13,7 @@ use Rattle.jffs_log.specs.declared.room.Room.TheVariants.{Fresh, Unmount}
 abbrev pub weight : List Node → ℕ
 weight past = sum_by record_len (filter (λ n. is_live past n.version) past)
 
--- a volume of so many sectors is heavy from here on
+-- from this weight on a volume of these sizes is heavy
 abbrev pub heavy : ℕ → ℕ → ℕ
 heavy sectors sector_size = (sectors - 4) * (3 * sector_size / 4 - 64)
 
@@ -27,7 +27,7 @@ abbrev pub erased_need : Room → ℕ
 erased_need Fresh = 4
 erased_need _ = 2
 
--- with so many bytes free in the tail and so many sectors erased
+-- a record of `len` bytes has room, with `free` bytes free in the tail and `erased` sectors erased
 abbrev pub has_room : Room → ℕ → ℕ → ℕ → Bool
 has_room room len free erased = nat_le (tail_need room len) free || nat_le (erased_need room) erased
 

@@ -16,7 +16,7 @@ abbrev pub Among : Node → List Node → Type 0
 Among m [] = ⊥
 Among m (n ∷ nodes) = (m ≡ n) ⊎ Among m nodes
 
--- A session with a lawful log of so many sectors of that size.
+-- A session with a lawful log, on a volume of these sizes.
 pub record IsSound (sectors : ℕ) (sector_size : ℕ) (s : Session) : Type 0 where
   pub history : is_history s.past ≡ true
   pub known : AllByRecursion (λ nodes. AllByRecursion (λ n. Among n s.past) nodes) s.log.sectors

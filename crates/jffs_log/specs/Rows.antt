@@ -41,7 +41,7 @@ refusal sectors = why_refused (scan 1024 (volume sectors))
 abbrev pub seen : List (List ℕ) → Option (ℕ × Bool × List ℕ)
 seen sectors = seen_in (scan 1024 (volume sectors))
 
--- a byte behind a gap, without a size
+-- a byte after a gap, without a size
 abbrev pub one_byte_at_four : Node
 one_byte_at_four = record hello_one { version = 1; offset = 4; bytes = 0x61 ∷ [] }
 

@@ -31,7 +31,7 @@ greatest_inode (n ∷ nodes) = max n.inode (greatest_inode nodes)
 abbrev pub keeps_form_after : Bool → Node → Bool
 keeps_form_after has_sizes n = not (is_file n.kind) || n.deleted || is_some n.size || not has_sizes
 
--- the scan of the image, whose elements are bytes, with the book that tells of it
+-- the scan of the image, whose elements are bytes, with the book that describes it
 pub record IsFound (count len : ℕ) (image : List ℕ) (found : Book) (tree : Tree) (clean : Bool) (limits : Limits) : Type 0 where
   pub answer : scan len (split count len image) ≡ Ok (record { log = log_in image found; tree = tree; clean = clean })
   pub book : IsBook image found

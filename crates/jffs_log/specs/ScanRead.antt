@@ -21,11 +21,11 @@ pub record IsRead (s : Inside) : Type 0 where
   pub filled : s.used ≡ sum_by record_len s.nodes.items
   pub lawful : AllByRecursion (λ n. IsTrue (is_lawful n)) s.nodes.items
 
--- the bytes of a sector behind its records
+-- the bytes of a sector after its records
 abbrev pub rest_of : List ℕ → List ℕ
 rest_of sector = drop (reading_len (reading sector)) sector
 
--- the sector begins with the records of the nodes that it reads as, its reading ends at what stands behind them, and its bytes are bytes
+-- the sector begins with the records of the nodes that it reads as, its reading ends at what stands after them, and its bytes are bytes
 pub record IsSpelled (sector : List ℕ) : Type 0 where
   pub holds : HoldsNodes sector (reading sector).nodes (rest_of sector)
   pub ends : (reading sector).ending ≡ found (length sector / 4) (rest_of sector)
@@ -41,7 +41,7 @@ oldest_sector sectors =
 abbrev pub bad_in : (ℕ × Sector) → Option ScanWhy
 bad_in s = bad_record s.0 (reading_len s.1.reading) s.1.reading.ending None
 
--- the first so many sectors of the image were read: none has a bad record, and each begins with the records of its nodes
+-- the first `count` sectors of the image were read: none has a bad record, and each begins with the records of its nodes
 pub record AreRead (count len : ℕ) (image : List ℕ) (list : List (ℕ × Sector)) : Type 0 where
   pub read : list ≡ enumerate_from 0 (sectors_in count len image)
   pub none : first_bad 0 (sectors_in count len image) ≡ None

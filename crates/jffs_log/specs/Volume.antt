@@ -3,7 +3,7 @@ use Rattle.std.specs.Prelude.{ℕ, zero, suc, ◌*◌, List, [], ◌∷◌, take
 use Rattle.jffs_flash.specs.Image.{window}
 use Rattle.jffs_log.specs.Image.{Sector, sector_of}
 
--- the bytes of so many sectors, sector by sector
+-- the bytes of the first sectors, sector by sector
 abbrev pub split : ℕ → ℕ → List ℕ → List (List ℕ)
 split zero len image = []
 split (suc more) len image = take len image ∷ split more len (drop len image)

@@ -38,7 +38,7 @@ module _ {H : Type 0} (g : Hand.Ghosts H) where
     pub control : (g.accepted hands.control.hand ≡ []) ⊎ (g.accepted hands.control.hand ≡ request (g.sender hands.control.hand) 1 Unmount ∷ [])
 
 module _ {H : Type 0} (g : Hand.Ghosts H) where
-  -- the ends of a line for so many writers, from which nothing was handed in and nothing taken
+  -- the ends of a line for `writers` writers, from which nothing was handed in and nothing taken
   pub record IsNewLine (ends : List End) (taken : ℕ → List Request) (hands : Hands H) (writers : ℕ) : Type 0 where
     pub ends_are : ends ≡ map (end_of g) (all_hands g hands)
     pub numbers : map g.sender (all_hands g hands) ≡ senders writers
@@ -46,6 +46,6 @@ module _ {H : Type 0} (g : Hand.Ghosts H) where
     pub untaken : (sender : ℕ) → taken sender ≡ []
     pub eight : writers ≤ 8
 
--- an empty vector that takes so many without memory
+-- an empty vector that takes `count` elements without memory
 abbrev pub HasRoom : {X A : Type 0} → ℕ → Vec X A → Type 0
 HasRoom count places = (places.items ≡ []) × (count ≤ vec_capacity places)

@@ -10,7 +10,7 @@ abbrev pub IsCopy : Wish → Type 0
 IsCopy (Copy source parent name offset bytes) = Unit {0}
 IsCopy _ = ⊥
 
--- so many requests were accepted since, and each asks for a copy
+-- `count` requests were accepted since, and each asks for a copy
 abbrev pub HandsInCopies : List Request → List Request → ℕ → Type 0
 HandsInCopies before now count =
     (more : List Request) × (now ≡ before ++ more) × AllByRecursion (λ (r : Request). IsCopy r.wish) more × (count ≡ length more)

@@ -25,7 +25,7 @@ answer_in r = record { writer = r.step.writer; seq = r.step.seq; outcome = r.ste
 abbrev pub Replies : Reply → Type 0
 Replies r = (r.step.writer ≡ r.request.writer) × (r.step.seq ≡ r.request.seq) × HasNode r.step.outcome r.step.node
 
--- each step replies to its request, and none stands behind one that closed the session
+-- each step replies to its request, and none stands after one that closed the session
 abbrev pub AllReply : List Reply → Type 0
 AllReply [] = Unit {0}
 AllReply (r ∷ replies) = Replies r × (is_closed r.step.outcome ≡ true → replies ≡ []) × AllReply replies

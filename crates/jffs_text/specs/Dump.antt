@@ -49,7 +49,7 @@ name_text s deeper above a =
     let path = path_of above a.0 in
     if is_directory_in s a.1 then directory_line path ++ deeper path a.1 else file_line path (bytes_of (at s a.1))
 
--- What stands below the directory of that path and inode, so many levels down. The root's path is empty here.
+-- What stands below the directory of that path and inode, at most as many levels down as the first number says. The root's path is empty here.
 unfoldable pub below : ℕ → State → List ℕ → ℕ → List ℕ
 below zero s above i = []
 below (suc levels) s above i = flat_map (name_text s (below levels s) above) (by_name (children i s))

@@ -1,4 +1,4 @@
--- What is told of a core.
+-- What is printed of a core.
 use Rattle.std.specs.Prelude.{ℕ, ◌+◌, ◌*◌, ◌^◌, Bool, true, false, nat_eq, Option, Some, None, if◌then◌else◌}
 use Rattle.jffs_tree.specs.declared.wish.Outcome.{Outcome}
 use Rattle.jffs_tree.specs.declared.wish.Outcome.TheVariants.{Appended, Copied, Closed, Refused}
@@ -29,12 +29,12 @@ abbrev pub totals_unless : Bool → Standing → Option Totals
 totals_unless true c = None
 totals_unless false c = Some (totals_of c)
 
--- the version that comes next, and 2 ^ 32 behind the last one
+-- the version that comes next, and 2 ^ 32 after the last one
 abbrev pub count_given : Option ℕ → ℕ
 count_given (Some version) = version
 count_given None = 2 ^ 32
 
--- what a request did that appended so many records, the newest of which begins at this byte
+-- what a request did that appended `appended` records, the newest of which begins at the byte `at`
 abbrev pub did_of : Outcome → ℕ → ℕ → Did
 did_of (Appended inode version) appended at = did.Appended inode version at
 did_of (Copied version) appended at = did.Copied version at

@@ -56,7 +56,7 @@ abbrev pub totals_text : Totals → List ℕ
 totals_text t = codes " ; erased " ++ (decimal t.erased ++ (codes " erases " ++ (decimal t.erases ++
     (codes " weight " ++ (decimal t.weight ++ (codes " " ++ next_text t.limits))))))
 
--- what stands behind what was done: copies and totals, and nothing of a core that failed
+-- what stands after what was done: copies and totals, and nothing of a core that failed
 abbrev pub rest_text : ℕ → Option Totals → List ℕ
 rest_text copies None = []
 rest_text copies (Some t) = copies_text copies ++ totals_text t
@@ -65,11 +65,11 @@ rest_text copies (Some t) = copies_text copies ++ totals_text t
 abbrev pub answered_text : Answered → List ℕ
 answered_text a = did_text a.did ++ rest_text a.copies a.totals
 
--- the sector behind another, round a device of so many
+-- the sector after another, round a device of `sectors` sectors
 abbrev pub sector_behind : ℕ → ℕ → ℕ
 sector_behind sectors sector = if nat_lt (sector + 1) sectors then sector + 1 else 0
 
--- the numbers of so many sectors, from one on round a device
+-- the numbers of the sectors from `first` on, round a device; the second number says how many
 unfoldable pub ring_text : ℕ → ℕ → ℕ → List ℕ
 ring_text sectors zero first = []
 ring_text sectors (suc held) first = codes " " ++ (decimal first ++ ring_text sectors held (sector_behind sectors first))

@@ -47,7 +47,7 @@ put_node tree n = entries.put nat_cmp n.inode (held_after n (held_in tree n.inod
 abbrev pub tree_after : Tree → Node → Tree
 tree_after tree n = if is_unmount n.kind then tree else (if n.deleted then without_inode tree n.inode else put_node tree n)
 
--- The node leaves no bytes behind its range, unless it keeps their places.
+-- There are no bytes after the range of the node, unless it keeps their offsets.
 abbrev pub keeps_places_in : Tree → Node → Bool
 keeps_places_in tree n = (dsize n == n.rsize) || nat_le (length (unwrap_or (option_map (λ h. h.entry.bytes) (held_in tree n.inode)) [])) (n.offset + n.rsize)
 

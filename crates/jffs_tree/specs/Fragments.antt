@@ -96,7 +96,7 @@ pub record SameCells (old new : Fragments) : Type 0 where
   pub amounts : (v : ℕ) → amount_by v new ≡ amount_by v old
   pub cuts : (q : ℕ) → AreCut q old → AreCut q new
 
--- A node can be written over a file of the size: nothing gets too long, and no byte behind its range moves.
+-- A node can be written over a file of the size: nothing gets too long, and no byte after its range moves.
 pub record FitsFile (n : Node) (size : ℕ) : Type 0 where
   pub small : size ≤ file_max
   pub node : IsSmall n

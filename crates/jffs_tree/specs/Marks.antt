@@ -37,7 +37,7 @@ pub record AreKept (counts : Counts) : Type 0 where
 abbrev pub SameMarks : Counts → Counts → Type 0
 SameMarks old new = (v i : ℕ) → mark_of new v i ≡ mark_of old v i
 
--- the higher have so many more of one version in one inode, and the same elsewhere
+-- the higher have `count` more of one version in one inode, and the same elsewhere
 abbrev pub HaveMore : Counts → Counts → ℕ → ℕ → ℕ → Type 0
 HaveMore lower higher version inode count = (v i : ℕ) → mark_of lower v i + (if (v == version) && (i == inode) then count else 0) ≡ mark_of higher v i
 

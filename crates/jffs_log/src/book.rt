@@ -25,7 +25,7 @@ pub struct Book {
     pub sectors: u32,
     /// How many bytes a sector has.
     pub sector_size: u32,
-    /// The sector that was begun first. The log's sectors stand one after another from here on, and behind the
+    /// The sector that was begun first. The log's sectors stand one after another from here on, and after the
     /// device's last one comes its first.
     pub first: u32,
     /// How many sectors hold the log.
@@ -34,9 +34,9 @@ pub struct Book {
     pub tail: u32,
     /// The bytes that the records of that sector take.
     pub used: u32,
-    /// The erased bytes behind them; none where a write was cut off there.
+    /// The erased bytes after them; none where a write was cut off there.
     pub free: u32,
-    /// How often the oldest sector was to be erased since the mount. It stays at its last value.
+    /// How often the oldest sector was to be erased since the mount. At 2^64 - 1 it stays.
     pub erases: u64,
     /// The records, the oldest first.
     pub records: VecDeque<Kept>,

@@ -79,7 +79,7 @@ fn bad_record(read: &SectorRead) -> Option<ScanWhy>
     }
 }
 
-/// The place of the sector that holds the oldest records: the one behind the run of erased ones,
+/// The place of the sector that holds the oldest records: the one after the run of erased ones,
 /// or the first where all are erased.
 pub(crate) fn oldest(found: &[SectorRead]) -> Result<usize, ScanWhy>
     ensures { result ≡ oldest_sector (map (λ s. s.1) found.now) }
@@ -158,7 +158,7 @@ pub(crate) struct Tail {
     pub(crate) sector: u32,
     /// The bytes that its records take.
     pub(crate) used: u32,
-    /// The erased bytes behind them; none where a write was cut off there.
+    /// The erased bytes after them; none where a write was cut off there.
     pub(crate) free: u32,
 }
 
@@ -201,7 +201,7 @@ fn is_free(ending: &Read) -> bool
     matches!(ending, Read::Free)
 }
 
-/// Whether the log ends with an unmount node, and nothing was programmed behind it.
+/// Whether the log ends with an unmount node, and nothing was programmed after it.
 pub(crate) fn is_clean(held: &[SectorRead]) -> bool
     ensures { result ≡ is_clean_tail (last_or None held.now) }
 {

@@ -63,7 +63,7 @@ impl Numbers {
 }
 
 /// The tree of all nodes, copies included. `BadTree` where they make none, `Memory` where a
-/// growth was refused.
+/// allocation failed.
 pub(crate) fn tree_of_log(alloc: Global, nodes: &[Node]) -> Result<Tree, ScanWhy>
     requires { AllByRecursion (λ n. IsTrue (is_lawful n)) nodes.now }
     ensures value { IfOk result (λ tree. tree ≡ tree_of (reverse nodes.now)) }

@@ -28,7 +28,7 @@ impl Room {
     }
 
     /// How many bytes must be free in the tail for a record of this length to stand there.
-    /// All but an unmount node leave room for an unmount node behind them.
+    /// All but an unmount node leave room for an unmount node after them.
     pub(crate) fn tail_need(self, len: u32) -> u64
         ensures { result ≡ need_of_tail self len }
     {

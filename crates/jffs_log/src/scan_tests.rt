@@ -43,7 +43,7 @@ enum Seen {
     Refused(ScanWhy),
 }
 
-/// Erased flash. A growth that is refused here is asked for again, so that a run which refuses one growth refuses it to
+/// Erased flash. An allocation that fails here is asked for again, so that a run in which one fails has it fail in
 /// a scan.
 fn erased(alloc: Global) -> Result<Vec<u8>, AllocError> {
     match vec![in alloc; 0xFFu8; LEN] {
@@ -105,7 +105,7 @@ fn mounted(found: &Mounted<MemoryFlash>) -> Seen {
     }
 }
 
-/// Scans an image. A refused growth hands the device back, and the next scan finds what it holds.
+/// Scans an image. A failed allocation hands the device back, and the next scan finds what it holds.
 fn look_at(rt: &(impl Abort + AllocGlobal), image: Vec<u8>) -> Seen {
     assert!(rt; image.len() == LEN);
     let flash = MemoryFlash::from_bytes(SECTORS, SECTOR_SIZE, image);

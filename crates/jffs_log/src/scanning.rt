@@ -30,7 +30,7 @@ pub enum ScanWhy {
     /// No sector is erased.
     #[error("no sector is erased")]
     NoErased,
-    /// The erased sectors aren't one run, counted cyclically.
+    /// The erased sectors are more than one run of the ring.
     #[error("the erased sectors are scattered")]
     Scattered,
     /// Somewhere in the log a record has a version no greater than its forerunner's.
@@ -39,7 +39,7 @@ pub enum ScanWhy {
     /// The nodes of the log make no lawful tree.
     #[error("the nodes of the log make no tree")]
     BadTree,
-    /// A growth was refused.
+    /// Allocation failed.
     #[error("memory was refused")]
     Memory,
 }
@@ -90,7 +90,7 @@ pub struct Mounted<F: Flash> {
     pub log: Log<F>,
     /// The tree that all nodes of the log make.
     pub tree: Tree,
-    /// Whether the log ends with an unmount node, and nothing was programmed behind it.
+    /// Whether the log ends with an unmount node, and nothing was programmed after it.
     pub clean: bool,
     /// The longest data of a node, and the numbers that come next.
     pub limits: Limits,
@@ -107,7 +107,7 @@ pub struct ScanFault<F> {
 /// Scans a device, whatever it holds. It is read, each sector once, and never written.
 ///
 /// Each refusal hands the device back. Its cause is in the image and none that is tried before it is, but for `Device`,
-/// where a read failed, and `Memory`, where a growth was refused.
+/// where a read failed, and `Memory`, where allocation failed.
 pub fn scan<F: Flash>(alloc: Global, mut flash: F) -> Result<Mounted<F>, ScanFault<F>>
     ensures found { IfOk result (λ m. IsMounted (F.device flash) m.log m.tree m.clean m.limits) }
     ensures refused { IfErr result (λ f. IsRefused (F.device flash) f.why (F.device f.flash)) }

@@ -90,7 +90,7 @@ impl SectorRead {
         nodes
     }
 
-    /// Adds what is kept of the records. Where a growth is refused, some of them are added.
+    /// Adds what is kept of the records. If allocation fails, some of them are added.
     pub(crate) fn list_records(&self, records: &mut VecDeque<Kept>) -> Result<(), AllocError>
         ensures { OnOk result (records.new.items ≡ records.old.items ++ map kept (records_in self.now)) }
     {
@@ -120,8 +120,8 @@ fn list_nodes(sector: u32, nodes: &[Node], records: &mut VecDeque<Kept>) -> Resu
     Ok(())
 }
 
-/// Reads a sector from its start, record by record, as long as they are closed and lawful.
-/// `NoMemory` where a growth was refused.
+/// Reads the records of a sector, from position 0 up to the first that is not closed and lawful.
+/// `NoMemory` if allocation failed.
 pub(crate) fn read_sector(alloc: Global, number: u32, sector: &[u8]) -> Result<SectorRead, NoMemory>
     requires { length sector.now < 2 ^ 32 }
     ensures read { IfOk result (λ s. s ≡ (number, sector_of sector.now)) }

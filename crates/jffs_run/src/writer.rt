@@ -14,10 +14,10 @@ use std::sync::Wait;
 /// The longest sleep at a full line, in microseconds.
 const SLEEP_MAX: u64 = 10_000;
 
-/// Is told of each wish before it is offered.
+/// Is called for each wish before it is offered.
 pub trait Gate {
-    /// Is called in the writer's thread, once for each wish, before the first offer of that wish;
-    /// `seq` is the number that the wish gets if it is accepted.
+    /// A writer's thread calls this once for every wish, before it first offers it. `seq` is the
+    /// number that the line will give to the wish.
     fn before(&self, writer: u16, seq: u32);
 }
 

@@ -6,7 +6,7 @@ use crate::tree::Tree;
 use jffs_node::NoMemory;
 
 impl Tree {
-    /// An equal tree. `NoMemory` where a growth was refused.
+    /// An equal tree. `NoMemory` if allocation failed.
     pub fn copy_tree(&self) -> Result<Tree, NoMemory>
         ensures { IfOk result (λ tree. tree ≡ self.now) }
     {

@@ -9,7 +9,7 @@ use jffs_node::{Node, is_lawful};
 
 impl Tree {
     /// Whether the node may be applied here: its fields, its name and its numbers are lawful, its
-    /// inode has its kind where it is present, and no byte behind its range moves. That its
+    /// inode has its kind where it is present, and no byte after its range moves. That its
     /// version is above those applied before is known by whoever has the list of nodes, and that
     /// its record finds room by the log. Takes no memory.
     pub fn can_apply(&self, node: &Node) -> bool

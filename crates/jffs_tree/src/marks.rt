@@ -104,7 +104,7 @@ impl Marks {
         if key.0 <= last { Some(key.0) } else { None }
     }
 
-    /// Whether some version from `first` to `last`, both included, has marks.
+    /// Whether a version of that range, with both its ends, has marks.
     pub(crate) fn any(&self, first: u32, last: u32) -> bool
         ensures some { result ≡ true → (v : ℕ) × (i : ℕ) × (first ≤ v) × (v ≤ last) × (0 < mark_of self.now v i) }
         ensures none { result ≡ false → (v i : ℕ) → first ≤ v → v ≤ last → mark_of self.now v i ≡ 0 }

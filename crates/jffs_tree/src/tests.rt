@@ -38,7 +38,7 @@ impl Session {
         }
     }
 
-    /// Where a growth is refused the wish is decided again.
+    /// If allocation fails the wish is decided again.
     fn decide(&self, wish: &Wish) -> Result<Node, Cause> {
         let decided = match self.tree.decide(self.limits(), wish) {
             Err(Cause::Memory) => self.tree.decide(self.limits(), wish)?,
@@ -83,7 +83,7 @@ impl Session {
     }
 }
 
-/// Applies a node. Where a growth is refused the tree is as it was, and the node can be applied
+/// Applies a node. If allocation fails the tree is as it was, and the node can be applied
 /// again.
 fn apply(rt: &impl Abort, tree: &mut Tree, node: &Node) -> Result<(), Fail> {
     assert!(rt; tree.can_apply(node));
@@ -97,7 +97,7 @@ fn apply(rt: &impl Abort, tree: &mut Tree, node: &Node) -> Result<(), Fail> {
     Ok(())
 }
 
-/// What was decided, in words; where a growth is refused it is told again.
+/// What was decided, in words; if allocation fails it is said again.
 fn text_of(alloc: Global, decided: &Result<Node, Cause>) -> Result<String, AllocError> {
     tell(alloc, decided).or_else(|_| tell(alloc, decided))
 }
@@ -114,7 +114,7 @@ fn tell(alloc: Global, decided: &Result<Node, Cause>) -> Result<String, AllocErr
     }
 }
 
-/// The names in a directory; where a growth is refused they are listed again.
+/// The names in a directory; if allocation fails they are listed again.
 fn names(tree: &Tree, inode: u32) -> Result<Vec<(Name, u32)>, Fail> {
     if let Ok(listed) = tree.names(inode) {
         return Ok(listed);
@@ -122,7 +122,7 @@ fn names(tree: &Tree, inode: u32) -> Result<Vec<(Name, u32)>, Fail> {
     Ok(tree.names(inode)?)
 }
 
-/// A copy of a tree; where a growth is refused it is copied again.
+/// A copy of a tree; if allocation fails it is copied again.
 fn copied(tree: &Tree) -> Result<Tree, Fail> {
     if let Ok(copied) = tree.copy_tree() {
         return Ok(copied);

@@ -53,7 +53,7 @@ impl Tree {
         }
     }
 
-    /// Takes in the next node. `Memory` where a growth was refused, and the tree is as it was.
+    /// Takes in the next node. `Memory` if allocation failed, and the tree is as it was.
     /// An unmount node changes nothing. `can_apply` says whether a node meets the conditions;
     /// those on versions and kinds are their list's matter, and not needed here.
     pub fn apply(&mut self, node: &Node) -> Result<(), Cause>
@@ -126,7 +126,7 @@ impl Tree {
     }
 
     /// Writes a node over its inode, whose place may change. The new place is entered first and the
-    /// old one left last, so that a refused growth can be taken back.
+    /// old one left last, so that it can be taken back if allocation fails.
     fn write_elsewhere(&mut self, node: &Node, name: Name) -> Result<(), AllocError>
         requires named { node.now.name ≡ Some name }
         requires small { IsSmall node.now }

@@ -16,7 +16,7 @@ pub enum Cause {
     /// The root can't be made, removed or renamed, and nothing becomes the root.
     #[error("the root stays as it is")]
     RootFixed,
-    /// The path without its last name isn't a directory.
+    /// What should hold the new name isn't there, or is a file.
     #[error("the directory of the path isn't there")]
     NoParent,
     /// Something stands at the path already.
@@ -49,7 +49,7 @@ pub enum Cause {
     /// No version is left.
     #[error("no version is left")]
     VersionsSpent,
-    /// A growth was refused.
+    /// Allocation failed.
     #[error("memory was refused")]
     Memory,
     /// The log has no room, and cleaning makes none.

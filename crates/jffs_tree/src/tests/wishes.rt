@@ -76,7 +76,7 @@ impl<'a> Words<'a> {
     }
 }
 
-/// The wish that a line says. What stands behind it is not read.
+/// The wish that a line says. What stands after it is not read.
 pub(super) fn wish_of(alloc: Global, line: &str) -> Result<Wish, Fail> {
     let mut words = Words {
         alloc,
@@ -95,7 +95,7 @@ pub(super) fn wish_of(alloc: Global, line: &str) -> Result<Wish, Fail> {
     }
 }
 
-/// A path; where a growth is refused it is read again.
+/// A path; if allocation fails it is read again.
 pub(super) fn path(alloc: Global, text: &str) -> Result<Path, Fail> {
     match Path::parse(alloc, text) {
         Err(PathFault::Memory) => Ok(Path::parse(alloc, text)?),
@@ -104,7 +104,7 @@ pub(super) fn path(alloc: Global, text: &str) -> Result<Path, Fail> {
     }
 }
 
-/// Bytes; where a growth is refused they are copied again.
+/// Bytes; if allocation fails they are copied again.
 fn bytes(alloc: Global, bytes: &[u8]) -> Result<Bytes, Fail> {
     if let Ok(bytes) = copied(alloc, bytes) {
         return Ok(bytes);

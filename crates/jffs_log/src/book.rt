@@ -2,7 +2,7 @@
 
 use std::collections::VecDeque;
 
-/// What is kept of a record: none of its bytes.
+/// What is kept of a record in memory: none of its bytes.
 #[derive(Clone, Copy, Debug, PartialEq, Eq)]
 pub struct Kept {
     /// The version of its node.

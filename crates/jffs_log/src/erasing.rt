@@ -14,10 +14,11 @@ impl<F: Flash> Log<F> {
     ghost use Rattle.jffs_log.specs.LogState.{OldestIsDead, ErasedOldest, EraseFailed, ReadStopped};
     ghost use Rattle.jffs_log.specs.Volume.{sector_bytes};
 
-    /// The bytes of the sector that was begun first, of a device that works. The log has a sector: the caller's
-    /// conditions.
+    /// The bytes of the sector that was begun first. Precondition: no call of the device failed, and the log has a
+    /// sector.
     ///
-    /// Memory: nothing is changed. Device: no byte is changed.
+    /// `Memory` if allocation failed: nothing is changed. `Device` if the read failed: no byte is changed, and the log
+    /// is failed from then on.
     pub fn oldest_image(&mut self, alloc: Global) -> Result<Vec<u8>, Cause>
         requires working { self.old.failed ≡ false }
         requires some { 1 ≤ self.old.book.held }
@@ -33,10 +34,12 @@ impl<F: Flash> Log<F> {
         }
     }
 
-    /// Erases the sector that was begun first, of a device that works. It isn't the tail, and none of its records lives
-    /// in the tree of all nodes: the caller's conditions. Takes no memory.
+    /// Erases the sector that was begun first. The call counts in `erases`, failed or not. Takes no memory.
+    /// Precondition: no call of the device failed, the sector isn't the tail, and none of its records lives in the tree
+    /// of all nodes.
     ///
-    /// Device: that sector may hold any bytes, and each other holds what it held. The call counts in `erases` either way.
+    /// `Device` if the erase failed: that sector may hold any bytes, each other holds what it held, and the log is failed
+    /// from then on.
     pub fn erase_oldest(&mut self, tree: &Tree) -> Result<(), Cause>
         requires working { self.old.failed ≡ false }
         requires several { 2 ≤ self.old.book.held }

@@ -80,7 +80,7 @@ impl<F: Flash> Log<F> {
         &self.book.records
     }
 
-    /// Whether a record of this length has room: in the tail, or in a sector that it opens. Takes no memory.
+    /// Whether a record of `len` bytes has room: in the tail, or in a sector that it opens. Takes no memory.
     pub fn room(&self, room: Room, len: u32) -> bool
         ensures known { result ≡ has_room room len self.now.book.free (self.now.book.sectors - self.now.book.held) }
         ensures exact { self.now.failed ≡ false → result ≡ has_room_in self.now.book.sectors self.now.book.sector_size self.now.device.image room len }
@@ -90,7 +90,9 @@ impl<F: Flash> Log<F> {
             || room.erased_need() <= book.sectors - book.held
     }
 
-    /// Makes the place that `append` takes for one record. Memory: nothing is changed.
+    /// Reserves the memory that `append` takes for one record.
+    ///
+    /// `Memory` if allocation failed: nothing is changed.
     pub fn reserve(&mut self) -> Result<(), Cause>
         ensures same { IsSameLog self.old self.new }
         ensures reserved { OnOk result (deque_len self.new.book.records < deque_capacity self.new.book.records) }
@@ -100,10 +102,11 @@ impl<F: Flash> Log<F> {
         Ok(())
     }
 
-    /// Appends a node, for which there is room and a reserved place, to the log of a device that works: the caller's
-    /// conditions. Takes no memory.
+    /// Appends a node. Takes no memory. Precondition: no call of the device failed, there is room for the record, and
+    /// memory for it is reserved.
     ///
-    /// Device: a scan of the image finds the log as it was, or with the whole record at its end.
+    /// `Device` if a write failed: a scan of the image finds the log as it was, or with the whole record at its end, and
+    /// the log is failed from then on.
     pub fn append(&mut self, room: Room, node: &Node) -> Result<(), Cause>
         requires working { self.old.failed ≡ false }
         requires may { MayAppend room node.now self.old }

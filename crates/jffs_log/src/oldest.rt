@@ -48,8 +48,9 @@ impl<F: Flash> Log<F> {
         self.book.sector_size / 4
     }
 
-    /// Whether the oldest sector may be erased: it isn't the tail, and none of its records lives in
-    /// the tree of all nodes. Takes no memory, and asks the tree once for a range of versions, not for each record.
+    /// Whether the oldest sector may be erased: it isn't the tail, and none of its records lives in the tree of all
+    /// nodes. Takes no memory, and asks the tree once for a range of versions, not for each record. Precondition: no
+    /// call of the device failed.
     pub fn oldest_dead(&self, tree: &Tree) -> bool
         requires working { self.now.failed ≡ false }
         ensures { IsTrue result ↔ ((2 ≤ self.now.book.held) × OldestIsDead tree.now self.now) }
@@ -57,8 +58,11 @@ impl<F: Flash> Log<F> {
         self.book.held >= 2 && self.oldest_has_no_live(tree)
     }
 
-    /// The nodes of the oldest sector in their order, read from a device that works. The log has a sector: the caller's
-    /// conditions. Memory: nothing is changed. Device: no byte is changed.
+    /// The nodes of the oldest sector in their order, read from the device. Precondition: no call of the device failed,
+    /// and the log has a sector.
+    ///
+    /// `Memory` if allocation failed: nothing is changed. `Device` if the read failed: no byte is changed, and the log
+    /// is failed from then on.
     pub fn oldest_nodes(&mut self, alloc: Global) -> Result<Vec<Node>, Cause>
         requires working { self.old.failed ≡ false }
         requires some { 1 ≤ self.old.book.held }

@@ -10,9 +10,10 @@ use crate::wish::NewNode;
 use jffs_node::{Bytes, NoMemory, Node};
 
 impl Tree {
-    /// The copy that takes the place of a live node: its inode's parent and name as they are now,
-    /// and the bytes of its range as they are now, as far as the file reaches. `NoMemory` where a
-    /// allocation failed.
+    /// The copy that replaces a live node: its inode's parent and name as they are now, and the
+    /// bytes of its range as they are now, as far as the file reaches.
+    ///
+    /// `NoMemory` if allocation failed.
     pub fn cleaning_copy(&self, source: &Node) -> Result<NewNode, NoMemory>
         requires live { holds_version self.now source.now.inode source.now.version ≡ true }
         ensures { IfOk result (λ n. n ≡ cleaning_copy (state_in self.now) source.now) }

@@ -6,7 +6,9 @@ use crate::tree::Tree;
 use jffs_node::NoMemory;
 
 impl Tree {
-    /// An equal tree. `NoMemory` if allocation failed.
+    /// An equal tree, which shares the bytes of its files with this one.
+    ///
+    /// `NoMemory` if allocation failed.
     pub fn copy_tree(&self) -> Result<Tree, NoMemory>
         ensures { IfOk result (λ tree. tree ≡ self.now) }
     {

@@ -276,10 +276,11 @@ impl Tree {
         Ok(node)
     }
 
-    /// The node of a wish, or the first cause against it, of the first twelve. `Memory` comes
-    /// only where the node carries bytes, which could not be shared, and nothing stands against
-    /// the wish. Of every wish it is true that a new path is a path and that data are
+    /// The node of a wish. Of every wish it is true that a new path is a path and that data are
     /// bytes, as `decided_nodes_keep_rules` asks.
+    ///
+    /// The first cause against the wish, of those from `RootFixed` to `InodesSpent`. `Memory` if
+    /// nothing stands against it, but its bytes can't be shared: allocation failed.
     pub fn decide(&self, limits: Limits, wish: &Wish) -> Result<NewNode, Cause>
         ensures decided { result ≢ Err Memory → result ≡ decide_on self.now limits wish.now }
         ensures bare { carries_bytes wish.now ≡ false → result ≡ decide_on self.now limits wish.now }

@@ -21,7 +21,7 @@ impl Tree {
         self.inodes.get(&inode)
     }
 
-    /// What the inode is, where it is present.
+    /// What the inode is; `None` if it isn't present.
     pub fn kind(&self, inode: u32) -> Option<Kind>
         ensures { result ≡ kind_in self.now inode }
     {
@@ -31,7 +31,8 @@ impl Tree {
         self.inode(inode).map(|found| found.kind)
     }
 
-    /// How many bytes it has; a directory has none.
+    /// How many bytes the inode has, 0 to 1,048,576; a directory has none. `None` if it isn't
+    /// present.
     pub fn size(&self, inode: u32) -> Option<u32>
         ensures { result ≡ size_of self.now inode }
     {
@@ -41,14 +42,15 @@ impl Tree {
         self.inode(inode).map(|found| found.size())
     }
 
-    /// Where it stands, and under which name; the root has neither.
+    /// The directory that the inode stands in, and its name there; `None` for the root, and if it
+    /// isn't present.
     pub fn parent_name(&self, inode: u32) -> Option<(u32, Name)>
         ensures { result ≡ parent_name_in self.now inode }
     {
         self.inode(inode).map(|found| (found.parent, found.name))
     }
 
-    /// The version of its newest node.
+    /// The version of the inode's newest node; `None` if it isn't present.
     pub fn newest(&self, inode: u32) -> Option<u32>
         ensures held { result ≡ unwrap_or (option_map (λ h. h.newest) (held_in self.now inode)) None }
         ensures of { (past : List Node) → self.now ≡ tree_of past → result ≡ version_of (newest past inode) }
@@ -56,7 +58,8 @@ impl Tree {
         self.inode(inode).map(|found| found.newest)
     }
 
-    /// The version of the node that wrote a place. Padding has none, and what lies past the end.
+    /// The version of the node that wrote the byte at `place`, an offset. `None` if none did: in a
+    /// hole, and past the end.
     pub fn last_writer(&self, inode: u32, place: u32) -> Option<u32>
         ensures held { result ≡ slice_index_or (writers_in self.now inode) place None }
         ensures inside { (past : List Node) → self.now ≡ tree_of past → place < size_in past inode → result ≡ version_of (origin past inode place) }
@@ -68,7 +71,8 @@ impl Tree {
         }
     }
 
-    /// Reads bytes from a place on, as many as there are and as the slice takes.
+    /// Reads bytes from an offset on, as many as there are and as the slice takes, and returns how
+    /// many. The rest of the slice stays as it is.
     pub fn read(&self, inode: u32, offset: u32, out: &mut [u8]) -> usize
         ensures count { result ≡ min (length out.old) (length (bytes_in self.now inode) - offset) }
         ensures read { out.new ≡ take result (drop offset (bytes_in self.now inode)) ++ drop result out.old }
@@ -89,9 +93,9 @@ impl Tree {
         0 < self.marks.at(version, inode)
     }
 
-    /// How often a version is live: once for each place of a present inode that it wrote last,
-    /// and once as the newest of a present inode; the greatest `u32` where that is more. The
-    /// marks are kept by `apply`, and not counted anew. Takes no memory.
+    /// How often a version is live: once for each byte of a present inode that it wrote last, and
+    /// once as the newest of a present inode; the greatest `u32` if that is more. `apply` keeps
+    /// the count, and nothing is counted anew. Takes no memory.
     pub fn marks(&self, version: u32) -> u32
         ensures held { result ≡ min (marks_in self.now version) (2 ^ 32 - 1) }
         ensures of { (past : List Node) → self.now ≡ tree_of past → result ≡ min (marks past version) (2 ^ 32 - 1) }
@@ -99,7 +103,8 @@ impl Tree {
         self.marks.total(version)
     }
 
-    /// The least live version from `first` to `last`, both included. Takes no memory.
+    /// The least live version from `first` to `last`, both included; `None` if none is. Takes no
+    /// memory.
     pub fn first_live(&self, first: u32, last: u32) -> Option<u32>
         ensures live { IfSome result (λ v. (i : ℕ) × (first ≤ v) × (v ≤ last) × (holds_version self.now i v ≡ true)) }
         ensures least { IfSome result (λ v. (w i : ℕ) → first ≤ w → w < v → holds_version self.now i w ≡ false) }
@@ -134,7 +139,7 @@ impl Tree {
         Some(inode)
     }
 
-    /// The inode at a path.
+    /// The inode at a path; `None` if there is none.
     pub fn resolve(&self, path: &Path) -> Option<u32>
         ensures { result ≡ resolve (state_in self.now) path.now }
     {

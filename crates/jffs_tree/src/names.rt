@@ -11,7 +11,9 @@ use std::alloc::AllocError;
 
 impl Tree {
     /// The names in a directory, each with its inode, by their bytes, equal names by inode.
-    /// None for what isn't a present directory. `NoMemory` if allocation failed.
+    /// None for what isn't a present directory.
+    ///
+    /// `NoMemory` if allocation failed.
     pub fn names(&self, inode: u32) -> Result<Vec<(Name, u32)>, NoMemory>
         ensures all { IfOk result (λ names. IsPermutation (names_in self.now inode) names.items) }
         ensures ordered { IfOk result (λ names. IsSorted name_cmp names.items) }

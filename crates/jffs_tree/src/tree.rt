@@ -53,9 +53,11 @@ impl Tree {
         }
     }
 
-    /// Takes in the next node. `Memory` if allocation failed, and the tree is as it was.
-    /// An unmount node changes nothing. `can_apply` says whether a node meets the conditions;
-    /// those on versions and kinds are their list's matter, and not needed here.
+    /// Takes in the next node; an unmount node changes nothing. Precondition: the node is lawful,
+    /// and moves no byte after its range. `can_apply` tests that and more; what versions and kinds
+    /// have to be is the matter of the list of nodes, and not needed here.
+    ///
+    /// `Memory` if allocation failed: nothing is changed.
     pub fn apply(&mut self, node: &Node) -> Result<(), Cause>
         requires lawful { IsTrue (is_lawful node.now) }
         requires places { IsTrue (keeps_places_in self.old node.now) }

@@ -134,7 +134,7 @@ impl Wish {
     }
 }
 
-/// What a decision has to know beside the tree.
+/// What a decision has to know besides the tree.
 #[derive(Clone, Copy, Debug, PartialEq, Eq)]
 pub struct Limits {
     /// The most bytes of data that one node carries.

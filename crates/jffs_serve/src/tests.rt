@@ -4,12 +4,14 @@ mod growths;
 mod rounds;
 mod volumes;
 
+use crate::cleaner::clean_until;
 use crate::jobs::{JobEnd, Jobs, job_ring};
-use crate::tests::rounds::{asked, cleaned_by, outcomes_of, served};
+use crate::pauses::Ended;
+use crate::tests::rounds::{asked, cleaned_by, index, outcomes_of, served};
 use crate::tests::volumes::{filled, moved};
 use jffs_core::Core;
 use jffs_flash::MemoryFlash;
-use jffs_line::LineFault;
+use jffs_line::{Ends, LineFault, shared_line};
 use jffs_tree::{Cause, Outcome};
 use std::alloc::Global;
 use std::test::Fail;
@@ -89,5 +91,35 @@ fn cleaner_hands_in_copies(rt: HostRuntime) -> Result<(), Fail> {
     ];
     assert_eq!(rt; outcomes, wanted);
     assert_eq!(rt; core.erase_dead(), Ok(1));
+    Ok(())
+}
+
+/// However many rounds it has, and though an image waits.
+#[test]
+fn a_cleaner_ends_with_the_log_thread(rt: HostRuntime) -> Result<(), Fail> {
+    let alloc = rt.alloc();
+    let core = filled(alloc)?;
+    let tree = core.tree().copy_tree()?;
+    let (_last, mut jobs) = served(&rt, alloc, core)?;
+    let (_publisher, mut reader) = index(&rt, alloc, tree)?;
+    let Ends {
+        hands,
+        taker: _taker,
+    } = shared_line(&rt, alloc, 8, 0)?;
+    let mut hand = hands.cleaner;
+    let ended = Ended::new();
+    ended.tell();
+    let rounds = u32::MAX;
+    let end = clean_until(
+        &rt,
+        alloc,
+        &mut jobs,
+        &mut reader,
+        &mut hand,
+        rounds,
+        &ended,
+    );
+    assert_eq!(rt; end.handed_in, 0);
+    assert!(rt; jobs.take().is_some());
     Ok(())
 }

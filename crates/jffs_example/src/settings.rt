@@ -1,0 +1,115 @@
+//! Settings: numbers, each in a small file of a volume.
+
+use jffs_core::Core;
+use jffs_flash::{FlashNew, MemoryFlash};
+use jffs_line::Request;
+use jffs_log::{ScanFault, ScanWhy};
+use jffs_node::{Path, PathFault, copied};
+use jffs_tree::{Cause, Outcome, Wish};
+use std::alloc::{AllocError, Global};
+use std::io;
+use thiserror::Error;
+
+/// Why settings can't be opened, looked at or set.
+#[derive(Clone, Copy, Debug, PartialEq, Eq, Error)]
+pub enum SettingFault {
+    #[error("{0}")]
+    Flash(#[from] FlashNew),
+    #[error("{0}")]
+    NoVolume(ScanWhy),
+    #[error("{0}")]
+    Key(#[from] PathFault),
+    #[error("{0}")]
+    Refused(#[from] Cause),
+    #[error("out of memory")]
+    Memory,
+    #[error("the values can't be printed")]
+    Print,
+}
+
+/// The settings on a volume. A key is a path.
+#[derive(Drop)]
+pub struct Settings {
+    alloc: Global,
+    core: Core<MemoryFlash>,
+    seq: u32,
+}
+
+impl Settings {
+    /// Mounts the volume on this flash; erased flash is an empty one.
+    pub fn open(alloc: Global, flash: MemoryFlash) -> Result<Settings, SettingFault> {
+        Ok(Settings {
+            alloc,
+            core: Core::mount(alloc, flash)?,
+            seq: 0,
+        })
+    }
+
+    /// The value of a key, if it was set.
+    pub fn get(&self, key: &str) -> Result<Option<u32>, SettingFault> {
+        let path = Path::parse(self.alloc, key)?;
+        let Some(inode) = self.core.tree().resolve(&path) else {
+            return Ok(None);
+        };
+        let mut bytes = [0; 4];
+        let count = self.core.tree().read(inode, 0, &mut bytes);
+        Ok(if count == 4 {
+            Some(u32::from_le_bytes(bytes))
+        } else {
+            None
+        })
+    }
+
+    /// Sets a key. After an error, and after a crash at any moment, it has its old value or the new one: a value is one
+    /// write, and so one record of the log.
+    pub fn set(&mut self, key: &str, value: u32) -> Result<(), SettingFault> {
+        let path = Path::parse(self.alloc, key)?;
+        if self.core.tree().resolve(&path).is_none() {
+            self.ask(Wish::Create(path.clone()?))?;
+        }
+        let bytes = copied(self.alloc, &value.to_le_bytes())?;
+        self.ask(Wish::Write {
+            path,
+            offset: 0,
+            bytes,
+        })
+    }
+
+    /// Hands a wish to the core, which has a place for its answer.
+    fn ask(&mut self, wish: Wish) -> Result<(), SettingFault> {
+        self.core.reserve_answer()?;
+        self.seq = self.seq.saturating_add(1);
+        let request = Request {
+            writer: 1,
+            seq: self.seq,
+            wish,
+        };
+        match self.core.answer(request) {
+            Outcome::Refused(cause) => Err(SettingFault::Refused(cause)),
+            _ => Ok(()),
+        }
+    }
+
+    /// The flash as it is now, without an unmount: as if the power had failed.
+    pub fn crash(self) -> MemoryFlash {
+        self.core.into_flash()
+    }
+}
+
+impl From<ScanFault<MemoryFlash>> for SettingFault {
+    fn from(fault: ScanFault<MemoryFlash>) -> SettingFault {
+        SettingFault::NoVolume(fault.why)
+    }
+}
+
+impl From<AllocError> for SettingFault {
+    fn from(_: AllocError) -> SettingFault {
+        SettingFault::Memory
+    }
+}
+
+impl From<io::Error> for SettingFault {
+    fn from(_: io::Error) -> SettingFault {
+        SettingFault::Print
+    }
+}

@@ -1,0 +1,169 @@
+-- What a store holds once bytes in memory were written through, and what may be left of a call that failed.
+use Rattle.std.proofs.Common.{◌≡◌, ℕ, zero, suc, ◌+◌, ◌*◌, ◌<◌, ◌≤◌, List, [], ◌∷◌, ◌++◌, length, take, drop, replicate, Some, refl, sym, ap, subst, ◌∙◌, arith, append_assoc, length-drop}
+use Rattle.std.specs.Prelude.{Option}
+use Rattle.std.specs.Int.Bits.{bit_and, and_self}
+use Rattle.std.proofs.lemmas.Nat.{and_assoc, and_comm}
+use Rattle.std.proofs.lemmas.List.{length-take-le, length-replicate}
+use Rattle.std.proofs.Math.Nat.{mul-le-mul_right}
+use Rattle.std.proofs.Math.Seq.{take-append_seam, drop-append_seam}
+use Rattle.jffs_flash.specs.Image.{window, replaced, both_bits, programmed, erased, erased_byte, IsBetween, AreBetween, IsHalfProgrammed, IsHalfErased}
+use Rattle.jffs_flash.proofs.Bits.{length-both_bits}
+use Rattle.jffs_file.specs.Stored.{first_part}
+
+-- a byte lies between itself and what becomes of it
+between_old : (o b : ℕ) → IsBetween o b o
+between_old o b = record {
+  only = and_self o;
+  kept = sym (and_assoc b o o) ∙ ap (λ x. bit_and x b) (and_self o);
+}
+
+-- what becomes of a byte lies between too
+between_new : (o b : ℕ) → IsBetween o b (bit_and o b)
+between_new o b = record {
+  only = ap (λ x. bit_and x o) (and_comm o b) ∙ and_assoc o b o ∙ ap (λ x. bit_and b x) (and_self o) ∙ and_comm b o;
+  kept = and_self (bit_and o b);
+}
+
+-- all bytes new
+between_all : (old bytes : List ℕ) → length old ≡ length bytes → AreBetween old bytes (both_bits old bytes)
+between_all [] [] e = tt
+between_all [] (b ∷ bytes) e = absurd (omega arith)
+between_all (o ∷ old) [] e = absurd (omega arith)
+between_all (o ∷ old) (b ∷ bytes) e = (between_new o b, between_all old bytes (omega arith))
+
+-- the first bytes new, the others old
+between_part : (count : ℕ) (old bytes : List ℕ) → length old ≡ length bytes
+    → AreBetween old bytes (first_part count (both_bits old bytes) old)
+between_part zero [] [] e = tt
+between_part (suc count) [] [] e = tt
+between_part zero [] (b ∷ bytes) e = absurd (omega arith)
+between_part (suc count) [] (b ∷ bytes) e = absurd (omega arith)
+between_part zero (o ∷ old) [] e = absurd (omega arith)
+between_part (suc count) (o ∷ old) [] e = absurd (omega arith)
+between_part zero (o ∷ old) (b ∷ bytes) e = (between_old o b, between_part zero old bytes (omega arith))
+between_part (suc count) (o ∷ old) (b ∷ bytes) e = (between_new o b, between_part count old bytes (omega arith))
+
+-- a window inside the image is as long as it says
+pub length-window : (at n : ℕ) (image : List ℕ) → at + n ≤ length image → length (window at n image) ≡ n
+length-window at n image inside =
+    let room : n ≤ length (drop at image) = omega (arith, length-drop at image) in
+    length-take-le n (drop at image) room
+
+-- what was put into the image stands there
+window-replaced : (at : ℕ) (part image : List ℕ) → at + length part ≤ length image
+    → window at (length part) (replaced at part image) ≡ part
+window-replaced at part image inside =
+    let front = take at image in
+    let back = drop (at + length part) image in
+    let long : length front ≡ at = length-take-le at image (omega arith) in
+    let cut : drop at (replaced at part image) ≡ part ++ back =
+    ap (λ (xs : List ℕ). drop at xs) (append_assoc front part back)
+    ∙ ap (λ n. drop n (front ++ (part ++ back))) (sym long)
+    ∙ drop-append_seam front (part ++ back) in
+    ap (λ (xs : List ℕ). take (length part) xs) cut ∙ take-append_seam part back
+
+-- a program that was done in memory leaves what one may leave that failed
+pub all_programmed : (at : ℕ) (bytes image : List ℕ) → at + length bytes ≤ length image
+    → IsHalfProgrammed at bytes image (programmed at bytes image)
+all_programmed at bytes image inside = record {
+  left = both_bits (window at (length bytes) image) bytes;
+  between = between_all (window at (length bytes) image) bytes (length-window at (length bytes) image inside);
+  rest = refl;
+}
+
+-- an erase that was done in memory leaves what one may leave that failed
+pub all_erased : (size sector : ℕ) (image : List ℕ) → IsHalfErased (sector * size) size image (erased size sector image)
+all_erased size sector image = record {
+  left = replicate size erased_byte;
+  long = length-replicate size erased_byte;
+  rest = refl;
+}
+
+-- these bytes were written over those of a store, if it says what it holds
+abbrev PutsAll : ℕ → List ℕ → Option (List ℕ) → Option (List ℕ) → Type 0
+PutsAll at bytes old new =
+    (image : List ℕ) → old ≡ Some image → at + length bytes ≤ length image → new ≡ Some (replaced at bytes image)
+
+-- or a first part of them
+abbrev PutsPart : ℕ → List ℕ → Option (List ℕ) → Option (List ℕ) → Type 0
+PutsPart at bytes old new =
+    (image : List ℕ) → old ≡ Some image → at + length bytes ≤ length image
+    → (count : ℕ) × (new ≡ Some (replaced at (first_part count bytes (window at (length bytes) image)) image))
+
+-- what is read from memory at the place of these bytes
+put_there : (at n : ℕ) (part image : List ℕ) → length part ≡ n → at + n ≤ length image
+    → window at n (replaced at part image) ≡ part
+put_there at n part image long inside =
+    ap (λ k. window at k (replaced at part image)) (sym long) ∙ window-replaced at part image (omega arith)
+
+-- after a write that passed the store holds what stands in memory
+pub kept_written : (place at len n : ℕ) (part image now : List ℕ) (old new : Option (List ℕ))
+    → place ≡ at → len ≡ n → length part ≡ n → at + n ≤ length image → now ≡ replaced at part image
+    → PutsAll place (window place len now) old new
+    → old ≡ Some image
+    → new ≡ Some now
+kept_written place at len n part image now old new there many long inside is over same =
+    let P : ℕ → Type 0 = λ p. PutsAll p (window p len now) old new in
+    let N : ℕ → Type 0 = λ k. PutsAll at (window at k now) old new in
+    let Q : List ℕ → Type 0 = λ xs. PutsAll at (window at n xs) old new in
+    let R : List ℕ → Type 0 = λ xs. PutsAll at xs old new in
+    let puts = subst R (put_there at n part image long inside) (subst Q is (subst N many (subst P there over))) in
+    puts image same (omega arith) ∙ ap (λ (xs : List ℕ). Some xs) (sym is)
+
+-- after one that failed it holds a first part of that
+pub left_written : (place at len n : ℕ) (part image now : List ℕ) (old new : Option (List ℕ))
+    → place ≡ at → len ≡ n → length part ≡ n → at + n ≤ length image → now ≡ replaced at part image
+    → PutsPart place (window place len now) old new
+    → old ≡ Some image
+    → (count : ℕ) × (new ≡ Some (replaced at (first_part count part (window at n image)) image))
+left_written place at len n part image now old new there many long inside is over same =
+    let P : ℕ → Type 0 = λ p. PutsPart p (window p len now) old new in
+    let N : ℕ → Type 0 = λ k. PutsPart at (window at k now) old new in
+    let Q : List ℕ → Type 0 = λ xs. PutsPart at (window at n xs) old new in
+    let R : List ℕ → Type 0 = λ xs. PutsPart at xs old new in
+    let puts = subst R (put_there at n part image long inside) (subst Q is (subst N many (subst P there over))) in
+    let some = puts image same (omega arith) in
+    (some.0, some.1 ∙ ap (λ k. Some (replaced at (first_part some.0 part (window at k image)) image)) long)
+
+-- the new bytes of a program are as many as were given
+pub length-new : (at : ℕ) (bytes image : List ℕ) → at + length bytes ≤ length image
+    → length (both_bits (window at (length bytes) image) bytes) ≡ length bytes
+length-new at bytes image inside =
+    length-both_bits (window at (length bytes) image) bytes (length-window at (length bytes) image inside)
+
+-- a first part of the new bytes is what a program may leave that failed
+pub part_programmed : (at count : ℕ) (bytes image : List ℕ) → at + length bytes ≤ length image
+    → IsHalfProgrammed at bytes image
+    (replaced at (first_part count (both_bits (window at (length bytes) image) bytes) (window at (length bytes) image)) image)
+part_programmed at count bytes image inside = record {
+  left = first_part count (both_bits (window at (length bytes) image) bytes) (window at (length bytes) image);
+  between = between_part count (window at (length bytes) image) bytes (length-window at (length bytes) image inside);
+  rest = refl;
+}
+
+-- a first part of two lists of one length is as long
+length-part : (count : ℕ) (xs ys : List ℕ) → length xs ≡ length ys → length (first_part count xs ys) ≡ length ys
+length-part zero xs ys e = refl
+length-part (suc count) [] [] e = refl
+length-part (suc count) [] (y ∷ ys) e = absurd (omega arith)
+length-part (suc count) (x ∷ xs) [] e = absurd (omega arith)
+length-part (suc count) (x ∷ xs) (y ∷ ys) e = omega (arith, length-part count xs ys (omega arith))
+
+-- a first part of the erased bytes is what an erase may leave that failed
+pub part_erased : (size sector count : ℕ) (image : List ℕ) → sector * size + size ≤ length image
+    → IsHalfErased (sector * size) size image
+    (replaced (sector * size) (first_part count (replicate size erased_byte) (window (sector * size) size image)) image)
+part_erased size sector count image inside =
+    let long = length-window (sector * size) size image inside in
+    record {
+      left = first_part count (replicate size erased_byte) (window (sector * size) size image);
+      long = length-part count (replicate size erased_byte) (window (sector * size) size image) (length-replicate size erased_byte ∙ sym long) ∙ long;
+      rest = refl;
+    }
+
+-- a sector lies inside the device
+pub sector_inside : (sector sectors size : ℕ) (image : List ℕ) → sector < sectors → length image ≡ sectors * size
+    → sector * size + size ≤ length image
+sector_inside sector sectors size image below whole =
+    let within : suc sector * size ≤ sectors * size = mul-le-mul_right size below in
+    omega (arith, within)

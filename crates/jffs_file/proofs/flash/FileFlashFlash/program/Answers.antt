@@ -1,0 +1,50 @@
+-- What stands in memory and in the store once bytes were programmed.
+use Rattle.std.proofs.Common.{ℕ, ◌+◌, List, Some, refl, sym, ap, subst, ◌∙◌, arith}
+use Rattle.jffs_flash.specs.declared.fuse.Fail.TheVariants.{Nothing}
+use Rattle.jffs_flash.specs.Device.{Device, Fails}
+use Rattle.jffs_flash.specs.Image.{window, both_bits, IsHalfProgrammed}
+use Rattle.jffs_flash.proofs.Halves.{half_programmed}
+use Rattle.jffs_file.specs.declared.flash.FileFlash.{FileFlash}
+use Rattle.jffs_file.specs.Kept.{seen_device}
+use Rattle.jffs_file.proofs.Written.{all_programmed, part_programmed, length-new, kept_written, left_written}
+use Rattle.jffs_file.proofs.flash.FileFlashFlash.program.Goals as goal
+
+pub returns-then-has_stopped-clause-device : goal.returns-then-has_stopped-clause-device
+returns-then-has_stopped-clause-device g c =
+    record { left = half_programmed Nothing c.args.at c.args.bytes.now c.args.self.now.held.image c.requires; faults = omega arith; rest = refl }
+
+pub returns-in-Ok-clause-kept : goal.returns-in-Ok-clause-kept
+returns-in-Ok-clause-kept g c = λ kept.
+    let at = c.args.at in
+    let bytes = c.args.bytes.now in
+    let image = c.args.self.now.held.image in
+    let rest = c.write_through.ensures.rest in
+    let now = ap (λ (d : Device). d.image) c.in_ok-program.ensures in
+    let same = kept_written _ at _ _ (both_bits (window at _ image) bytes) image c.program.new.self.image _ _ c.from.ensures refl (length-new at bytes image c.requires) c.requires now (c.in-Ok.ensures.written kept.sound) kept.same in
+    record {
+      sound = ap (λ (f : FileFlash g.row.S.Denot). f.faults) rest ∙ kept.sound;
+      same = same ∙ ap (λ (f : FileFlash g.row.S.Denot). Some f.held.image) (sym rest);
+    }
+
+pub returns-in-Err-clause-left : goal.returns-in-Err-clause-left
+returns-in-Err-clause-left g c = λ kept.
+    let at = c.args.at in
+    let bytes = c.args.bytes.now in
+    let image = c.args.self.now.held.image in
+    let now = ap (λ (d : Device). d.image) c.in_ok-program.ensures in
+    let same = left_written _ at _ _ (both_bits (window at _ image) bytes) image c.program.new.self.image _ _ c.from.ensures refl (length-new at bytes image c.requires) c.requires now (c.in-Err.ensures.written kept.sound) kept.same in
+    record { image = _; same = same.1; left = part_programmed at same.0 bytes image c.requires }
+
+pub returns-in-Err-clause-device : goal.returns-in-Err-clause-device
+returns-in-Err-clause-device g c =
+    let at = c.args.at in
+    let bytes = c.args.bytes.now in
+    let old = c.args.self.now in
+    let now = c.program.new.self in
+    let P : FileFlash g.row.S.Denot → Type 0 = λ f. Fails (IsHalfProgrammed at bytes old.held.image) (seen_device old.held old.faults old.erase_failed) (seen_device f.held (f.faults + 1) f.erase_failed) in
+    let Half : List ℕ → Type 0 = λ xs. IsHalfProgrammed at bytes old.held.image xs in
+    subst P (sym c.write_through.ensures.rest) (record {
+      left = subst Half (sym (ap (λ (d : Device). d.image) c.in_ok-program.ensures)) (all_programmed at bytes old.held.image c.requires);
+      faults = omega arith;
+      rest = ap (λ (d : Device). record (seen_device d (old.faults + 1) old.erase_failed) { image = now.image }) c.in_ok-program.ensures;
+    })

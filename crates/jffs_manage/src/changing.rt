@@ -1,0 +1,93 @@
+//! What is changed on a volume.
+
+use crate::fault::VolumeFault;
+use crate::looking::file_at;
+use crate::session::Session;
+use jffs_flash::Flash;
+use jffs_node::{FILE_MAX, Path, copied};
+use jffs_tree::{Cause, Wish};
+use std::alloc::Global;
+use std::io::Read;
+
+/// The name of a file that a put hasn't finished.
+const UNFINISHED: &str = ".put.new";
+
+/// Puts bytes into a file at a path, in place of one that stands there: into a new file beside it, then the old one is
+/// removed and the new one renamed. `FileLong` where no file is so long, `Reserved` where the path
+/// is that of an unfinished file, `Left` where an unfinished file stands there already, `Directory` where a directory
+/// stands at the path, `Refused` where a request was refused; then the new file is removed, if that can be.
+pub(crate) fn put<F: Flash>(
+    alloc: Global,
+    session: &mut Session<F>,
+    text: &str,
+    bytes: &[u8],
+) -> Result<(), VolumeFault> {
+    if bytes.len() > FILE_MAX as usize {
+        return Err(VolumeFault::Refused(Cause::FileLong));
+    }
+    let path = Path::parse(alloc, text)?;
+    let beside = beside(alloc, text)?;
+    if text == beside.as_str() {
+        return Err(VolumeFault::Reserved);
+    }
+    let unfinished = Path::parse(alloc, beside.as_str())?;
+    if session.tree().resolve(&unfinished).is_some() {
+        return Err(VolumeFault::Left);
+    }
+    let replaces = match file_at(session.tree(), &path) {
+        Ok(_) => true,
+        Err(VolumeFault::Nothing) => false,
+        Err(fault) => return Err(fault),
+    };
+    let written = write_file(alloc, session, &unfinished, bytes);
+    if let Err(fault) = written {
+        let _ = session.ask(Wish::Remove(unfinished));
+        return Err(fault);
+    }
+    if replaces {
+        session.ask(Wish::Remove(path.clone()?))?;
+    }
+    session.ask(Wish::Rename {
+        from: unfinished,
+        to: path,
+    })
+}
+
+/// The path of the unfinished file in the directory of a path.
+fn beside(alloc: Global, text: &str) -> Result<String, VolumeFault> {
+    let directory = match text.rsplit_once('/') {
+        Some((directory, _)) => directory,
+        None => "",
+    };
+    Ok(format!(in alloc; "{directory}/{UNFINISHED}")?)
+}
+
+/// Makes a file with these bytes, in as many writes as it takes.
+fn write_file<F: Flash>(
+    alloc: Global,
+    session: &mut Session<F>,
+    path: &Path,
+    bytes: &[u8],
+) -> Result<(), VolumeFault> {
+    session.ask(Wish::Create(path.clone()?))?;
+    let most = session.write_max().max(1) as usize;
+    let mut offset = 0u32;
+    for part in bytes.chunks(most) {
+        session.ask(Wish::Write {
+            path: path.clone()?,
+            offset,
+            bytes: copied(alloc, part)?,
+        })?;
+        offset = offset.saturating_add(part.len() as u32);
+    }
+    Ok(())
+}
+
+/// All bytes of a reader, or one more than a file may have.
+pub(crate) fn read_all<R: Read>(alloc: Global, input: &mut R) -> Result<Vec<u8>, VolumeFault> {
+    let mut bytes = Vec::new(alloc);
+    match input.take(u64::from(FILE_MAX) + 1).read_to_end(&mut bytes) {
+        Ok(_) => Ok(bytes),
+        Err(error) => Err(VolumeFault::of_input(error)),
+    }
+}

@@ -1,0 +1,147 @@
+//! What ends a command before its work is done.
+
+use jffs_file::{FileFault, StoreFault};
+use jffs_log::ScanWhy;
+use jffs_node::{NoMemory, PathFault};
+use jffs_tree::Cause;
+use std::alloc::{AllocError, AllocFailed};
+use std::io;
+use std::io::ErrorKind;
+use thiserror::Error;
+
+/// The status of a command that was done.
+pub(crate) const DONE: u8 = 0;
+/// The status where memory was lacking, or a stream or the medium failed.
+pub(crate) const BROKEN: u8 = 1;
+/// The status of a wrong call, or a file that can't be used.
+pub(crate) const MISUSED: u8 = 2;
+/// The status where no volume is in the file.
+pub(crate) const NO_VOLUME: u8 = 3;
+/// The status where the file system refused what was asked for.
+pub(crate) const REFUSED: u8 = 4;
+
+/// Why a command ends before its work is done.
+#[derive(Clone, Copy, Debug, PartialEq, Eq, Error)]
+pub enum VolumeFault {
+    /// There is no flash in the file.
+    #[error("{0}")]
+    File(FileFault),
+    /// More than one size of the sectors makes a volume of the file.
+    #[error("the file is a volume with sectors of more than one size: give --sector-size")]
+    Sizes,
+    /// No size of the sectors makes a volume of the file.
+    #[error("no volume, whatever the size of its sectors: --sector-size tells why not")]
+    NoSize,
+    /// There is no volume in the file.
+    #[error("no volume: {0}")]
+    NoVolume(ScanWhy),
+    /// A word is no path.
+    #[error("{0}")]
+    Path(PathFault),
+    /// Nothing stands at the path.
+    #[error("nothing stands at the path")]
+    Nothing,
+    /// A directory stands at the path, where a file was wanted.
+    #[error("a directory stands at the path")]
+    Directory,
+    /// A file of a put that was cut off stands in the directory.
+    #[error("a put was cut off, and left what it had in the file '.put.new' beside the path: mv it or rm it")]
+    Left,
+    /// The path is one that an unfinished put has.
+    #[error("the name '.put.new' is kept for puts that aren't finished")]
+    Reserved,
+    /// The request was refused.
+    #[error("{0}")]
+    Refused(Cause),
+    /// The medium under the file failed.
+    #[error("the file can't be brought to its medium")]
+    Medium,
+    /// Standard input can't be read.
+    #[error("standard input can't be read")]
+    Read,
+    /// Standard output can't be written.
+    #[error("standard output can't be written")]
+    Write,
+    /// Allocation failed.
+    #[error("out of memory")]
+    Memory,
+}
+
+impl VolumeFault {
+    /// The status that the program ends with.
+    pub(crate) fn status(self) -> u8 {
+        match self {
+            VolumeFault::File(FileFault::Memory | FileFault::Write) => BROKEN,
+            VolumeFault::File(_)
+            | VolumeFault::Sizes
+            | VolumeFault::Path(_)
+            | VolumeFault::Reserved => { MISUSED },
+            VolumeFault::NoSize | VolumeFault::NoVolume(_) => NO_VOLUME,
+            VolumeFault::Refused(Cause::Memory | Cause::Device | Cause::Failed) => BROKEN,
+            VolumeFault::Nothing
+            | VolumeFault::Directory
+            | VolumeFault::Left
+            | VolumeFault::Refused(_) => REFUSED,
+            VolumeFault::Medium | VolumeFault::Read | VolumeFault::Write | VolumeFault::Memory => {
+                BROKEN
+            }
+        }
+    }
+
+    /// What an error of standard input ends a command with.
+    pub(crate) fn of_input(error: io::Error) -> VolumeFault {
+        match error.kind() {
+            ErrorKind::OutOfMemory => VolumeFault::Memory,
+            _ => VolumeFault::Read,
+        }
+    }
+}
+
+/// An error of standard output.
+impl From<io::Error> for VolumeFault {
+    fn from(error: io::Error) -> VolumeFault {
+        match error.kind() {
+            ErrorKind::OutOfMemory => VolumeFault::Memory,
+            _ => VolumeFault::Write,
+        }
+    }
+}
+
+impl From<FileFault> for VolumeFault {
+    fn from(fault: FileFault) -> VolumeFault {
+        VolumeFault::File(fault)
+    }
+}
+
+impl From<PathFault> for VolumeFault {
+    fn from(fault: PathFault) -> VolumeFault {
+        match fault {
+            PathFault::Memory => VolumeFault::Memory,
+            _ => VolumeFault::Path(fault),
+        }
+    }
+}
+
+impl From<StoreFault> for VolumeFault {
+    fn from(_: StoreFault) -> VolumeFault {
+        VolumeFault::Medium
+    }
+}
+
+impl From<NoMemory> for VolumeFault {
+    fn from(_: NoMemory) -> VolumeFault {
+        VolumeFault::Memory
+    }
+}
+
+impl From<AllocError> for VolumeFault {
+    fn from(_: AllocError) -> VolumeFault {
+        VolumeFault::Memory
+    }
+}
+
+impl<T: Drop> From<AllocFailed<T>> for VolumeFault {
+    fn from(_: AllocFailed<T>) -> VolumeFault {
+        VolumeFault::Memory
+    }
+}

@@ -6,11 +6,14 @@ use crate::printing::{print_answers, print_readers, print_served};
 use crate::reading::{InputFault, read_whole};
 use crate::threads::run_threads;
 use crate::writer::NoGate;
-use jffs_flash::{FlashNew, MemoryFlash};
+use jffs_file::{FileFault, create_image, open_image};
+use jffs_flash::{Flash, FlashNew, MemoryFlash};
 use jffs_log::{Mounted, ScanFault, scan};
 use jffs_text::{DumpFault, Script, ScriptFault, dump};
+use std::alloc::Global;
 use std::io;
 use std::io::{Read, Write};
+use std::rt::Files;
 use std::sync::Wait;
 use std::thread::Threads;
 
@@ -23,6 +26,8 @@ enum Fault {
     Run(RunWhy),
     /// The line `fault: WHY`, status 1.
     Other(&'static str),
+    /// A line on standard error, status 1: there is no flash in the file.
+    File(FileFault),
 }
 
 impl From<io::Error> for Fault {
@@ -49,6 +54,29 @@ pub fn run_program<Rt: AllocGlobal + Threads + Wait + Sync, R: Read, W: Write>(
     }
 }
 
+/// Runs the script that a reader gives as `run_program` does, on the volume in a file, which is made, erased, where
+/// there is none; its sectors are those of the script. Gives the same exit status, and 1 after a line on `errors` where
+/// the file can't be used.
+pub fn run_program_on_file<
+    Rt: AllocGlobal + Files<File: Send> + Threads + Wait + Sync,
+    R: Read,
+    W: Write,
+    E: Write,
+>(rt: &Rt, path: &str, input: &mut R, out: &mut W, errors: &mut E) -> u8 {
+    match run_script_on_file(rt, path, input, out) {
+        Ok(()) => 0,
+        Err(Fault::File(fault)) => {
+            let _ = writeln!(errors, "jffs: {path}: {fault}");
+            1
+        }
+        Err(fault) => {
+            let status = tell(&fault, out);
+            let _ = out.flush();
+            status
+        }
+    }
+}
+
 fn tell<W: Write>(fault: &Fault, out: &mut W) -> u8 {
     match fault {
         Fault::Script(fault) => {
@@ -63,6 +91,7 @@ fn tell<W: Write>(fault: &Fault, out: &mut W) -> u8 {
             let _ = writeln!(out, "fault: {why}");
             1
         }
+        Fault::File(_) => 1,
     }
 }
 
@@ -73,10 +102,43 @@ fn run_script<Rt: AllocGlobal + Threads + Wait + Sync, R: Read, W: Write>(
     out: &mut W,
 ) -> Result<(), Fault> {
     let alloc = rt.alloc();
-    let text = read_whole(alloc, input).map_err(input_fault)?;
-    let script = Script::parse(alloc, &text).map_err(Fault::Script)?;
+    let script = read_script(alloc, input)?;
     let flash = MemoryFlash::new(alloc, script.sectors, script.sector_size).map_err(flash_fault)?;
-    let run = run_threads(rt, alloc, &script, flash, &NoGate).map_err(run_fault)?;
+    run_on(rt, &script, flash, out)
+}
+
+fn read_script<R: Read>(alloc: Global, input: &mut R) -> Result<Script, Fault> {
+    let text = read_whole(alloc, input).map_err(input_fault)?;
+    Script::parse(alloc, &text).map_err(Fault::Script)
+}
+
+/// The same on the flash in a file.
+fn run_script_on_file<
+    Rt: AllocGlobal + Files<File: Send> + Threads + Wait + Sync,
+    R: Read,
+    W: Write,
+>(rt: &Rt, path: &str, input: &mut R, out: &mut W) -> Result<(), Fault> {
+    let script = read_script(rt.alloc(), input)?;
+    let image = match open_image(rt, path) {
+        Err(FileFault::Missing) => create_image(rt, path, script.sectors, script.sector_size),
+        opened => opened,
+    };
+    let flash = image
+        .map_err(Fault::File)?
+        .into_flash(script.sectors, script.sector_size)
+        .map_err(Fault::File)?;
+    run_on(rt, &script, flash, out)
+}
+
+/// Runs a script on a device, which may hold a volume already, and writes what became of it.
+fn run_on<Rt: AllocGlobal + Threads + Wait + Sync, F: Flash + Send + Drop, W: Write>(
+    rt: &Rt,
+    script: &Script,
+    flash: F,
+    out: &mut W,
+) -> Result<(), Fault> {
+    let alloc = rt.alloc();
+    let run = run_threads(rt, alloc, script, flash, &NoGate).map_err(run_fault)?;
     let Run {
         accepted: _,
         answers,

@@ -1,4 +1,4 @@
-"""Kills jffs_volume with SIGKILL at random moments, and reads with the second reader what its file holds then."""
+"""Kills jffs_volume and jffs with SIGKILL at random moments, and reads with the second reader what the file holds then."""
 import random
 import signal
 import subprocess
@@ -12,6 +12,7 @@ WRITE_MAX = SIZE // 4 - 64
 UNFINISHED = "/.put.new"
 NAMES = ["/a", "/b", "/c", "/d"]
 SESSIONS, COMMANDS = 8, 60
+SCRIPTS, LINES = 200, 300
 READER = TOP / "tools/read_volume.py"
 
 
@@ -41,14 +42,7 @@ class Session:
         return process.wait(20)
 
     def read(self):
-        """The files on the volume, as the second reader finds them; None where it finds no volume."""
-        with self.image.open("rb") as image:
-            seen = subprocess.run([sys.executable, str(READER), str(SECTORS), str(SIZE)], stdin=image,
-                                  capture_output=True, text=True, check=False)
-        if seen.returncode:
-            return None
-        lines = [line.split(" ") for line in seen.stdout.splitlines() if line.startswith("f ")]
-        return {path: bytes.fromhex("" if text == "-" else text) for _, path, _, text in lines}
+        return read(self.image)
 
     def choose(self):
         """A command with its words, its data, and the files once it is done."""
@@ -98,6 +92,80 @@ class Session:
         return None if status == 0 and self.read() == self.files else f"an unfinished file stays: status {status}"
 
 
+def read(path):
+    """The files on the volume in a file, as the second reader finds them; None where it finds no volume."""
+    with path.open("rb") as image:
+        seen = subprocess.run([sys.executable, str(READER), str(SECTORS), str(SIZE)], stdin=image,
+                              capture_output=True, text=True, check=False)
+    if seen.returncode:
+        return None
+    lines = [line.split(" ") for line in seen.stdout.splitlines() if line.startswith("f ")]
+    return {path: bytes.fromhex("" if text == "-" else text) for _, path, _, text in lines}
+
+
+def script(seed):
+    """A script of one writer, and the files after each first part of its commands."""
+    draw, lines = random.Random(seed), [f"volume {SECTORS} {SIZE}", *["cleaner 1000"] * (seed % 2), "writer"]
+    files, after = {}, [{}]
+    for _ in range(LINES):
+        have, free = sorted(files), [name for name in NAMES if name not in files]
+        kind = draw.choice((["write"] * 6 + ["remove"] + ["rename"] * bool(free)) * bool(have) + ["create"] * bool(free))
+        target = draw.choice(free if kind == "create" else have)
+        content = b"" if kind == "create" else files.pop(target)
+        words = [kind, target]
+        if kind == "write":
+            data = draw.randbytes(draw.randint(1, 150))
+            words += ["0", data.hex()]
+            files[target] = data + content[len(data):]
+        elif kind == "rename":
+            words.append(draw.choice(free))
+            files[words[-1]] = content
+        elif kind == "create":
+            files[target] = content
+        lines.append(" ".join(words))
+        after.append(dict(files))
+    return "\n".join(lines) + "\n", after
+
+
+def run_script(runner, program, seed, seconds=None):
+    """Runs a script on a new volume and kills it; whether it was killed, how long it ran, and why what is left is wrong,
+    or None."""
+    text, after = script(seed)
+    image, written = (runner.folder / f"script.{seed}.{end}" for end in ("image", "script"))
+    written.write_text(text)
+    started = time.monotonic()
+    with written.open() as given:
+        process = subprocess.Popen([str(program), "--volume", str(image)], stdin=given, stdout=subprocess.DEVNULL,
+                                   stderr=subprocess.DEVNULL)
+    if seconds is not None:
+        time.sleep(random.Random(-seed).uniform(0.2, 1.3) * seconds)
+        process.kill()
+    status, spent = process.wait(60), time.monotonic() - started
+    if status not in (0, -signal.SIGKILL):
+        return False, spent, f"status {status}"
+    if not image.exists():
+        return status != 0, spent, None if status else "no file was made"
+    found = read(image)
+    if status == 0:
+        after = after[-1:]
+    return status != 0, spent, None if found in after else f"{found and sorted(found)} is left by a script"
+
+
+def kill_scripts(runner):
+    program = runner.program("jffs")
+    if not program:
+        return
+    _, seconds, why = run_script(runner, program, 0)
+    runner.tally.add("script 0, not killed", why)
+
+    def play(seed):
+        killed, _, why = run_script(runner, program, seed, seconds)
+        runner.tally.add(f"script {seed} killed", why)
+        runner.tally.count("jffs --volume", killed)
+
+    runner.each(range(1, SCRIPTS // runner.options.thin + 1), play)
+
+
 def is_part(some, data):
     """Whether so many whole writes of the data were done, or all."""
     return data.startswith(some) and (len(some) == len(data) or len(some) % WRITE_MAX == 0)
@@ -120,4 +188,5 @@ def kills(runner):
         runner.tally.count("jffs_volume", session.killed)
 
     runner.each(range(SESSIONS), play)
+    kill_scripts(runner)
     runner.tally.tell("commands killed", "sessions")

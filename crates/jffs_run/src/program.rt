@@ -6,12 +6,14 @@ use crate::printing::{print_answers, print_readers, print_served};
 use crate::reading::{InputFault, read_whole};
 use crate::threads::run_threads;
 use crate::writer::NoGate;
-use jffs_flash::{FlashNew, MemoryFlash};
+use jffs_file::{FileFault, create_image, open_image};
+use jffs_flash::{Flash, FlashNew, MemoryFlash};
 use jffs_log::{Mounted, ScanFault, scan};
 use jffs_text::{DumpFault, Script, ScriptFault, dump};
 use std::alloc::Global;
 use std::io;
 use std::io::{Read, Write};
+use std::rt::Files;
 use std::sync::Wait;
 use std::thread::Threads;
 
@@ -24,6 +26,8 @@ enum Fault {
     Run(RunWhy),
     /// The line `fault: WHY`, status 1.
     Other(&'static str),
+    /// A line on standard error, status 1: there is no flash in the file.
+    File(FileFault),
 }
 
 impl From<io::Error> for Fault {
@@ -52,6 +56,29 @@ pub fn run_program<Rt: AllocGlobal + Threads + Wait + Sync, R: Read, W: Write>(
     }
 }
 
+/// Runs the script that a reader gives as `run_program` does, on the volume in a file, which is made, erased, where
+/// there is none; its sectors are those of the script. Gives the same exit status, and 1 after a line on `errors` where
+/// the file can't be used.
+pub fn run_program_on_file<
+    Rt: AllocGlobal + Files<File: Send> + Threads + Wait + Sync,
+    R: Read,
+    W: Write,
+    E: Write,
+>(rt: &Rt, path: &str, input: &mut R, out: &mut W, errors: &mut E) -> u8 {
+    match run_script_on_file(rt, path, input, out) {
+        Ok(()) => 0,
+        Err(Fault::File(fault)) => {
+            let _ = writeln!(errors, "jffs: {path}: {fault}");
+            1
+        }
+        Err(fault) => {
+            let status = tell(&fault, out);
+            let _ = out.flush();
+            status
+        }
+    }
+}
+
 fn tell<W: Write>(fault: &Fault, out: &mut W) -> u8 {
     match fault {
         Fault::Script(fault) => {
@@ -66,6 +93,7 @@ fn tell<W: Write>(fault: &Fault, out: &mut W) -> u8 {
             let _ = writeln!(out, "fault: {why}");
             1
         }
+        Fault::File(_) => 1,
     }
 }
 
@@ -76,6 +104,37 @@ fn run_script<Rt: AllocGlobal + Threads + Wait + Sync, R: Read, W: Write>(
     out: &mut W,
 ) -> Result<(), Fault> {
     let alloc = rt.alloc();
+    let script = read_script(alloc, input)?;
+    let flash = MemoryFlash::new(alloc, script.sectors, script.sector_size).map_err(flash_fault)?;
+    run_on(rt, script, flash, out)
+}
+
+/// The same on the flash in a file.
+fn run_script_on_file<
+    Rt: AllocGlobal + Files<File: Send> + Threads + Wait + Sync,
+    R: Read,
+    W: Write,
+>(rt: &Rt, path: &str, input: &mut R, out: &mut W) -> Result<(), Fault> {
+    let script = read_script(rt.alloc(), input)?;
+    let image = match open_image(rt, path) {
+        Err(FileFault::Missing) => create_image(rt, path, script.sectors, script.sector_size),
+        opened => opened,
+    };
+    let flash = image
+        .map_err(Fault::File)?
+        .into_flash(script.sectors, script.sector_size)
+        .map_err(Fault::File)?;
+    run_on(rt, script, flash, out)
+}
+
+/// Runs a script on a device, which may hold a volume already, and writes what became of it.
+fn run_on<Rt: AllocGlobal + Threads + Wait + Sync, F: Flash + Send + Drop, W: Write>(
+    rt: &Rt,
+    script: Script,
+    flash: F,
+    out: &mut W,
+) -> Result<(), Fault> {
+    let alloc = rt.alloc();
     let Run {
         accepted: _,
         answers,
@@ -83,7 +142,7 @@ fn run_script<Rt: AllocGlobal + Threads + Wait + Sync, R: Read, W: Write>(
         readers,
         served,
         flash,
-    } = run_input(rt, input)?;
+    } = run_once(rt, script, flash)?;
     let Mounted {
         log: _,
         tree,
@@ -99,15 +158,13 @@ fn run_script<Rt: AllocGlobal + Threads + Wait + Sync, R: Read, W: Write>(
     Ok(())
 }
 
-/// Runs the script that a reader gives, which isn't kept.
-fn run_input<Rt: AllocGlobal + Threads + Wait + Sync, R: Read>(
+/// Runs a script, which isn't kept.
+fn run_once<Rt: AllocGlobal + Threads + Wait + Sync, F: Flash + Send + Drop>(
     rt: &Rt,
-    input: &mut R,
-) -> Result<Run<MemoryFlash>, Fault> {
-    let alloc = rt.alloc();
-    let script = read_script(alloc, input)?;
-    let flash = MemoryFlash::new(alloc, script.sectors, script.sector_size).map_err(flash_fault)?;
-    run_threads(rt, alloc, &script, flash, &NoGate).map_err(run_fault)
+    script: Script,
+    flash: F,
+) -> Result<Run<F>, Fault> {
+    run_threads(rt, rt.alloc(), &script, flash, &NoGate).map_err(run_fault)
 }
 
 /// The script that a reader gives. Its text isn't kept.

@@ -15,8 +15,11 @@ from script_judge import Script, Wrong
 DATA = TOP / "crates/jffs_replay/data"
 # Seconds within which a run whose allocations all fail from one on has to end.
 SOON = 2
-# Tests that bear each refusal: they pass, or give up with an error that tells of memory.
-STEADFAST = re.compile(r"jffs_(tree|flash|node|line) |jffs_core tests::refusals::")
+# Tests that bear each refusal: they pass, or give up with an error that tells of memory. The one of jffs_line that is
+# left out compares errors, of which Memory is one.
+STEADFAST = re.compile(r"jffs_(tree|flash|node) |jffs_line (?!tests::a_line_refuses_)|jffs_core tests::refusals::")
+# Where an assertion of a test's own has stopped it.
+STOPPED = re.compile(r"test stopped at src/\w*tests[./]")
 GAVE_UP = re.compile(r"\Aerror: [^\n]*(memory|AllocError)[^\n]*\nthe test failed: its result", re.IGNORECASE)
 FUSES = [(which, what) for which in ("Writes", "All") for what in ("Nothing", "Half")]
 MOST_CALLS = 5000
@@ -79,7 +82,7 @@ def judge_test(ran, steadfast):
     text = ran.out + ran.errors
     if ran.status == 0 or ran.refused and ran.status == 101 and GAVE_UP.search(text):
         return None
-    ran.asserted = ran.status == 101 or ran.status == -signal.SIGABRT and "assertion" in ran.errors
+    ran.asserted = ran.status == 101 or ran.status == -signal.SIGABRT and bool(STOPPED.search(ran.out))
     if ran.refused and ran.asserted and not steadfast:
         return None
     return ran.crash() or f"status {ran.status}: {text[-300:]!r}"

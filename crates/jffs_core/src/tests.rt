@@ -10,7 +10,9 @@ mod sweeps;
 mod wishes;
 
 use crate::answer::Answer;
-use crate::tests::images::{TRUNCATED, WRITTEN_BEHIND, image_of_last_version, image_of_old_form};
+use crate::tests::images::{
+    TRUNCATED, WRITTEN_BEHIND, WRITTEN_NOTHING, image_of_last_version, image_of_old_form,
+};
 use crate::tests::session::{Session, holds};
 use jffs_flash::MemoryFlash;
 use jffs_tree::{Cause, Outcome};
@@ -106,6 +108,7 @@ fn old_form_volume_goes_on(rt: HostRuntime) -> Result<(), Fail> {
     let image = session.image()?;
     holds(&rt, &image, 200, WRITTEN_BEHIND.as_slice());
     holds(&rt, &image, 284, TRUNCATED.as_slice());
+    holds(&rt, &image, 332, WRITTEN_NOTHING.as_slice());
     Ok(())
 }
 

@@ -282,7 +282,7 @@ fn a_torn_tail_is_not_clean_and_has_no_room(rt: HostRuntime) -> Result<(), TestF
                 (1, 0, 200, 0)
             );
         }
-        Err(fault) => assert_eq!(rt; fault.why, ScanWhy::Memory),
+        Err(fault) => panic!(rt; "{}", fault.why),
     }
     Ok(())
 }
@@ -298,7 +298,7 @@ fn a_failed_read_hands_the_device_back(rt: HostRuntime) -> Result<(), TestFail> 
             match scan(rt.alloc(), fused) {
                 Ok(_) => panic!(rt; "mounted after {calls} reads"),
                 Err(ScanFault { why, flash }) => {
-                    assert!(rt; why == ScanWhy::Device || why == ScanWhy::Memory);
+                    assert_eq!(rt; why, ScanWhy::Device);
                     assert_eq!(rt; flash.into_inner().bytes(), old_image(&rt)?.as_slice());
                 }
             }

@@ -86,7 +86,11 @@ impl Path {
             let (first, behind) = split_first_name(text);
             let name = name_of(first)?;
             if names.len() < PATH_DEPTH_MAX {
-                names.push(name)?;
+                // Most paths are short and kept for long, so no memory is taken ahead.
+                if names.reserve_exact(1).is_err() {
+                    return Err(PathFault::Memory);
+                }
+                names.push_reserved(name);
             } else {
                 deep = true;
             }

@@ -7,6 +7,7 @@ mod threads;
 use crate::{NoGate, run_program, run_threads};
 use jffs_flash::MemoryFlash;
 use jffs_text::Script;
+use std::alloc::Global;
 use std::io;
 use std::io::{Read, Write};
 use std::process::Abort;
@@ -155,20 +156,15 @@ fn bad_scripts(rt: HostRuntime) -> Result<(), Fail> {
 }
 
 /// A file that grows by 192 bytes ten times.
-const FILLS: &str = "volume 6 1024
-writer
-create /f
-fill /f 0 192 61
-fill /f 192 192 61
-fill /f 384 192 61
-fill /f 576 192 61
-fill /f 768 192 61
-fill /f 960 192 61
-fill /f 1152 192 61
-fill /f 1344 192 61
-fill /f 1536 192 61
-fill /f 1728 192 61
-";
+fn ten_writes(alloc: Global) -> Result<String, Fail> {
+    let bytes = "61".repeat(alloc, 192)?;
+    let mut script = format!(in alloc; "volume 6 1024\nwriter\ncreate /f\n")?;
+    for k in 0..10u32 {
+        let line = format!(in alloc; "write /f {} {bytes}\n", k * 192)?;
+        script.push_str(&line)?;
+    }
+    Ok(script)
+}
 
 /// Without cleaning there is room for the create and nine writes, and none for the tenth.
 const FILLED: &str = "1.1 appended
@@ -191,7 +187,7 @@ f /f 1728 ";
 fn fills_without_cleaning(rt: HostRuntime) -> Result<(), Fail> {
     let bytes = "61".repeat(rt.alloc(), 1728)?;
     let wanted = format!(in rt.alloc(); "{FILLED}{bytes}\n")?;
-    prints(&rt, FILLS, wanted.as_str())
+    prints(&rt, ten_writes(rt.alloc())?.as_str(), wanted.as_str())
 }
 
 /// A reader that fails at once.

@@ -58,8 +58,8 @@ fn jobs_reach_the_cleaner(rt: HostRuntime) -> Result<(), Fail> {
         Outcome::Closed,
     ];
     assert_eq!(rt; last, outcomes);
-    let found = asked(&rt, alloc, tree, end)?;
-    assert_eq!(rt; found, [(1, 2), (2, 3), (3, 4)]);
+    let copies = cleaned_by(&rt, alloc, 4, tree, end)?;
+    assert_eq!(rt; asked(&copies)?, [(1, 2), (2, 3), (3, 4)]);
     Ok(())
 }
 
@@ -82,7 +82,8 @@ fn cleaner_hands_in_copies(rt: HostRuntime) -> Result<(), Fail> {
         .ok_or("it mounts")?;
     let end = with_job(alloc, &mut second)?;
     let mut core = moved(alloc)?;
-    let copies = cleaned_by(&rt, alloc, core.tree().copy_tree()?, end)?;
+    let copies = cleaned_by(&rt, alloc, 8, core.tree().copy_tree()?, end)?;
+    assert_eq!(rt; asked(&copies)?, [(1, 1), (2, 3), (3, 4)]);
     let outcomes = outcomes_of(&mut core, copies)?;
     let wanted = [
         Outcome::Copied { version: 9 },

@@ -32,10 +32,15 @@ fn copies_never_clean(rt: HostRuntime) -> Result<(), Fail> {
     for source in 1..45 {
         copies_again(&rt, &mut session, source)?;
     }
+    for sector in 0..3 {
+        assert_eq!(rt; session.records_in(sector), 15);
+    }
+    let full = session.image_now()?;
+    session.play(&rt, "copy 45 f 0 - : refused NoSpace")?;
+    assert!(rt; session.image_now()? == full);
     session.play(
         &rt,
-        "copy 45 f 0 - : refused NoSpace
-         copy 45 f 0 193*\0 : refused DataLong
+        "copy 45 f 0 193*\0 : refused DataLong
          copy 0 f 0 - : refused NotNeeded
          copy 44 f 0 - : refused NotNeeded
          copy 45 f 1 - : refused Stale

@@ -36,6 +36,13 @@ pub(super) const WRITTEN_BEHIND: [u8; 68] = [
 /// Version, offset, data length and removed length of the truncation after it.
 pub(super) const TRUNCATED: [u8; 20] = [0, 0, 0, 5, 0, 0, 0, 9, 0, 0, 0, 0, 0, 0, 0, 0, 0, 1, 0, 2];
 
+/// The record of a write of no bytes at the file's end, the fifth request.
+pub(super) const WRITTEN_NOTHING: [u8; 64] = [
+    0x4A, 0x46, 0x46, 0x31, 1, 0, 1, 0, 0, 0, 0, 2, 0, 0, 0, 1, 0, 0, 0, 6, 0, 0, 0, 12, 0, 0, 0,
+    0, 0, 0, 0, 0, 0, 1, 0, 2, 0, 0, 0, 5, 0, 0, 0, 12, 0x66, 0, 0, 0, 0, 0, 0, 0, 0, 0, 0, 0, 0,
+    0, 0, 0, 0, 0, 0, 0,
+];
+
 /// An erased volume with these bytes at these places.
 fn image_of(
     alloc: Global,

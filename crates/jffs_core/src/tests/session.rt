@@ -81,6 +81,21 @@ impl<F: Flash + Drop> Session<F> {
         assert_eq!(rt; &out[..count], bytes);
     }
 
+    /// All bytes of a file; none where there is none.
+    pub(super) fn whole(&self, inode: u32) -> Result<Vec<u8>, Fail> {
+        let tree = self.core.tree();
+        let size = tree.size(inode).unwrap_or(0) as usize;
+        let mut bytes = vec![in self.alloc; 0xFFu8; size]?;
+        tree.read(inode, 0, &mut bytes);
+        Ok(bytes)
+    }
+
+    /// How many records stand in a sector.
+    pub(super) fn records_in(&self, sector: u32) -> usize {
+        let records = self.core.log().records().iter();
+        records.filter(|kept| kept.sector == sector).count()
+    }
+
     /// How many sectors are erased.
     pub(super) fn erased_sectors(&self) -> Option<u32> {
         if self.core.failed() {
@@ -149,6 +164,13 @@ impl Session<MemoryFlash> {
     pub(super) fn remounted(self) -> Result<Session<MemoryFlash>, Fail> {
         let alloc = self.alloc;
         Session::over(alloc, self.into_flash())
+    }
+
+    /// The bytes of the device as they are now.
+    pub(super) fn image_now(&self) -> Result<Vec<u8>, Fail> {
+        let mut image = Vec::new(self.alloc);
+        image.extend_from_slice(self.core.log().flash().bytes())?;
+        Ok(image)
     }
 
     /// The bytes of the device.

@@ -4,6 +4,8 @@ use crate::mounted::Core;
 use crate::tests::session::{SECTOR_SIZE, Session};
 use jffs_flash::{Fail as FuseFail, Flash, FuseFlash, Fused, MemoryFlash};
 use jffs_log::ScanWhy;
+use jffs_node::{Kind, Name, ROOT_INODE};
+use jffs_tree::Tree;
 use std::alloc::Global;
 use std::process::Abort;
 use std::test::Fail;
@@ -26,31 +28,64 @@ pub(super) const FILLING: &str = "create /f
      remove /f";
 
 /// A file that is renamed, and another that is written over and over.
-pub(super) const RENAMING: &str = "create /a
-     write /a 0 hello
-     rename /a /b
+pub(super) const RENAMING: &str = "mkdir /d
+     create /d/a
+     write /d/a 0 hello
+     rename /d/a /d/b
      create /z
      write /z 0 192*a
      write /z 0 192*a
      write /z 0 192*a";
 
-/// Answers the wishes and cleans a sector, until the device fails; gives the size of inode 2 before
-/// the first request and after each that was answered by a device that works.
-fn sizes_of<F: Flash + Drop>(
-    session: &mut Session<F>,
-    run: &str,
-) -> Result<Vec<Option<u32>>, Fail> {
-    let mut sizes = Vec::new(session.alloc);
-    sizes.push(session.core.tree().size(2))?;
+/// What stands at a name: the name, and of a file the bytes.
+fn show(
+    alloc: Global,
+    tree: &Tree,
+    name: &Name,
+    inode: u32,
+    out: &mut Vec<u8>,
+) -> Result<(), Fail> {
+    out.extend_from_slice(name.bytes())?;
+    out.push(if tree.kind(inode) == Some(Kind::File) {
+        b' '
+    } else {
+        b'/'
+    })?;
+    let size = tree.size(inode).unwrap_or(0) as usize;
+    let mut bytes = vec![in alloc; 0u8; size]?;
+    tree.read(inode, 0, &mut bytes);
+    out.extend_from_slice(&bytes)?;
+    out.push(b'\n')?;
+    Ok(())
+}
+
+/// All names and bytes of a tree whose directories stand in the root.
+fn shown(alloc: Global, tree: &Tree) -> Result<Vec<u8>, Fail> {
+    let mut out = Vec::new(alloc);
+    for (name, inode) in tree.names(ROOT_INODE)?.iter() {
+        show(alloc, tree, name, *inode, &mut out)?;
+        for (below, found) in tree.names(*inode)?.iter() {
+            show(alloc, tree, below, *found, &mut out)?;
+        }
+    }
+    Ok(out)
+}
+
+/// Answers the wishes and cleans a sector, until the device fails; gives the tree before the first
+/// request and after each that was answered by a device that works.
+fn trees_of<F: Flash + Drop>(session: &mut Session<F>, run: &str) -> Result<Vec<Vec<u8>>, Fail> {
+    let alloc = session.alloc;
+    let mut trees = Vec::new(alloc);
+    trees.push(shown(alloc, session.core.tree())?)?;
     for line in run.lines() {
         session.ask(line)?;
         if session.core.failed() {
-            return Ok(sizes);
+            return Ok(trees);
         }
-        sizes.push(session.core.tree().size(2))?;
+        trees.push(shown(alloc, session.core.tree())?)?;
     }
     let _ = session.core.clean_oldest();
-    Ok(sizes)
+    Ok(trees)
 }
 
 /// What a device holds whose fuse blew after so many calls, beside how many requests were answered
@@ -73,17 +108,17 @@ fn blow(alloc: Global, run: &str, fuse: FuseFlash) -> Result<Option<Blown>, Fail
         Err(_) => return Err("another refusal than the device's".into()),
     };
     let mut session = Session::of(alloc, core);
-    let sizes = sizes_of(&mut session, run)?;
+    let trees = trees_of(&mut session, run)?;
     if !session.core.failed() {
         return Ok(None);
     }
     Ok(Some(Blown {
-        answered: sizes.len().saturating_sub(1),
+        answered: trees.len().saturating_sub(1),
         left: session.into_flash().into_inner(),
     }))
 }
 
-/// Whatever call fails, a mount finds the file before or after the request in hand.
+/// Whatever call fails, a mount finds the tree before or after the request in hand.
 fn sweep(
     rt: &impl Abort,
     alloc: Global,
@@ -91,19 +126,15 @@ fn sweep(
     fused: Fused,
     fail: FuseFail,
 ) -> Result<(), Fail> {
-    let sizes = sizes_of(&mut Session::erased(alloc, 6)?, run)?;
+    let trees = trees_of(&mut Session::erased(alloc, 6)?, run)?;
     for calls in 0..MOST_CALLS {
         let fuse = FuseFlash::new(MemoryFlash::new(alloc, 6, SECTOR_SIZE)?, calls, fused, fail);
         let Some(Blown { answered, left }) = blow(alloc, run, fuse)? else {
             return Ok(());
         };
-        let found = Session::over(alloc, left)?.core.tree().size(2);
-        let before = sizes.get(answered).copied();
-        let after = sizes.get(answered.saturating_add(1)).copied();
-        assert!(rt;
-            before == Some(found) || after == Some(found),
-            "{calls} calls"
-        );
+        let found = shown(alloc, Session::over(alloc, left)?.core.tree())?;
+        let mut around = trees.iter().skip(answered).take(2);
+        assert!(rt; around.any(|tree| *tree == found), "{calls} calls");
     }
     Err("the fuse always blew".into())
 }

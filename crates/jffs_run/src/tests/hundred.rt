@@ -1,12 +1,12 @@
 //! The same scripts again and again, each run held against plain counting.
 
-use crate::{NoGate, Served, run_threads};
+use crate::{NoGate, ReaderEnd, Served, run_threads};
 use jffs_core::Answer;
 use jffs_flash::MemoryFlash;
 use jffs_line::Request;
 use jffs_log::scan;
 use jffs_text::{Script, dump};
-use jffs_tree::Outcome;
+use jffs_tree::{Cause, Outcome};
 use std::alloc::Global;
 use std::io::Write;
 use std::process::Abort;
@@ -26,6 +26,10 @@ const TIMES: u32 = 50;
 
 /// The highest number of a sender: the control's.
 const LAST_SENDER: usize = 10;
+
+/// How many of the writers' nodes find room in any order: each weighs at most 68 bytes, and below
+/// 1,408 bytes of live records no request is refused for room on 6 sectors of 1,024 bytes.
+const SURE: u32 = 20;
 
 /// A file as a plain fold over the appended commands has it.
 #[derive(Drop)]
@@ -203,6 +207,26 @@ fn check_order(answers: &[Answer]) -> Result<(), Fail> {
     Ok(())
 }
 
+/// The first nodes all find room; the one name that is taken is that of the shared file, and only
+/// a cleaner's copies may be superfluous.
+fn check_granted(answers: &[Answer]) -> Result<(), Fail> {
+    let mut granted = 0u32;
+    for answer in answers {
+        match answer.outcome {
+            Outcome::Appended { .. } => granted = granted.saturating_add(1),
+            Outcome::Copied { .. } | Outcome::Closed => {}
+            Outcome::Refused(_) if answer.writer == 9 => {}
+            Outcome::Refused(Cause::NameTaken) if answer.seq == 1 && granted >= 1 => {}
+            Outcome::Refused(Cause::NoSpace | Cause::NotFound) if granted >= SURE => {}
+            Outcome::Refused(_) => return Err("a request was refused without need".into()),
+        }
+    }
+    if granted < SURE {
+        return Err("too few requests were granted".into());
+    }
+    Ok(())
+}
+
 fn run_once<Rt: Abort + AllocGlobal + Threads + Wait + Sync>(
     rt: &Rt,
     script: &Script,
@@ -213,10 +237,17 @@ fn run_once<Rt: Abort + AllocGlobal + Threads + Wait + Sync>(
     let run = run.map_err(|fault| fault.why)?;
     assert_eq!(rt; run.served, Served::Closed);
     assert_eq!(rt; run.readers.len(), READERS as usize);
+    assert!(rt;
+        run.readers
+            .iter()
+            .all(|end| matches!(end, ReaderEnd::Bytes(_)))
+    );
+    check_granted(&run.answers)?;
     check_order(&run.answers)?;
     check_counts(&counts_of(alloc, &run.answers, &run.waiting)?)?;
     let wanted = dump_of(alloc, &files_after(alloc, &run.answers)?)?;
     let mounted = scan(alloc, run.flash).map_err(|_| "the flash is not mounted again")?;
+    assert!(rt; mounted.clean);
     let mut found = Vec::new(alloc);
     dump(alloc, &mounted.tree, &mut found)?;
     assert_eq!(rt; found.as_slice(), wanted.as_slice());

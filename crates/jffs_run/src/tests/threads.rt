@@ -1,8 +1,11 @@
 //! Runs by `run_threads`.
 
+ghost use Rattle.std.specs.Prelude.{◌≡◌, length, IfOk};
+
 use crate::{Gate, NoGate, RunFault, RunWhy, Served, run_threads};
 use jffs_flash::MemoryFlash;
 use jffs_text::Script;
+use std::alloc::{AllocError, Global};
 use std::io::Write;
 use std::process::Abort;
 use std::sync::Wait;
@@ -76,21 +79,35 @@ fn eight_writers_at_once(rt: HostRuntime) -> Result<(), Fail> {
 }
 
 /// Sectors 0 and 2 are written and all others erased: no ring begins there.
+/// The record of a new file `f`.
+const RECORD: [u8; 64] = [
+    0x4A, 0x46, 0x46, 0x31, 1, 0, 1, 0, 0, 0, 0, 2, 0, 0, 0, 1, 0, 0, 0, 1, 0, 0, 0, 0, 0, 0, 0, 0,
+    0, 0, 0, 0, 0, 1, 0, 2, 0, 0, 0, 1, 0, 0, 0, 0, 0x66, 0, 0, 0, 0, 0, 0, 0, 0, 0, 0, 0, 0, 0, 0,
+    0, 0, 0, 0, 0,
+];
+
+/// 8 sectors of 1024 bytes, with records in sectors 0 and 2 alone.
+fn scattered(alloc: Global) -> Result<Vec<u8>, AllocError>
+    ensures { IfOk result (λ image. length image.items ≡ 8192) }
+{
+    let mut image = vec![in alloc; 0xFFu8; 8 * 1024]?;
+    image[..64].copy_from_slice(&RECORD);
+    image[2048..2112].copy_from_slice(&RECORD);
+    Ok(image)
+}
+
 #[test]
 fn constructors_refuse(rt: HostRuntime) -> Result<(), Fail> {
     let alloc = rt.alloc();
     let script = Script::parse(alloc, b"volume 8 1024\nwriter\ncreate /f\n")?;
-    let mut image = vec![in alloc; 0xFFu8; 8 * 1024]?;
-    image[0] = 0;
-    image[2048] = 0;
-    let flash = MemoryFlash::from_bytes(8, 1024, image);
+    let image = scattered(alloc)?;
+    let flash = MemoryFlash::from_bytes(8, 1024, image.clone()?);
     let RunFault { why, flash } = match run_threads(&rt, alloc, &script, flash, &NoGate) {
         Ok(_) => return Err("it was mounted".into()),
         Err(fault) => fault,
     };
     assert_eq!(rt; why, RunWhy::Mount);
     let flash = flash.ok_or("the device is gone")?;
-    assert_eq!(rt; flash.bytes().len(), 8 * 1024);
-    assert_eq!(rt; flash.bytes().first(), Some(&0));
+    assert!(rt; flash.bytes() == image.as_slice());
     Ok(())
 }

@@ -70,16 +70,17 @@ pub(super) fn served<R: Wait>(
     Ok((last_two(session.core())?, end))
 }
 
-/// One round of the cleaner over a published tree; gives what it handed in.
+/// One round of the cleaner over a published tree, on a line with room for `capacity` requests; gives what it handed in.
 pub(super) fn cleaned_by<R: Wait>(
     rt: &R,
     alloc: Global,
+    capacity: usize,
     tree: Tree,
     jobs: JobEnd,
 ) -> Result<Vec<Request>, Fail> {
     let mut jobs = jobs;
     let (_publisher, mut reader) = index(rt, alloc, tree)?;
-    let Ends { hands, mut taker } = shared_line(rt, alloc, 8, 0)?;
+    let Ends { hands, mut taker } = shared_line(rt, alloc, capacity, 0)?;
     let mut hand = hands.cleaner;
     let end = clean_loop(rt, alloc, &mut jobs, &mut reader, &mut hand, 1);
     let mut taken = Vec::new(alloc);
@@ -89,15 +90,9 @@ pub(super) fn cleaned_by<R: Wait>(
     Ok(taken)
 }
 
-/// The number of each of the three copies that the cleaner asks for, and its source.
-pub(super) fn asked<R: Wait>(
-    rt: &R,
-    alloc: Global,
-    tree: Tree,
-    jobs: JobEnd,
-) -> Result<[(u32, u32); 3], Fail> {
-    let requests = cleaned_by(rt, alloc, tree, jobs)?;
-    match requests.as_slice() {
+/// The number of each of three copies that were asked for, and its source.
+pub(super) fn asked(requests: &[Request]) -> Result<[(u32, u32); 3], Fail> {
+    match requests {
         [a, b, c] => Ok([source_of(a), source_of(b), source_of(c)]),
         _ => Err("three copies".into()),
     }

@@ -1,28 +1,13 @@
 -- What a store holds once bytes in memory were written through, and what may be left of a call that failed.
-use Rattle.std.proofs.Common.{◌≡◌, ℕ, zero, suc, ◌+◌, ◌*◌, ◌<◌, ◌≤◌, List, [], ◌∷◌, ◌++◌, length, take, drop, replicate, Some, refl, sym, ap, subst, ◌∙◌, arith, append_assoc, length-drop}
+use Rattle.std.proofs.Common.{◌≡◌, ℕ, zero, suc, ◌+◌, ◌*◌, ◌<◌, ◌≤◌, List, [], ◌∷◌, ◌++◌, length, take, drop, replicate, Some, refl, sym, ap, subst, ◌∙◌, arith, append_assoc}
 use Rattle.std.specs.Prelude.{Option}
-use Rattle.std.specs.Int.Bits.{bit_and, and_self}
-use Rattle.std.proofs.lemmas.Nat.{and_assoc, and_comm}
 use Rattle.std.proofs.lemmas.List.{length-take-le, length-replicate}
 use Rattle.std.proofs.Math.Nat.{mul-le-mul_right}
 use Rattle.std.proofs.Math.Seq.{take-append_seam, drop-append_seam}
-use Rattle.jffs_flash.specs.Image.{window, replaced, both_bits, programmed, erased, erased_byte, IsBetween, AreBetween, IsHalfProgrammed, IsHalfErased}
+use Rattle.jffs_flash.specs.Image.{window, replaced, both_bits, programmed, erased, erased_byte, AreBetween, IsHalfProgrammed, IsHalfErased}
 use Rattle.jffs_flash.proofs.Bits.{length-both_bits}
+use Rattle.jffs_flash.proofs.Halves.{between_new, between_old, length-window}
 use Rattle.jffs_file.specs.Stored.{first_part}
-
--- a byte lies between itself and what becomes of it
-between_old : (o b : ℕ) → IsBetween o b o
-between_old o b = record {
-  only = and_self o;
-  kept = sym (and_assoc b o o) ∙ ap (λ x. bit_and x b) (and_self o);
-}
-
--- what becomes of a byte lies between too
-between_new : (o b : ℕ) → IsBetween o b (bit_and o b)
-between_new o b = record {
-  only = ap (λ x. bit_and x o) (and_comm o b) ∙ and_assoc o b o ∙ ap (λ x. bit_and b x) (and_self o) ∙ and_comm b o;
-  kept = and_self (bit_and o b);
-}
 
 -- all bytes new
 between_all : (old bytes : List ℕ) → length old ≡ length bytes → AreBetween old bytes (both_bits old bytes)
@@ -42,12 +27,6 @@ between_part zero (o ∷ old) [] e = absurd (omega arith)
 between_part (suc count) (o ∷ old) [] e = absurd (omega arith)
 between_part zero (o ∷ old) (b ∷ bytes) e = (between_old o b, between_part zero old bytes (omega arith))
 between_part (suc count) (o ∷ old) (b ∷ bytes) e = (between_new o b, between_part count old bytes (omega arith))
-
--- a window inside the image is as long as it says
-pub length-window : (at n : ℕ) (image : List ℕ) → at + n ≤ length image → length (window at n image) ≡ n
-length-window at n image inside =
-    let room : n ≤ length (drop at image) = omega (arith, length-drop at image) in
-    length-take-le n (drop at image) room
 
 -- what was put into the image stands there
 window-replaced : (at : ℕ) (part image : List ℕ) → at + length part ≤ length image

@@ -7,16 +7,13 @@ ghost use Rattle.jffs_flash.specs.Sizes.{is_geometry as allows_geometry};
 
 use crate::flash::FileFlash;
 use crate::store::FileStore;
-use jffs_flash::{ERASED_BYTE, MAX_SECTORS, MemoryFlash, SECTOR_SIZES, is_geometry};
+use jffs_flash::{ERASED_BYTE, MemoryFlash, VOLUME_MAX, is_geometry};
 use std::alloc::{AllocError, AllocFailed};
 use std::fs::{File, OpenFile, OpenOptions};
 use std::io::{ErrorKind, Read, Seek, Write};
 use std::rt::Files;
 use std::{fs, io};
 use thiserror::Error;
-
-/// How many bytes the largest volume has.
-const VOLUME_MAX: u64 = MAX_SECTORS as u64 * SECTOR_SIZES[4] as u64;
 
 /// Why there is no flash in a file.
 #[derive(Clone, Copy, Debug, PartialEq, Eq, Error)]
@@ -87,9 +84,8 @@ pub fn open_image<R: Files + AllocGlobal>(
         Err(error) => return Err(FileFault::of(error, FileFault::Open)),
     };
     let mut bytes = Vec::new(rt.alloc());
-    match (&mut file).take(VOLUME_MAX + 1).read_to_end(&mut bytes) {
-        Ok(_) => {}
-        Err(error) => return Err(FileFault::of(error, FileFault::Open)),
+    if let Err(error) = (&mut file).take(VOLUME_MAX + 1).read_to_end(&mut bytes) {
+        return Err(FileFault::of(error, FileFault::Open));
     }
     if bytes.len() as u64 > VOLUME_MAX {
         return Err(FileFault::Length);

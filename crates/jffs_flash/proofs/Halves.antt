@@ -10,14 +10,14 @@ use Rattle.jffs_flash.specs.Fuse.{program_left, erase_left}
 use Rattle.jffs_flash.proofs.Bits.{length-both_bits}
 
 -- the new byte lies between
-between_new : (o b : ℕ) → IsBetween o b (bit_and o b)
+pub between_new : (o b : ℕ) → IsBetween o b (bit_and o b)
 between_new o b = record {
   only = ap (λ x. bit_and x o) (and_comm o b) ∙ and_assoc o b o ∙ ap (λ x. bit_and b x) (and_self o) ∙ and_comm b o;
   kept = and_self (bit_and o b);
 }
 
 -- the old byte lies between
-between_old : (o b : ℕ) → IsBetween o b o
+pub between_old : (o b : ℕ) → IsBetween o b o
 between_old o b = record {
   only = and_self o;
   kept = sym (and_assoc b o o) ∙ ap (λ x. bit_and x b) (and_self o);
@@ -43,7 +43,7 @@ window_rest (suc n) (suc k) [] h = refl
 window_rest (suc n) (suc k) (x ∷ xs) h = window_rest n k xs (omega arith)
 
 -- a window inside the image is as long as it says
-length-window : (at n : ℕ) (image : List ℕ) → at + n ≤ length image → length (window at n image) ≡ n
+pub length-window : (at n : ℕ) (image : List ℕ) → at + n ≤ length image → length (window at n image) ≡ n
 length-window at n image inside =
     let room : n ≤ length (drop at image) = omega (arith, length-drop at image) in
     length-take-le n (drop at image) room

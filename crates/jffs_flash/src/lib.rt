@@ -15,4 +15,4 @@ mod tests;
 pub use flash::{ERASED_BYTE, Flash, FlashFault};
 pub use fuse::{Fail, FuseFlash, Fused};
 pub use memory::{FlashNew, MemoryFlash};
-pub use sizes::{MAX_SECTORS, MIN_SECTORS, SECTOR_SIZES, is_geometry};
+pub use sizes::{MAX_SECTORS, MIN_SECTORS, SECTOR_SIZES, VOLUME_MAX, is_geometry};

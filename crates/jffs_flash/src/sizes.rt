@@ -12,6 +12,9 @@ pub const MAX_SECTORS: u32 = 64;
 /// The sector sizes that a volume may have, in bytes.
 pub const SECTOR_SIZES: [u32; 5] = [1024, 2048, 4096, 8192, 16384];
 
+/// How many bytes the largest volume has.
+pub const VOLUME_MAX: u64 = MAX_SECTORS as u64 * SECTOR_SIZES[4] as u64;
+
 /// Whether a volume may have `sectors` sectors of `sector_size` bytes each.
 pub fn is_geometry(sectors: u32, sector_size: u32) -> bool
     ensures { IsTrue result ↔ IsTrue (allows_geometry sectors sector_size) }

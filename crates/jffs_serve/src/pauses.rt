@@ -25,6 +25,7 @@ pub struct Ended {
 }
 
 impl Ended {
+    /// It hasn't ended.
     pub fn new() -> Ended {
         Ended {
             word: AtomicU64::new(SERVING),

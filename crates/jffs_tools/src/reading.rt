@@ -3,14 +3,11 @@
 ghost use Rattle.std.specs.Prelude.{◌≡◌, ◌*◌, IfOk, IfSome, take};
 ghost use Rattle.jffs_tools.specs.Reading.{wanted};
 
-use jffs_flash::{MAX_SECTORS, SECTOR_SIZES};
+use jffs_flash::VOLUME_MAX;
 use jffs_text::LINE_MAX;
 use std::alloc::Global;
 use std::io;
 use std::io::{BufRead, Read};
-
-/// How many bytes the largest volume has.
-pub(crate) const VOLUME_MAX: u64 = MAX_SECTORS as u64 * SECTOR_SIZES[4] as u64;
 
 /// How many bytes so many sectors have together.
 pub(crate) fn device_length(sectors: u32, sector_size: u32) -> u64

@@ -6,6 +6,7 @@ use crate::printing::{print_answers, print_readers, print_served};
 use crate::reading::{InputFault, read_whole};
 use crate::threads::run_threads;
 use crate::writer::NoGate;
+use jffs_core::Answer;
 use jffs_file::{FileFault, create_image, open_image};
 use jffs_flash::{Flash, FlashNew, MemoryFlash};
 use jffs_log::{Mounted, ScanFault, scan};
@@ -143,6 +144,7 @@ fn run_on<Rt: AllocGlobal + Threads + Wait + Sync, F: Flash + Send + Drop, W: Wr
         served,
         flash,
     } = run_once(rt, script, flash)?;
+    let answers = moved_apart(answers)?;
     let Mounted {
         log: _,
         tree,
@@ -165,6 +167,12 @@ fn run_once<Rt: AllocGlobal + Threads + Wait + Sync, F: Flash + Send + Drop>(
     flash: F,
 ) -> Result<Run<F>, Fault> {
     run_threads(rt, rt.alloc(), &script, flash, &NoGate).map_err(run_fault)
+}
+
+/// The same answers in a new allocation. The old one lies among what the log thread freed, and
+/// would keep all before it from going back to the system while the scan needs as much again.
+fn moved_apart(answers: Vec<Answer>) -> Result<Vec<Answer>, Fault> {
+    answers.clone().map_err(|_| Fault::Other("Memory"))
 }
 
 /// The script that a reader gives. Its text isn't kept.

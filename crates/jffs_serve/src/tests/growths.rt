@@ -7,10 +7,11 @@ use crate::serving::serve;
 use crate::session::{Served, Session};
 use crate::tests::rounds::index;
 use crate::tests::volumes::{create, erased, write};
-use jffs_core::Answer;
+use jffs_core::{Answer, Core};
 use jffs_flash::MemoryFlash;
 use jffs_index::{Publisher, Reader};
 use jffs_line::{Ends, SharedTaker, shared_line};
+use jffs_node::{Path, ROOT_INODE};
 use jffs_tree::{Cause, Outcome};
 use std::alloc::Global;
 use std::process::Abort;
@@ -123,6 +124,38 @@ fn check(rt: &impl Abort, session: &Session<MemoryFlash>, reader: &mut Reader) {
     assert!(rt; shows(reader, answers));
 }
 
+/// How many bytes `/f` has by these answers, where it is there.
+fn size_after(answers: &[Answer]) -> Option<u32> {
+    let [created, written, _] = wanted();
+    match answers {
+        [x, y, _] if x.outcome == created.outcome => {
+            Some(if y.outcome == written.outcome { 5 } else { 0 })
+        }
+        _ => None,
+    }
+}
+
+/// A scan finds `/f` of that size alone, with the bytes that were written.
+fn check_scan(
+    rt: &impl Abort,
+    alloc: Global,
+    flash: MemoryFlash,
+    size: Option<u32>,
+) -> Result<(), Fail> {
+    let core = Core::mount(alloc, flash).ok().ok_or("it mounts")?;
+    let tree = core.tree();
+    let names = tree.names(ROOT_INODE)?;
+    assert!(rt; names.len() == usize::from(size.is_some()));
+    let found = tree.resolve(&Path::parse(alloc, "/f")?);
+    assert!(rt; found.and_then(|inode| tree.size(inode)) == size);
+    if let Some(inode) = found {
+        let mut bytes = [0u8; 5];
+        let count = tree.read(inode, 0, &mut bytes);
+        assert!(rt; bytes[..count] == b"hello"[..count]);
+    }
+    Ok(())
+}
+
 // Run it with each allocation failing in turn.
 #[test]
 #[tactic(auto, using(crate::proofs::Showing::can_begin))]
@@ -136,5 +169,6 @@ fn each_growth_refused_in_turn(rt: HostRuntime) -> Result<(), Fail> {
     let served = serve_on(&rt, &mut session, &mut taker, &mut publisher, &mut jobs);
     assert!(rt; served != Served::Memory);
     check(&rt, &session, &mut reader);
-    Ok(())
+    let size = size_after(session.core().answers());
+    check_scan(&rt, alloc, session.into_core().into_flash(), size)
 }

@@ -110,6 +110,7 @@ pub(crate) fn remove_all<F: Flash>(
         place.push_str(found.path.as_str())?;
         session.ask(Wish::Remove(Path::parse(alloc, found.path.as_str())?))?;
     }
+    place.clear();
     Ok(())
 }
 

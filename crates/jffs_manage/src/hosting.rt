@@ -20,7 +20,7 @@ use std::rt::Files;
 /// `Dots` where a name on the volume is `.` or `..`: nothing is written. `HostTaken` where
 /// something stands in the way, `HostMissing` where the directory that should hold it isn't there,
 /// `HostMake`, `HostWrite`, `Memory`: what was written stays, the file at which it stopped with a
-/// first part of its bytes. `place` is left with the path at which it stopped.
+/// first part of its bytes. `place` is left with the path at which it stopped, or empty.
 pub(crate) fn save<Rt: Files + AllocGlobal>(
     rt: &Rt,
     tree: &Tree,
@@ -44,6 +44,7 @@ pub(crate) fn save<Rt: Files + AllocGlobal>(
             save_file(rt, tree, found.inode, target.as_str())?;
         }
     }
+    place.clear();
     Ok(())
 }
 
@@ -85,7 +86,7 @@ fn save_file<Rt: Files>(rt: &Rt, tree: &Tree, inode: u32, path: &str) -> Result<
 /// All names are looked at first. `Path` where one can't be on a volume, `Reserved` where it is
 /// that of an unfinished file, `Special` where it is neither a file nor a directory, `HostMissing`,
 /// `HostRead`: nothing is changed. Where a file can't be read, or a directory or file can't be put,
-/// what was put stays. `place` is left with the path at which it stopped.
+/// what was put stays. `place` is left with the path at which it stopped, or empty.
 pub(crate) fn load<Rt: Files + AllocGlobal + Clone + Drop, F: Flash>(
     rt: &Rt,
     session: &mut Session<F>,
@@ -103,6 +104,7 @@ pub(crate) fn load<Rt: Files + AllocGlobal + Clone + Drop, F: Flash>(
             put(alloc, session, path, &read_file(rt, from.as_str())?)?;
         }
     }
+    place.clear();
     Ok(())
 }
 

@@ -4,9 +4,9 @@ use jffs_text::Words;
 use std::alloc::{AllocFailed, Global};
 use thiserror::Error;
 
-/// What the program is asked for.
-#[derive(Clone, Copy, Debug, PartialEq, Eq)]
-pub(crate) enum Command {
+/// The word that a call begins with.
+#[derive(Clone, Copy, PartialEq, Eq)]
+enum Command {
     Format,
     List,
     Show,
@@ -16,6 +16,9 @@ pub(crate) enum Command {
     Remove,
     Usage,
     Check,
+    Map,
+    Save,
+    Load,
 }
 
 impl Command {
@@ -31,30 +34,41 @@ impl Command {
             "rm" => Some(Command::Remove),
             "df" => Some(Command::Usage),
             "check" => Some(Command::Check),
+            "map" => Some(Command::Map),
+            "save" => Some(Command::Save),
+            "load" => Some(Command::Load),
             _ => None,
         }
     }
 
-    /// The words that follow it.
+    /// The words of a call, as the help has them.
     fn form(self) -> &'static str {
         match self {
             Command::Format => "format FILE SECTORS SECTOR_SIZE",
-            Command::List => "ls FILE [PATH]",
+            Command::List => "ls [-l] FILE [PATH]",
             Command::Show => "cat FILE PATH",
             Command::Put => "put FILE PATH",
             Command::MakeDir => "mkdir FILE PATH",
             Command::Move => "mv FILE PATH PATH",
-            Command::Remove => "rm FILE PATH",
+            Command::Remove => "rm [-r] FILE PATH",
             Command::Usage => "df FILE",
             Command::Check => "check FILE",
+            Command::Map => "map [--svg] FILE",
+            Command::Save => "save FILE DIRECTORY",
+            Command::Load => "load FILE DIRECTORY",
         }
     }
 
     /// The fewest words that follow it.
     fn least(self) -> usize {
         match self {
-            Command::List | Command::Usage | Command::Check => 1,
-            Command::Show | Command::Put | Command::MakeDir | Command::Remove => 2,
+            Command::List | Command::Usage | Command::Check | Command::Map => 1,
+            Command::Show
+            | Command::Put
+            | Command::MakeDir
+            | Command::Remove
+            | Command::Save
+            | Command::Load => { 2 },
             Command::Format | Command::Move => 3,
         }
     }
@@ -69,19 +83,19 @@ impl Command {
 }
 
 /// A call of the program.
-#[derive(Clone, Copy, Debug, PartialEq, Eq)]
+#[derive(Clone, Copy)]
 pub(crate) enum Call<'a> {
     Help,
     Version,
     Do(Work<'a>),
 }
 
-/// A command with its words.
-#[derive(Clone, Copy, Debug, PartialEq, Eq)]
+/// What is to be done with a volume, and in which file.
+#[derive(Clone, Copy)]
 pub(crate) struct Work<'a> {
-    pub command: Command,
+    pub task: Task<'a>,
     pub file: &'a str,
-    /// The word after the file; empty where there is none.
+    /// The word after the file, as it stands; empty where there is none.
     pub first: &'a str,
     /// The word after that; empty where there is none.
     pub second: &'a str,
@@ -89,15 +103,56 @@ pub(crate) struct Work<'a> {
     pub sector_size: Option<u32>,
 }
 
+/// What is to be done with a volume.
+#[derive(Clone, Copy)]
+pub(crate) enum Task<'a> {
+    /// An empty one is made, of so many sectors of so many bytes.
+    Format { sectors: u32, sector_size: u32 },
+    /// It is looked at, and stays as it is.
+    Look(Look<'a>),
+    /// It is changed.
+    Change(Change<'a>),
+    /// All of it is written into this directory of the host.
+    Save(&'a str),
+}
+
+/// What is to be seen of a volume.
+#[derive(Clone, Copy)]
+pub(crate) enum Look<'a> {
+    /// The names in a directory; `long` with what they weigh.
+    List { path: &'a str, long: bool },
+    /// The bytes of the file at this path.
+    Show(&'a str),
+    Usage,
+    Check,
+    /// What its sectors hold; `svg` as a picture.
+    Map { svg: bool },
+}
+
+/// What is to be changed on a volume.
+#[derive(Clone, Copy)]
+pub(crate) enum Change<'a> {
+    Put(&'a str),
+    MakeDir(&'a str),
+    Move { from: &'a str, to: &'a str },
+    Remove(&'a str),
+    /// What stands at the path is removed, with all below it.
+    RemoveAll(&'a str),
+    /// All of this directory of the host is put into it.
+    Load(&'a str),
+}
+
 /// Why the program's words are no call.
-#[derive(Clone, Copy, Debug, PartialEq, Eq, Error)]
+#[derive(Clone, Copy, Debug, Error)]
 pub(crate) enum CallFault<'a> {
-    #[error("a command is wanted: format, ls, cat, put, mkdir, mv, rm, df or check; --help tells more")]
+    #[error("a command is wanted: format, ls, cat, put, mkdir, mv, rm, df, check, map, save or load; --help tells more")]
     NoCommand,
-    #[error("unknown command '{0}'; commands are format, ls, cat, put, mkdir, mv, rm, df and check")]
+    #[error("unknown command '{0}'; commands are format, ls, cat, put, mkdir, mv, rm, df, check, map, save and load")]
     Command(&'a str),
-    #[error("unknown option '{0}'; options are --sector-size, --help and --version")]
+    #[error("unknown option '{0}'; options are -l, -r, --svg, --sector-size, --help and --version")]
     Option(&'a str),
+    #[error("unexpected option '{0}': {1}")]
+    Foreign(&'static str, &'static str),
     #[error("unexpected word '{0}'")]
     Extra(&'a str),
     #[error("words are missing: {0}")]
@@ -116,60 +171,124 @@ impl<'a, T: Drop> From<AllocFailed<T>> for CallFault<'a> {
     }
 }
 
-/// Reads the words of a call, the program's own name first.
+/// The options of a call.
+#[derive(Clone, Copy)]
+struct Options {
+    sector_size: Option<u32>,
+    long: bool,
+    recursive: bool,
+    svg: bool,
+}
+
+impl Options {
+    /// The first of these options that the command doesn't have.
+    fn foreign_to(self, command: Command) -> Option<&'static str> {
+        if self.long && command != Command::List {
+            Some("-l")
+        } else if self.recursive && command != Command::Remove {
+            Some("-r")
+        } else if self.svg && command != Command::Map {
+            Some("--svg")
+        } else {
+            None
+        }
+    }
+}
+
+/// Reads the words of a call, the program's own name first. A word of two bytes or more that begins
+/// with `-` is an option.
 pub(crate) fn call_of<'a>(alloc: Global, words: &'a [String]) -> Result<Call<'a>, CallFault<'a>> {
     let mut plain: Vec<&'a str> = Vec::new(alloc);
-    let mut sector_size = None;
+    let mut options = Options {
+        sector_size: None,
+        long: false,
+        recursive: false,
+        svg: false,
+    };
     let mut wants_number = false;
     for word in words.iter().skip(1) {
         let word = word.as_str();
         if wants_number {
-            sector_size = Some(number_of(word)?);
+            options.sector_size = Some(number_of(word)?);
             wants_number = false;
-        } else if word == "--help" {
-            return Ok(Call::Help);
-        } else if word == "--version" {
-            return Ok(Call::Version);
-        } else if word == "--sector-size" {
-            wants_number = true;
-        } else if word.starts_with("--") {
-            return Err(CallFault::Option(word));
-        } else {
-            plain.push(word)?;
+            continue;
+        }
+        match word {
+            "--help" => return Ok(Call::Help),
+            "--version" => return Ok(Call::Version),
+            "--sector-size" => wants_number = true,
+            "-l" => options.long = true,
+            "-r" => options.recursive = true,
+            "--svg" => options.svg = true,
+            _ if word.len() > 1 && word.starts_with('-') => return Err(CallFault::Option(word)),
+            _ => plain.push(word)?,
         }
     }
     if wants_number {
         return Err(CallFault::NoNumber);
     }
-    work_of(&plain, sector_size).map(Call::Do)
+    work_of(&plain, options).map(Call::Do)
 }
 
 /// A command with the words that follow it.
-fn work_of<'a>(words: &[&'a str], sector_size: Option<u32>) -> Result<Work<'a>, CallFault<'a>> {
+fn work_of<'a>(words: &[&'a str], options: Options) -> Result<Work<'a>, CallFault<'a>> {
     let Some((&word, rest)) = words.split_first() else {
         return Err(CallFault::NoCommand);
     };
     let Some(command) = Command::of(word) else {
         return Err(CallFault::Command(word));
     };
+    if let Some(option) = options.foreign_to(command) {
+        return Err(CallFault::Foreign(option, command.form()));
+    }
     if let Some(&extra) = rest.get(command.most()) {
         return Err(CallFault::Extra(extra));
     }
     if rest.len() < command.least() {
         return Err(CallFault::Few(command.form()));
     }
-    let work = Work {
-        command,
+    let first = word_at(rest, 1);
+    let second = word_at(rest, 2);
+    Ok(Work {
+        task: task_of(command, first, second, options)?,
         file: word_at(rest, 0),
-        first: word_at(rest, 1),
-        second: word_at(rest, 2),
-        sector_size,
-    };
-    if command == Command::Format {
-        number_of(work.first)?;
-        number_of(work.second)?;
-    }
-    Ok(work)
+        first,
+        second,
+        sector_size: options.sector_size,
+    })
+}
+
+/// What a command asks for with the words after the file, where it has as many as it wants.
+fn task_of<'a>(
+    command: Command,
+    first: &'a str,
+    second: &'a str,
+    options: Options,
+) -> Result<Task<'a>, CallFault<'a>> {
+    Ok(match command {
+        Command::Format => Task::Format {
+            sectors: number_of(first)?,
+            sector_size: number_of(second)?,
+        },
+        Command::List => Task::Look(Look::List {
+            path: if first.is_empty() { "/" } else { first },
+            long: options.long,
+        }),
+        Command::Show => Task::Look(Look::Show(first)),
+        Command::Usage => Task::Look(Look::Usage),
+        Command::Check => Task::Look(Look::Check),
+        Command::Map => Task::Look(Look::Map { svg: options.svg }),
+        Command::Save => Task::Save(first),
+        Command::Put => Task::Change(Change::Put(first)),
+        Command::MakeDir => Task::Change(Change::MakeDir(first)),
+        Command::Move => Task::Change(Change::Move {
+            from: first,
+            to: second,
+        }),
+        Command::Remove if options.recursive => Task::Change(Change::RemoveAll(first)),
+        Command::Remove => Task::Change(Change::Remove(first)),
+        Command::Load => Task::Change(Change::Load(first)),
+    })
 }
 
 fn word_at<'a>(words: &[&'a str], index: usize) -> &'a str {
@@ -180,7 +299,7 @@ fn word_at<'a>(words: &[&'a str], index: usize) -> &'a str {
 }
 
 /// The number that a word spells.
-pub(crate) fn number_of<'a>(word: &'a str) -> Result<u32, CallFault<'a>> {
+fn number_of<'a>(word: &'a str) -> Result<u32, CallFault<'a>> {
     let mut words = Words::of(word);
     if words.count() != 1 {
         return Err(CallFault::Number(word));

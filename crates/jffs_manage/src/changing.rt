@@ -3,19 +3,22 @@
 use crate::fault::VolumeFault;
 use crate::looking::file_at;
 use crate::session::Session;
+use crate::walking::below;
 use jffs_flash::Flash;
 use jffs_node::{FILE_MAX, Path, copied};
 use jffs_tree::{Cause, Wish};
 use std::alloc::Global;
+use std::io;
 use std::io::Read;
 
 /// The name of a file that a put hasn't finished.
-const UNFINISHED: &str = ".put.new";
+pub(crate) const UNFINISHED: &str = ".put.new";
 
-/// Puts bytes into a file at a path, in place of one that stands there: into a new file beside it, then the old one is
-/// removed and the new one renamed. `FileLong` where no file is so long, `Reserved` where the path
-/// is that of an unfinished file, `Left` where an unfinished file stands there already, `Directory` where a directory
-/// stands at the path, `Refused` where a request was refused; then the new file is removed, if that can be.
+/// Puts bytes into a file at a path, in place of one that stands there: into a new file beside it,
+/// then the old one is removed and the new one renamed. `FileLong` where no file is so long,
+/// `Reserved` where the path is that of an unfinished file, `Left` where an unfinished file stands
+/// there already, `Directory` where a directory stands at the path, `Refused` where a request was
+/// refused; then the new file is removed, if that can be.
 pub(crate) fn put<F: Flash>(
     alloc: Global,
     session: &mut Session<F>,
@@ -83,11 +86,42 @@ fn write_file<F: Flash>(
     Ok(())
 }
 
-/// All bytes of a reader, or one more than a file may have.
-pub(crate) fn read_all<R: Read>(alloc: Global, input: &mut R) -> Result<Vec<u8>, VolumeFault> {
-    let mut bytes = Vec::new(alloc);
-    match input.take(u64::from(FILE_MAX) + 1).read_to_end(&mut bytes) {
-        Ok(_) => Ok(bytes),
-        Err(error) => Err(VolumeFault::of_input(error)),
+/// Removes what stands at a path, and all below it, the deepest first.
+///
+/// `Path` where the text is no path, `Refused` for RootFixed, NotFound, `Memory`: nothing is
+/// removed. `Refused` where another request was refused: what was removed by then stays removed.
+/// `place` is left with the path at which it stopped.
+pub(crate) fn remove_all<F: Flash>(
+    alloc: Global,
+    session: &mut Session<F>,
+    text: &str,
+    place: &mut String,
+) -> Result<(), VolumeFault> {
+    let path = Path::parse(alloc, text)?;
+    if path.names().is_empty() {
+        return Err(VolumeFault::Refused(Cause::RootFixed));
     }
+    let Some(inode) = session.tree().resolve(&path) else {
+        return Err(VolumeFault::Refused(Cause::NotFound));
+    };
+    let all = below(alloc, session.tree(), text, inode)?;
+    for found in all.iter().rev() {
+        place.clear();
+        place.push_str(found.path.as_str())?;
+        session.ask(Wish::Remove(Path::parse(alloc, found.path.as_str())?))?;
+    }
+    place.clear();
+    Ok(())
+}
+
+/// The bytes of standard input, or one more than a file may have.
+pub(crate) fn read_all<R: Read>(alloc: Global, input: &mut R) -> Result<Vec<u8>, VolumeFault> {
+    read_some(alloc, input).map_err(VolumeFault::of_input)
+}
+
+/// All bytes of a reader, or one more than a file may have.
+pub(crate) fn read_some<R: Read>(alloc: Global, input: &mut R) -> io::Result<Vec<u8>> {
+    let mut bytes = Vec::new(alloc);
+    input.take(u64::from(FILE_MAX) + 1).read_to_end(&mut bytes)?;
+    Ok(bytes)
 }

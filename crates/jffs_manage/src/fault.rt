@@ -53,6 +53,27 @@ pub enum VolumeFault {
     /// The request was refused.
     #[error("{0}")]
     Refused(Cause),
+    /// There is no such directory or file on the host.
+    #[error("the host has no such directory or file")]
+    HostMissing,
+    /// Something of that name stands on the host already.
+    #[error("the host has something of that name already")]
+    HostTaken,
+    /// A directory or file of the host can't be opened or read.
+    #[error("the host's directory or file can't be read")]
+    HostRead,
+    /// A directory or file of the host can't be made.
+    #[error("the host's directory or file can't be made")]
+    HostMake,
+    /// A file of the host can't be written.
+    #[error("the host's file can't be written")]
+    HostWrite,
+    /// What stands there on the host is no plain file and no directory.
+    #[error("what the host has there is neither a file nor a directory")]
+    Special,
+    /// A name on the volume means something else in a path of the host.
+    #[error("a name '.' or '..' can't be saved: mv it")]
+    Dots,
     /// The medium under the file failed.
     #[error("the file can't be brought to its medium")]
     Medium,
@@ -71,11 +92,19 @@ impl VolumeFault {
     /// The status that the program ends with.
     pub(crate) fn status(self) -> u8 {
         match self {
-            VolumeFault::File(FileFault::Memory | FileFault::Write) => BROKEN,
+            VolumeFault::File(FileFault::Memory | FileFault::Write) | VolumeFault::HostWrite => {
+                BROKEN
+            }
             VolumeFault::File(_)
             | VolumeFault::Sizes
             | VolumeFault::Path(_)
-            | VolumeFault::Reserved => { MISUSED },
+            | VolumeFault::Reserved
+            | VolumeFault::HostMissing
+            | VolumeFault::HostTaken
+            | VolumeFault::HostRead
+            | VolumeFault::HostMake
+            | VolumeFault::Special
+            | VolumeFault::Dots => { MISUSED },
             VolumeFault::NoSize | VolumeFault::NoVolume(_) => NO_VOLUME,
             VolumeFault::Refused(Cause::Memory | Cause::Device | Cause::Failed) => BROKEN,
             VolumeFault::Nothing
@@ -93,6 +122,35 @@ impl VolumeFault {
         match error.kind() {
             ErrorKind::OutOfMemory => VolumeFault::Memory,
             _ => VolumeFault::Read,
+        }
+    }
+
+    /// What an error of a directory or file of the host ends a command with that reads it. A name
+    /// that is no text is one that no path has.
+    pub(crate) fn of_host_read(error: io::Error) -> VolumeFault {
+        match error.kind() {
+            ErrorKind::OutOfMemory => VolumeFault::Memory,
+            ErrorKind::NotFound => VolumeFault::HostMissing,
+            ErrorKind::InvalidFilename => VolumeFault::Path(PathFault::NameByte),
+            _ => VolumeFault::HostRead,
+        }
+    }
+
+    /// What an error ends a command with that makes a directory or file of the host.
+    pub(crate) fn of_host_make(error: io::Error) -> VolumeFault {
+        match error.kind() {
+            ErrorKind::OutOfMemory => VolumeFault::Memory,
+            ErrorKind::NotFound => VolumeFault::HostMissing,
+            ErrorKind::AlreadyExists => VolumeFault::HostTaken,
+            _ => VolumeFault::HostMake,
+        }
+    }
+
+    /// What an error ends a command with that writes a file of the host.
+    pub(crate) fn of_host_write(error: io::Error) -> VolumeFault {
+        match error.kind() {
+            ErrorKind::OutOfMemory => VolumeFault::Memory,
+            _ => VolumeFault::HostWrite,
         }
     }
 }

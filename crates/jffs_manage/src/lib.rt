@@ -1,19 +1,26 @@
-//! What the program `jffs_volume` does: it looks into a volume in a file, and changes what is there.
+//! What the program `jffs_volume` does: it looks into a volume in a file, and changes what is
+//! there.
 //!
-//! It stands on `jffs_core` for the volume and on `jffs_file` for the file. [`run_volume`] is the program; `arguments`
-//! reads its words, `mounting` opens the file, `looking` and `changing` do what is asked, in a `session` that ends with
-//! an unmount.
+//! It stands on `jffs_core` for the volume and on `jffs_file` for the file. [`run_volume`] is the
+//! program; `arguments` reads its words, `mounting` opens the file, `looking`, `mapping` and
+//! `drawing` write what is there, `changing` does what is asked, in a `session` that ends with an
+//! unmount, and `hosting` carries whole trees from and to a directory of the host.
 #![tactic(auto)]
 
 mod arguments;
 mod changing;
+mod drawing;
 mod fault;
+mod help;
+mod hosting;
 mod looking;
+mod mapping;
 mod mounting;
 mod program;
 mod session;
 #[cfg(test)]
 mod tests;
+mod walking;
 
 pub use fault::VolumeFault;
 pub use program::run_volume;

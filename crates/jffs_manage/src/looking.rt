@@ -1,46 +1,115 @@
 //! What is written of a volume.
 
-ghost use Rattle.std.specs.Prelude.{◌≡◌, false, None, IfOk, OnOk};
+ghost use Rattle.std.specs.Prelude.{◌≡◌, ◌-◌, ◌<◌, ◌^◌, true, false, None, IfOk, OnOk, length, unwrap_or};
 ghost use Rattle.std.specs.Io.KnownBytes.{Appends};
 ghost use Rattle.jffs_tree.specs.State.{resolve, is_directory_in};
 ghost use Rattle.jffs_tree.specs.Origin.{state_in};
-ghost use Rattle.jffs_tree.specs.Look.{bytes_in};
+ghost use Rattle.jffs_tree.specs.Look.{bytes_in, size_of};
+ghost use Rattle.jffs_log.specs.Book.{weight_in, log_in};
+ghost use Rattle.jffs_log.specs.Room.{heavy};
+ghost use Rattle.jffs_manage.specs.Weights.{live_bytes_in};
 
 use crate::fault::VolumeFault;
 use jffs_core::Core;
 use jffs_flash::Flash;
-use jffs_node::{Name, Path};
+use jffs_log::Kept;
+use jffs_node::{HEADER_LEN, Name, Path};
 use jffs_tree::Tree;
+use std::collections::VecDeque;
 use std::io;
 use std::io::Write;
 
 /// How many bytes of a file are read at once.
 const CHUNK_LEN: usize = 256;
 
-/// Writes the names in a directory by their bytes, a line for each: `d NAME` for a directory, `f SIZE NAME` for a
-/// file; of a file its own line. `Nothing` where nothing stands at the path.
-pub(crate) fn list<W: Write>(tree: &Tree, path: &Path, out: &mut W) -> Result<(), VolumeFault> {
+/// What is to be seen of a directory or file.
+#[derive(Clone, Copy)]
+struct Sight {
+    directory: bool,
+    /// How many bytes it has; a directory has none.
+    size: u32,
+    /// The lengths of its live records together, in bytes.
+    live: u64,
+}
+
+/// Writes the names in a directory by their bytes, a line for each: `d NAME` for a directory, `f
+/// SIZE NAME` for a file; of a file its own line. With `long` each line has the size and what the
+/// live records take, in bytes, before the name. `Nothing` where nothing stands at the path.
+pub(crate) fn list<F: Flash, W: Write>(
+    core: &Core<F>,
+    path: &Path,
+    long: bool,
+    out: &mut W,
+) -> Result<(), VolumeFault> {
+    let tree = core.tree();
     let Some(inode) = tree.resolve(path) else {
         return Err(VolumeFault::Nothing);
     };
     if !tree.is_directory(inode) {
         if let Some((_, name)) = tree.parent_name(inode) {
-            write_entry(tree, &name, inode, out)?;
+            write_entry(sight_of(core, inode, long), long, &name, out)?;
         }
         return Ok(());
     }
-    let names = tree.names(inode)?;
-    for (name, inode) in names.iter() {
-        write_entry(tree, name, *inode, out)?;
+    for (name, inode) in tree.names(inode)?.iter() {
+        write_entry(sight_of(core, *inode, long), long, name, out)?;
     }
     Ok(())
 }
 
-fn write_entry<W: Write>(tree: &Tree, name: &Name, inode: u32, out: &mut W) -> io::Result<()> {
-    if tree.is_directory(inode) {
+/// What is to be seen of an inode; what its records take is looked for only where `long` asks for
+/// it.
+fn sight_of<F: Flash>(core: &Core<F>, inode: u32, long: bool) -> Sight
+    ensures kind { result.directory ≡ is_directory_in (state_in core.now.tree) inode }
+    ensures size { result.size ≡ unwrap_or (size_of core.now.tree inode) 0 }
+    ensures live { long ≡ true → length core.now.book.records.items < 2 ^ 32 → result.live ≡ live_bytes_in core.now.tree inode core.now.book.records.items }
+{
+    let tree = core.tree();
+    Sight {
+        directory: tree.is_directory(inode),
+        size: tree.size(inode).unwrap_or(0),
+        live: if long {
+            live_bytes(core.log().records(), tree, inode)
+        } else {
+            0
+        },
+    }
+}
+
+/// The lengths of the live records of an inode together, in bytes. No log has 2^32 records.
+fn live_bytes(records: &VecDeque<Kept>, tree: &Tree, inode: u32) -> u64
+    ensures { length records.now.items < 2 ^ 32 → result ≡ live_bytes_in tree.now inode records.now.items }
+{
+    if records.len() <= u32::MAX as usize {
+        sum_of_live(records, tree, inode)
+    } else {
+        u64::MAX
+    }
+}
+
+fn sum_of_live(records: &VecDeque<Kept>, tree: &Tree, inode: u32) -> u64
+    requires { length records.now.items < 2 ^ 32 }
+    ensures { result ≡ live_bytes_in tree.now inode records.now.items }
+{
+    records
+        .iter()
+        .filter(|kept| kept.inode == inode && tree.live(inode, kept.version))
+        .map(|kept| u64::from(kept.length))
+        .sum()
+}
+
+fn write_entry<W: Write>(sight: Sight, long: bool, name: &Name, out: &mut W) -> io::Result<()> {
+    let Sight {
+        directory,
+        size,
+        live,
+    } = sight;
+    let letter = if directory { 'd' } else { 'f' };
+    if long {
+        write!(out, "{letter} {size} {live} ")?;
+    } else if directory {
         out.write_all(b"d ")?;
     } else {
-        let size = tree.size(inode).unwrap_or(0);
         write!(out, "f {size} ")?;
     }
     out.write_all(name.bytes())?;
@@ -85,16 +154,55 @@ fn too_long() -> io::Error {
     io::Error::from(io::ErrorKind::FileTooLarge)
 }
 
-/// Writes how full a volume is: its sectors and their size in bytes, how many are erased, what its live records weigh,
-/// and the weight below which no operation is refused for want of room while two sectors are erased.
-pub(crate) fn usage<F: Flash, W: Write>(core: &Core<F>, out: &mut W) -> io::Result<()> {
+/// How full a volume is.
+#[derive(Clone, Copy)]
+struct Fullness {
+    sectors: u32,
+    /// How many bytes a sector has.
+    sector_size: u32,
+    /// How many sectors are erased.
+    erased: u32,
+    /// What the live records weigh, in bytes.
+    weight: u64,
+    /// The weight below which no operation is refused for want of room while two sectors are
+    /// erased.
+    sure: u64,
+}
+
+fn fullness_of<F: Flash>(core: &Core<F>) -> Fullness
+    ensures sizes { (result.sectors ≡ core.now.book.sectors) × (result.sector_size ≡ core.now.book.sector_size) }
+    ensures erased { result.erased ≡ core.now.book.sectors - core.now.book.held }
+    ensures weight { core.now.failed ≡ false → result.weight ≡ weight_in core.now.tree (log_in core.now.image core.now.book) }
+    ensures sure { result.sure ≡ heavy core.now.book.sectors core.now.book.sector_size }
+{
     let log = core.log();
     let sectors = log.sectors();
-    let size = log.sector_size();
-    let erased = log.erased();
-    let weight = log.live_weight(core.tree());
-    let sure = u64::from(sectors.saturating_sub(4)) * (u64::from(size) * 3 / 4).saturating_sub(64);
-    writeln!(out, "sectors {sectors} of {size} bytes, {erased} erased")?;
+    let sector_size = log.sector_size();
+    let of_each = (u64::from(sector_size) * 3 / 4).saturating_sub(HEADER_LEN as u64);
+    Fullness {
+        sectors,
+        sector_size,
+        erased: log.erased(),
+        weight: log.live_weight(core.tree()),
+        sure: u64::from(sectors.saturating_sub(4)) * of_each,
+    }
+}
+
+/// Writes how full a volume is: its sectors and their size in bytes, how many are erased, what its
+/// live records weigh, and the weight below which no operation is refused for want of room while
+/// two sectors are erased.
+pub(crate) fn usage<F: Flash, W: Write>(core: &Core<F>, out: &mut W) -> io::Result<()> {
+    let Fullness {
+        sectors,
+        sector_size,
+        erased,
+        weight,
+        sure,
+    } = fullness_of(core);
+    writeln!(
+        out,
+        "sectors {sectors} of {sector_size} bytes, {erased} erased"
+    )?;
     writeln!(
         out,
         "live {weight} bytes in records, room is sure below {sure}"

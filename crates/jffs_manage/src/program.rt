@@ -1,81 +1,75 @@
 //! The program.
 
-use crate::arguments::{Call, CallFault, Command, Work, call_of, number_of};
-use crate::changing::{put, read_all};
+use crate::arguments::{Call, CallFault, Change, Look, Task, Work, call_of};
+use crate::changing::{put, read_all, remove_all};
+use crate::drawing::{draw, draw_svg};
 use crate::fault::{BROKEN, DONE, MISUSED, VolumeFault};
+use crate::help::{HELP, VERSION};
+use crate::hosting::{load, save};
 use crate::looking::{check, file_at, list, show, usage};
+use crate::mapping::{Map, map_of};
 use crate::mounting::mount;
 use crate::session::Session;
-use jffs_file::{FileFault, create_image};
+use jffs_core::Core;
+use jffs_file::create_image;
 use jffs_flash::Flash;
 use jffs_node::Path;
-use jffs_tree::Wish;
+use jffs_tree::{Tree, Wish};
 use std::alloc::Global;
 use std::io;
 use std::io::{Read, Write};
 use std::rt::Files;
 
-const HELP: &str = "jffs_volume COMMAND FILE .. [--sector-size BYTES]
-
-Looks into the volume in FILE, and changes what is there:
-  format FILE SECTORS SECTOR_SIZE   makes FILE, which must not be there: an empty volume
-  ls FILE [PATH]                    the names in a directory: 'd NAME', or 'f SIZE NAME'
-  cat FILE PATH                     the bytes of a file, to standard output
-  put FILE PATH                     the bytes of standard input into a file
-  mkdir FILE PATH                   makes a directory
-  mv FILE PATH PATH                 gives a file or directory another name, which must be free
-  rm FILE PATH                      removes a file or an empty directory
-  df FILE                           how full the volume is
-  check FILE                        whether there is a volume, and whether it is clean
-
-A PATH begins with a slash. The size of a sector is found from the file if only one size makes a
-volume of it; else --sector-size says it. A put writes the file '.put.new' beside PATH, then removes
-what stands at PATH and renames the new file: if power fails, one of both is there, whole.
-Each change is in FILE before the command ends, and the volume is unmounted.
-
-  jffs_volume format notes.img 6 1024
-  echo hello | jffs_volume put notes.img /greeting
-  jffs_volume cat notes.img /greeting
-
-Status: 0; 1 after a fault of memory, a stream or the file; 2 after a wrong call, or where FILE can't
-be used; 3 where it is no volume; 4 where the file system refused. A line on standard error says why.
-";
-
-const VERSION: &str = "jffs_volume 0.1.0\n";
-
-/// Does what the words say, of which the first is the program's own name, with a volume in a file. Gives the exit
-/// status: 0, 1 where memory, a stream or the file failed, 2 after a wrong call or where the file can't be used, 3 where
-/// it is no volume, 4 where the file system refused; for all but the first one line goes to `errors`.
-pub fn run_volume<Rt: Files + AllocGlobal, R: Read, W: Write, E: Write>(
+/// Does what the words say, of which the first is the program's own name, with a volume in a file.
+/// `coloured` says whether a map is written in colours, which a terminal shows.
+///
+/// Gives the exit status: 0; 1 where memory, a stream or a file failed, 2 after a wrong call or
+/// where the file, or what is on the host, can't be used, 3 where the file is no volume, 4 where
+/// the file system refused. For all but the first one line goes to `errors`.
+pub fn run_volume<Rt: Files + AllocGlobal + Clone + Drop, R: Read, W: Write, E: Write>(
     rt: &Rt,
     words: &[String],
     input: &mut R,
     out: &mut W,
     errors: &mut E,
+    coloured: bool,
 ) -> u8 {
-    match call_of(rt.alloc(), words) {
-        Ok(call) => match carry_out(rt, call, input, out) {
-            Ok(()) => DONE,
-            Err(fault) => {
-                let _ = tell(call, fault, errors);
-                fault.status()
-            }
-        },
+    let call = match call_of(rt.alloc(), words) {
+        Ok(call) => call,
         Err(fault) => {
             let _ = writeln!(errors, "jffs_volume: {fault}");
-            match fault {
+            return match fault {
                 CallFault::Memory => BROKEN,
                 _ => MISUSED,
-            }
+            };
+        }
+    };
+    let mut place = String::new(rt.alloc());
+    let done = match call {
+        Call::Help => write_text(HELP, out),
+        Call::Version => write_text(VERSION, out),
+        Call::Do(work) => carry_out(rt, work, input, out, coloured, &mut place),
+    };
+    match done {
+        Ok(()) => DONE,
+        Err(fault) => {
+            let _ = tell(call, place.as_str(), fault, errors);
+            fault.status()
         }
     }
 }
 
-/// Writes what a call ended with, behind the words that it is about.
-fn tell<E: Write>(call: Call<'_>, fault: VolumeFault, errors: &mut E) -> io::Result<()> {
+/// Writes what a call ended with, behind the words that it is about and the path at which it
+/// stopped.
+fn tell<E: Write>(
+    call: Call<'_>,
+    place: &str,
+    fault: VolumeFault,
+    errors: &mut E,
+) -> io::Result<()> {
     errors.write_all(b"jffs_volume: ")?;
     if let Call::Do(work) = call {
-        for word in [work.file, work.first, work.second] {
+        for word in [work.file, work.first, work.second, place] {
             if !word.is_empty() {
                 write!(errors, "{word}: ")?;
             }
@@ -84,74 +78,99 @@ fn tell<E: Write>(call: Call<'_>, fault: VolumeFault, errors: &mut E) -> io::Res
     writeln!(errors, "{fault}")
 }
 
-fn carry_out<Rt: Files + AllocGlobal, R: Read, W: Write>(
-    rt: &Rt,
-    call: Call<'_>,
-    input: &mut R,
-    out: &mut W,
-) -> Result<(), VolumeFault> {
-    match call {
-        Call::Help => out.write_all(HELP.as_bytes())?,
-        Call::Version => out.write_all(VERSION.as_bytes())?,
-        Call::Do(work) => match work.command {
-            Command::Format => format_file(rt, &work)?,
-            Command::List | Command::Show | Command::Usage | Command::Check => look(
-                rt, &work, out,
-            )?,
-            Command::Put | Command::MakeDir | Command::Move | Command::Remove => {
-                change(rt, &work, input)?;
-            }
-        },
-    }
+fn write_text<W: Write>(text: &str, out: &mut W) -> Result<(), VolumeFault> {
+    out.write_all(text.as_bytes())?;
     out.flush()?;
     Ok(())
 }
 
-/// Makes the file of an empty volume.
-fn format_file<Rt: Files + AllocGlobal>(rt: &Rt, work: &Work<'_>) -> Result<(), VolumeFault> {
-    match (number_of(work.first), number_of(work.second)) {
-        (Ok(sectors), Ok(size)) => {
-            let _ = create_image(rt, work.file, sectors, size)?;
-            Ok(())
+/// Does what a call asks for. `place` is left with the path at which a walk stopped.
+fn carry_out<Rt: Files + AllocGlobal + Clone + Drop, R: Read, W: Write>(
+    rt: &Rt,
+    work: Work<'_>,
+    input: &mut R,
+    out: &mut W,
+    coloured: bool,
+    place: &mut String,
+) -> Result<(), VolumeFault> {
+    match work.task {
+        Task::Format {
+            sectors,
+            sector_size,
+        } => {
+            let _ = create_image(rt, work.file, sectors, sector_size)?;
         }
-        _ => Err(VolumeFault::File(FileFault::Geometry)),
+        Task::Look(asked) => look(rt, &work, asked, out, coloured)?,
+        Task::Change(asked) => change(rt, &work, asked, input, place)?,
+        Task::Save(directory) => {
+            let core = mount(rt, work.file, work.sector_size)?;
+            save(rt, core.tree(), directory, place)?;
+        }
     }
+    out.flush()?;
+    Ok(())
 }
 
 /// Mounts the volume and writes of it what is asked for. Nothing is changed.
 fn look<Rt: Files + AllocGlobal, W: Write>(
     rt: &Rt,
     work: &Work<'_>,
+    asked: Look<'_>,
     out: &mut W,
+    coloured: bool,
 ) -> Result<(), VolumeFault> {
     let core = mount(rt, work.file, work.sector_size)?;
-    match work.command {
-        Command::List => {
-            let text = if work.first.is_empty() {
-                "/"
-            } else {
-                work.first
-            };
-            list(core.tree(), &Path::parse(rt.alloc(), text)?, out)
+    let alloc = rt.alloc();
+    match asked {
+        Look::List { path, long } => list_at(alloc, &core, path, long, out),
+        Look::Show(path) => show_at(alloc, core.tree(), path, out),
+        Look::Usage => Ok(usage(&core, out)?),
+        Look::Check => Ok(check(&core, out)?),
+        Look::Map { svg } => {
+            let map = map_of(alloc, &core, core.log().flash().bytes())?;
+            Ok(draw_as(&map, svg, coloured, out)?)
         }
-        Command::Show => {
-            let path = Path::parse(rt.alloc(), work.first)?;
-            let file = file_at(core.tree(), &path)?;
-            Ok(show(core.tree(), file, out)?)
-        }
-        Command::Usage => Ok(usage(&core, out)?),
-        _ => Ok(check(&core, out)?),
+    }
+}
+
+fn list_at<F: Flash, W: Write>(
+    alloc: Global,
+    core: &Core<F>,
+    text: &str,
+    long: bool,
+    out: &mut W,
+) -> Result<(), VolumeFault> {
+    list(core, &Path::parse(alloc, text)?, long, out)
+}
+
+fn show_at<W: Write>(
+    alloc: Global,
+    tree: &Tree,
+    text: &str,
+    out: &mut W,
+) -> Result<(), VolumeFault> {
+    let file = file_at(tree, &Path::parse(alloc, text)?)?;
+    Ok(show(tree, file, out)?)
+}
+
+fn draw_as<W: Write>(map: &Map, svg: bool, coloured: bool, out: &mut W) -> io::Result<()> {
+    if svg {
+        draw_svg(map, out)
+    } else {
+        draw(map, coloured, out)
     }
 }
 
 /// Mounts the volume, changes it, unmounts it and brings the file to its medium.
-fn change<Rt: Files + AllocGlobal, R: Read>(
+fn change<Rt: Files + AllocGlobal + Clone + Drop, R: Read>(
     rt: &Rt,
     work: &Work<'_>,
+    asked: Change<'_>,
     input: &mut R,
+    place: &mut String,
 ) -> Result<(), VolumeFault> {
     let mut session = Session::new(mount(rt, work.file, work.sector_size)?);
-    let changed = change_in(rt.alloc(), &mut session, work, input);
+    let changed = change_in(rt, &mut session, asked, input, place);
     let (flash, closed) = session.close();
     changed?;
     closed?;
@@ -160,19 +179,23 @@ fn change<Rt: Files + AllocGlobal, R: Read>(
 }
 
 /// Asks for what a command says.
-fn change_in<F: Flash, R: Read>(
-    alloc: Global,
+fn change_in<Rt: Files + AllocGlobal + Clone + Drop, F: Flash, R: Read>(
+    rt: &Rt,
     session: &mut Session<F>,
-    work: &Work<'_>,
+    asked: Change<'_>,
     input: &mut R,
+    place: &mut String,
 ) -> Result<(), VolumeFault> {
-    match work.command {
-        Command::Put => put(alloc, session, work.first, &read_all(alloc, input)?),
-        Command::MakeDir => session.ask(Wish::MakeDir(Path::parse(alloc, work.first)?)),
-        Command::Move => session.ask(Wish::Rename {
-            from: Path::parse(alloc, work.first)?,
-            to: Path::parse(alloc, work.second)?,
+    let alloc = rt.alloc();
+    match asked {
+        Change::Put(path) => put(alloc, session, path, &read_all(alloc, input)?),
+        Change::MakeDir(path) => session.ask(Wish::MakeDir(Path::parse(alloc, path)?)),
+        Change::Move { from, to } => session.ask(Wish::Rename {
+            from: Path::parse(alloc, from)?,
+            to: Path::parse(alloc, to)?,
         }),
-        _ => session.ask(Wish::Remove(Path::parse(alloc, work.first)?)),
+        Change::Remove(path) => session.ask(Wish::Remove(Path::parse(alloc, path)?)),
+        Change::RemoveAll(path) => remove_all(alloc, session, path, place),
+        Change::Load(directory) => load(rt, session, directory, place),
     }
 }

@@ -11,7 +11,8 @@ use jffs_tree::{Cause, Limits, Outcome, Tree, Wish};
 /// The sender's number in the records.
 const WRITER: u16 = 1;
 
-/// A mounted volume, the number of the last request, and the numbers that came next when the session began.
+/// A mounted volume, the number of the last request, and the numbers that came next when the
+/// session began.
 #[derive(Drop)]
 pub(crate) struct Session<F: Flash> {
     core: Core<F>,
@@ -45,8 +46,8 @@ impl<F: Flash> Session<F> {
         self.core.limits().data_max
     }
 
-    /// Has one request answered, and erases what died by it. `Refused` where it wasn't granted: no node was appended
-    /// for it, unless the cause is Device. `Memory`: nothing was asked.
+    /// Has one request answered, and erases what died by it. `Refused` where it wasn't granted: no
+    /// node was appended for it, unless the cause is Device. `Memory`: nothing was asked.
     pub fn ask(&mut self, wish: Wish) -> Result<(), VolumeFault> {
         if self.core.reserve_answer().is_err() {
             return Err(VolumeFault::Memory);
@@ -71,7 +72,8 @@ impl<F: Flash> Session<F> {
         }
     }
 
-    /// Unmounts the volume, unless its device failed or no node was appended, and gives the device back.
+    /// Unmounts the volume, unless its device failed or no node was appended, and gives the device
+    /// back.
     pub fn close(mut self) -> (F, Result<(), VolumeFault>) {
         let closed = if self.core.failed() {
             Err(VolumeFault::Refused(Cause::Failed))

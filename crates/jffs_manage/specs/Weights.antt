@@ -1,0 +1,13 @@
+-- What takes the room of a volume.
+use Rattle.std.specs.Prelude.{ℕ, ◌==◌, ◌&&◌, List, map, filter, sum}
+use Rattle.jffs_tree.specs.Origin.{Tree}
+use Rattle.jffs_tree.specs.Look.{holds_version}
+use Rattle.jffs_log.specs.declared.book.Kept.{Kept}
+
+-- the lengths of the live records of an inode together
+abbrev pub live_bytes_in : Tree → ℕ → List Kept → ℕ
+live_bytes_in tree i records = sum (map (λ k. k.length) (filter (λ k. (k.inode == i) && holds_version tree i k.version) records))
+
+-- the lengths of all records together
+abbrev pub recorded_in : List Kept → ℕ
+recorded_in records = sum (map (λ k. k.length) records)

@@ -1,0 +1,180 @@
+//! Directories of the host: all of a volume into one, and all of one into a volume.
+
+use crate::changing::{UNFINISHED, put, read_some};
+use crate::fault::VolumeFault;
+use crate::looking::show;
+use crate::session::Session;
+use crate::walking::below;
+use jffs_flash::Flash;
+use jffs_node::{Path, ROOT_INODE};
+use jffs_tree::{Tree, Wish};
+use std::alloc::{AllocError, Global};
+use std::fs;
+use std::fs::{File, OpenOptions};
+use std::io::ErrorKind;
+use std::rt::Files;
+
+/// Writes all directories and files of a volume into a directory of the host, which is made where
+/// there is none. Directories that are there are used, and no file is written over.
+///
+/// `Dots` where a name on the volume is `.` or `..`: nothing is written. `HostTaken` where
+/// something stands in the way, `HostMissing` where the directory that should hold it isn't there,
+/// `HostMake`, `HostWrite`, `Memory`: what was written stays, the file at which it stopped with a
+/// first part of its bytes. `place` is left with the path at which it stopped, or empty.
+pub(crate) fn save<Rt: Files + AllocGlobal>(
+    rt: &Rt,
+    tree: &Tree,
+    directory: &str,
+    place: &mut String,
+) -> Result<(), VolumeFault> {
+    let all = below(rt.alloc(), tree, "", ROOT_INODE)?;
+    for found in all.iter() {
+        if has_dots(found.path.as_str()) {
+            set(place, found.path.as_str())?;
+            return Err(VolumeFault::Dots);
+        }
+    }
+    for found in all.iter() {
+        let path = found.path.as_str();
+        set(place, path)?;
+        let target = format!(in rt.alloc(); "{directory}{path}")?;
+        if tree.is_directory(found.inode) {
+            make_directory(rt, target.as_str())?;
+        } else {
+            save_file(rt, tree, found.inode, target.as_str())?;
+        }
+    }
+    place.clear();
+    Ok(())
+}
+
+/// Whether the last name of a path is one that each directory of the host has.
+fn has_dots(path: &str) -> bool {
+    path.ends_with("/.") || path.ends_with("/..")
+}
+
+fn set(place: &mut String, path: &str) -> Result<(), AllocError> {
+    place.clear();
+    place.push_str(path)
+}
+
+/// Makes a directory on the host, unless one stands there.
+fn make_directory<Rt: Files>(rt: &Rt, path: &str) -> Result<(), VolumeFault> {
+    let Err(error) = fs::create_dir(rt, path) else {
+        return Ok(());
+    };
+    match fs::metadata(rt, path) {
+        Ok(found) if found.is_dir() && error.kind() == ErrorKind::AlreadyExists => Ok(()),
+        _ => Err(VolumeFault::of_host_make(error)),
+    }
+}
+
+/// Writes the bytes of a file of the volume into a new file on the host.
+fn save_file<Rt: Files>(rt: &Rt, tree: &Tree, inode: u32, path: &str) -> Result<(), VolumeFault> {
+    let mut file = OpenOptions::new()
+        .write(true)
+        .create_new(true)
+        .open(rt, path)
+        .map_err(VolumeFault::of_host_make)?;
+    show(tree, inode, &mut file).map_err(VolumeFault::of_host_write)
+}
+
+/// Puts all directories and files below a directory of the host into a volume's root, by their
+/// bytes, each directory before what is in it. A directory that is there is used, and a file
+/// replaced as [`put`] does.
+///
+/// All names are looked at first. `Path` where one can't be on a volume, `Reserved` where it is
+/// that of an unfinished file, `Special` where it is neither a file nor a directory, `HostMissing`,
+/// `HostRead`: nothing is changed. Where a file can't be read, or a directory or file can't be put,
+/// what was put stays. `place` is left with the path at which it stopped, or empty.
+pub(crate) fn load<Rt: Files + AllocGlobal + Clone + Drop, F: Flash>(
+    rt: &Rt,
+    session: &mut Session<F>,
+    directory: &str,
+    place: &mut String,
+) -> Result<(), VolumeFault> {
+    let alloc = rt.alloc();
+    for (path, is_directory) in host_paths(rt, directory, place)?.iter() {
+        let path = path.as_str();
+        set(place, path)?;
+        if *is_directory {
+            keep_directory(alloc, session, path)?;
+        } else {
+            let from = format!(in alloc; "{directory}{path}")?;
+            put(alloc, session, path, &read_file(rt, from.as_str())?)?;
+        }
+    }
+    place.clear();
+    Ok(())
+}
+
+/// Makes a directory on the volume, unless one stands there.
+fn keep_directory<F: Flash>(
+    alloc: Global,
+    session: &mut Session<F>,
+    text: &str,
+) -> Result<(), VolumeFault> {
+    let path = Path::parse(alloc, text)?;
+    match session.tree().resolve(&path) {
+        Some(inode) if session.tree().is_directory(inode) => Ok(()),
+        _ => session.ask(Wish::MakeDir(path)),
+    }
+}
+
+/// The bytes of a file of the host, or one more than a file may have.
+fn read_file<Rt: Files + AllocGlobal>(rt: &Rt, path: &str) -> Result<Vec<u8>, VolumeFault> {
+    let mut file = File::open(rt, path).map_err(VolumeFault::of_host_read)?;
+    read_some(rt.alloc(), &mut file).map_err(VolumeFault::of_host_read)
+}
+
+/// The paths below a directory of the host, as a volume has them, each with whether it is a
+/// directory; by their bytes, and so each directory before what is in it.
+fn host_paths<Rt: Files + AllocGlobal + Clone + Drop>(
+    rt: &Rt,
+    directory: &str,
+    place: &mut String,
+) -> Result<Vec<(String, bool)>, VolumeFault> {
+    let alloc = rt.alloc();
+    let mut found = Vec::new(alloc);
+    add_paths(rt, directory, "", &mut found, place)?;
+    for at in 0..usize::MAX {
+        let path = match found.get(at) {
+            Some((path, true)) => path.clone()?,
+            Some((_, false)) => continue,
+            None => break,
+        };
+        set(place, path.as_str())?;
+        add_paths(rt, directory, path.as_str(), &mut found, place)?;
+    }
+    found.sort()?;
+    Ok(found)
+}
+
+/// Adds the paths of what stands in one directory of the host.
+fn add_paths<Rt: Files + AllocGlobal + Clone + Drop>(
+    rt: &Rt,
+    directory: &str,
+    inside: &str,
+    found: &mut Vec<(String, bool)>,
+    place: &mut String,
+) -> Result<(), VolumeFault> {
+    let alloc = rt.alloc();
+    let from = format!(in alloc; "{directory}{inside}")?;
+    let entries = fs::read_dir(rt, from.as_str()).map_err(VolumeFault::of_host_read)?;
+    for entry in entries {
+        let entry = entry.map_err(VolumeFault::of_host_read)?;
+        let name = entry.file_name();
+        let path = format!(in alloc; "{inside}/{name}")?;
+        set(place, path.as_str())?;
+        let _ = Path::parse(alloc, path.as_str())?;
+        if name == UNFINISHED {
+            return Err(VolumeFault::Reserved);
+        }
+        let kind = entry.file_type().map_err(VolumeFault::of_host_read)?;
+        if !kind.is_dir() && !kind.is_file() {
+            return Err(VolumeFault::Special);
+        }
+        found.push((path, kind.is_dir()))?;
+    }
+    Ok(())
+}

@@ -1,0 +1,216 @@
+//! What each sector of a volume holds.
+
+ghost use Rattle.std.specs.Prelude.{◌≡◌, ◌-◌, ◌<◌, ◌^◌, false, length};
+ghost use Rattle.jffs_log.specs.Book.{weight_in, log_in};
+ghost use Rattle.jffs_manage.specs.Weights.{recorded_in};
+
+use jffs_core::Core;
+use jffs_flash::{ERASED_BYTE, Flash};
+use jffs_log::{Kept, Log};
+use std::alloc::{AllocFailed, Global};
+use std::collections::VecDeque;
+
+/// How many cells a sector has.
+pub(crate) const CELLS: usize = 64;
+
+/// What a byte of a sector holds. Of the bytes of a cell the first in this order is shown.
+#[derive(Clone, Copy, PartialEq, Eq)]
+pub(crate) enum Held {
+    /// A byte of a live record.
+    Live,
+    /// A byte of another record.
+    Dead,
+    /// No byte of a record, and none can stand there before the sector is erased.
+    Unused,
+    /// No byte of a record, but the next ones may stand there.
+    Erased,
+}
+
+/// What a sector is in the log.
+#[derive(Clone, Copy)]
+pub(crate) enum Part {
+    /// The one that was begun last, where the next record goes.
+    Tail,
+    /// The one that is erased next.
+    Next,
+    /// Any other.
+    Other,
+}
+
+/// A sector, as it is drawn.
+#[derive(Clone, Copy)]
+pub(crate) struct Row {
+    pub sector: u32,
+    pub part: Part,
+    pub cells: [Held; CELLS],
+}
+
+/// How many bytes of a volume hold what.
+#[derive(Clone, Copy)]
+pub(crate) struct Totals {
+    pub live: u64,
+    pub dead: u64,
+    pub unused: u64,
+    pub erased: u64,
+}
+
+/// What the sectors of a volume hold.
+#[derive(Drop)]
+pub(crate) struct Map {
+    /// How many bytes a cell stands for.
+    pub cell_len: u32,
+    pub rows: Vec<Row>,
+    pub totals: Totals,
+}
+
+/// The sector that was begun last.
+#[derive(Clone, Copy)]
+struct Tail {
+    sector: u32,
+    /// How many bytes after its records are erased; none where a write was cut off there.
+    free: u32,
+}
+
+/// What the sectors of a volume hold, whose image has these bytes. The error: allocation failed.
+pub(crate) fn map_of<F: Flash>(
+    alloc: Global,
+    core: &Core<F>,
+    image: &[u8],
+) -> Result<Map, AllocFailed<Row>> {
+    let log = core.log();
+    let cell_len = (log.sector_size() / CELLS as u32).max(1);
+    let tail = tail_of(log, image);
+    let mut rows = Vec::new(alloc);
+    for sector in 0..log.sectors() {
+        let mut cells = [rest_of(log, sector, tail); CELLS];
+        paint(core, sector, cell_len, &mut cells);
+        rows.push(Row {
+            sector,
+            part: part_of(log, sector, tail),
+            cells,
+        })?;
+    }
+    Ok(Map {
+        cell_len,
+        rows,
+        totals: totals_of(core, tail),
+    })
+}
+
+/// The tail of a log; `None` where it has no sector.
+fn tail_of<F: Flash>(log: &Log<F>, image: &[u8]) -> Option<Tail> {
+    if log.held() == 0 {
+        return None;
+    }
+    let at = log.oldest().saturating_add(log.held() - 1);
+    let sector = if at < log.sectors() {
+        at
+    } else {
+        at.saturating_sub(log.sectors())
+    };
+    let used = match log.records().back() {
+        Some(kept) if kept.sector == sector => kept.place.saturating_add(kept.length),
+        _ => 0,
+    };
+    let size = u64::from(log.sector_size());
+    let begin = u64::from(sector) * size;
+    let rest = image.get((begin + u64::from(used)) as usize..(begin + size) as usize);
+    let free = match rest {
+        Some(rest) if rest.iter().all(|byte| *byte == ERASED_BYTE) => rest.len() as u32,
+        _ => 0,
+    };
+    Some(Tail { sector, free })
+}
+
+/// Whether a sector holds a part of the log.
+fn is_held<F: Flash>(log: &Log<F>, sector: u32) -> bool {
+    let ahead = if sector < log.oldest() {
+        log.sectors()
+    } else {
+        0
+    };
+    sector.saturating_add(ahead).saturating_sub(log.oldest()) < log.held()
+}
+
+/// What stands in a sector after its records.
+fn rest_of<F: Flash>(log: &Log<F>, sector: u32, tail: Option<Tail>) -> Held {
+    match tail {
+        Some(tail) if tail.sector == sector && tail.free > 0 => Held::Erased,
+        _ if is_held(log, sector) => Held::Unused,
+        _ => Held::Erased,
+    }
+}
+
+/// What a sector is in the log.
+fn part_of<F: Flash>(log: &Log<F>, sector: u32, tail: Option<Tail>) -> Part {
+    match tail {
+        Some(tail) if tail.sector == sector => Part::Tail,
+        Some(_) if log.oldest() == sector => Part::Next,
+        _ => Part::Other,
+    }
+}
+
+/// Sets the cells of a sector in which its records stand.
+fn paint<F: Flash>(core: &Core<F>, sector: u32, cell_len: u32, cells: &mut [Held; CELLS]) {
+    let cell_len = cell_len.max(1);
+    for kept in core.log().records().iter() {
+        if kept.sector != sector {
+            continue;
+        }
+        let live = core.tree().live(kept.inode, kept.version);
+        let end = kept.place.saturating_add(kept.length).div_ceil(cell_len);
+        for at in kept.place / cell_len..end {
+            match cells.get_mut(at as usize) {
+                Some(cell) if live => *cell = Held::Live,
+                Some(cell) if *cell != Held::Live => *cell = Held::Dead,
+                _ => {}
+            }
+        }
+    }
+}
+
+/// How many bytes hold what.
+fn totals_of<F: Flash>(core: &Core<F>, tail: Option<Tail>) -> Totals
+    ensures live { core.now.failed ≡ false → result.live ≡ weight_in core.now.tree (log_in core.now.image core.now.book) }
+    ensures dead { length core.now.book.records.items < 2 ^ 32 → result.dead ≡ recorded_in core.now.book.records.items - result.live }
+{
+    let log = core.log();
+    let size = u64::from(log.sector_size());
+    let free = match tail {
+        Some(tail) => tail.free,
+        None => 0,
+    };
+    let live = log.live_weight(core.tree());
+    let dead = recorded(log.records()).saturating_sub(live);
+    let erased = u64::from(log.erased())
+        .saturating_mul(size)
+        .saturating_add(u64::from(free));
+    let whole = u64::from(log.sectors()).saturating_mul(size);
+    Totals {
+        live,
+        dead,
+        unused: whole
+            .saturating_sub(live)
+            .saturating_sub(dead)
+            .saturating_sub(erased),
+        erased,
+    }
+}
+
+/// The lengths of all records together, in bytes. No log has 2^32 records.
+fn recorded(records: &VecDeque<Kept>) -> u64
+    ensures { length records.now.items < 2 ^ 32 → result ≡ recorded_in records.now.items }
+{
+    if records.len() <= u32::MAX as usize {
+        sum_of_all(records)
+    } else {
+        u64::MAX
+    }
+}
+
+fn sum_of_all(records: &VecDeque<Kept>) -> u64
+    requires { length records.now.items < 2 ^ 32 }
+    ensures { result ≡ recorded_in records.now.items }
+{
+    records.iter().map(|kept| u64::from(kept.length)).sum()
+}

@@ -1,0 +1,48 @@
+//! What stands below a directory of a volume.
+
+use crate::fault::VolumeFault;
+use jffs_node::{Name, PathFault};
+use jffs_tree::Tree;
+use std::alloc::Global;
+
+/// Something on a volume: its path, and its inode.
+#[derive(Drop)]
+pub(crate) struct Place {
+    /// The path; for the root it is empty.
+    pub path: String,
+    pub inode: u32,
+}
+
+/// What stands at a path, and all below it: each directory before what is in it. The root's path is
+/// given as the empty text. `Memory` where allocation failed.
+pub(crate) fn below(
+    alloc: Global,
+    tree: &Tree,
+    path: &str,
+    inode: u32,
+) -> Result<Vec<Place>, VolumeFault> {
+    let mut found = Vec::new(alloc);
+    let path = String::from_str(alloc, path)?;
+    found.push(Place { path, inode })?;
+    for at in 0..usize::MAX {
+        let (path, inode) = match found.get(at) {
+            Some(place) => (place.path.clone()?, place.inode),
+            None => break,
+        };
+        for (name, inode) in tree.names(inode)?.iter() {
+            found.push(Place {
+                path: joined(alloc, path.as_str(), name)?,
+                inode: *inode,
+            })?;
+        }
+    }
+    Ok(found)
+}
+
+/// The path of a name in a directory.
+fn joined(alloc: Global, directory: &str, name: &Name) -> Result<String, VolumeFault> {
+    match std::str::from_utf8(name.bytes()) {
+        Ok(name) => Ok(format!(in alloc; "{directory}/{name}")?),
+        Err(_) => Err(VolumeFault::Path(PathFault::NameByte)),
+    }
+}

@@ -8,6 +8,7 @@
 
 mod cleaner;
 mod crew;
+mod ending;
 mod fault;
 mod joining;
 mod laws;
@@ -28,7 +29,7 @@ pub use jffs_serve::Served;
 pub use jffs_text::{DumpFault, Script, ScriptFault, ScriptWhy, dump};
 pub use laws::{runs_end_unmounted, runs_have_room, runs_leave_contents, runs_without_faults};
 pub use outcome::{AcceptedBy, Run};
-pub use program::{run_program, run_program_on_file};
+pub use program::{run_called, run_program, run_program_on_file};
 pub use reader::ReaderEnd;
 pub use threads::run_threads;
 pub use writer::{Gate, NoGate};

@@ -1,5 +1,5 @@
-//! What ends the program before its lines are whole: what is printed then, what people are told, and
-//! the status.
+//! What ends the program before its lines are whole: what is printed then, what people are told,
+//! and the status.
 
 use crate::fault::RunWhy;
 use crate::reading::{InputFault, Unread};

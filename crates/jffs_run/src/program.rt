@@ -43,8 +43,8 @@ where the script is refused or its file can't be read. A line on standard error 
 /// after `--volume`, or else as `run_program` does.
 ///
 /// Returns the exit status, that of `run_program` or `run_program_on_file`; 0 after `--help` and
-/// `--version`; 2 after a wrong call, and where the script's file can't be read. For all but 0 a line
-/// goes to `errors`.
+/// `--version`; 2 after a wrong call, and where the script's file can't be read. For all but 0 a
+/// line goes to `errors`.
 pub fn run_called<
     Rt: AllocGlobal + Files<File: Send> + Threads + Wait + Sync,
     R: Read,

@@ -102,12 +102,12 @@ impl<'a> From<io::Error> for CallFault<'a> {
 }
 
 impl Usage {
-    /// The words of a call for the program's work; `words` has its own name first. What `--help` and
-    /// `--version` ask for is written to `out` here, which is flushed.
+    /// The words of a call for the program's work; `words` has its own name first. What `--help`
+    /// and `--version` ask for is written to `out` here, which is flushed.
     ///
-    /// An error is the exit status of a call that is over by now: 0 after `--help` and `--version`, 2
-    /// after a wrong call, 1 where `out` can't be written or allocation failed. For the last two one
-    /// line goes to `errors`, which names the word that is wrong.
+    /// An error is the exit status of a call that is over by now: 0 after `--help` and `--version`,
+    /// 2 after a wrong call, 1 where `out` can't be written or allocation failed. For the last two
+    /// one line goes to `errors`, which names the word that is wrong.
     pub fn work<'a, W: Write, E: Write>(
         &self,
         alloc: Global,

@@ -55,8 +55,8 @@ pub(crate) enum Keyword {
 
 impl Keyword {
     /// Reads the head of a line, whose words must be as many as the statement has: its first
-    /// word, and of `line` the form too. `Command`, `Spaces`, `Few`, `Extra` or `Choice` if it isn't
-    /// that.
+    /// word, and of `line` the form too. `Command`, `Spaces`, `Few`, `Extra` or `Choice` if it
+    /// isn't that.
     pub(crate) fn take(words: &mut Words<'_>) -> Result<Keyword, Mistake> {
         let line = *words;
         match words.take() {

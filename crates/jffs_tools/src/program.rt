@@ -51,8 +51,8 @@ Status: 0, 2 after a wrong call or a line that is no operation, 1 after a fault.
 /// first.
 ///
 /// Returns the exit status: 0, also after `--help` and `--version`; 3 where the scan refuses the
-/// image; 2 after a wrong call; 1 if it can't read, write or allocate. For the last two one line goes
-/// to `errors`.
+/// image; 2 after a wrong call; 1 if it can't read, write or allocate. For the last two one line
+/// goes to `errors`.
 pub fn run_image<R: Read, W: Write, E: Write>(
     alloc: Global,
     words: &[String],
@@ -109,8 +109,8 @@ fn number_of(word: &str) -> Result<u32, ToolFault> {
 /// name first.
 ///
 /// Returns the exit status: 0, also after `--help` and `--version`; 2 after a wrong call, or a line
-/// that is no operation or can't be done; 1 if it can't read, write or allocate. For the last two one line goes to `errors`, with
-/// the number of the line where there is one.
+/// that is no operation or can't be done; 1 if it can't read, write or allocate. For the last two
+/// one line goes to `errors`, with the number of the line where there is one.
 pub fn run_replay<Rt: Files + AllocGlobal, R: Read, W: Write, E: Write>(
     rt: &Rt,
     words: &[String],

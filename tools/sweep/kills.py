@@ -1,4 +1,5 @@
 """Kills jffs_volume and jffs with SIGKILL at random moments, and reads with the second reader what the file holds then."""
+import os
 import random
 import signal
 import subprocess
@@ -12,7 +13,8 @@ WRITE_MAX = SIZE // 4 - 64
 UNFINISHED = "/.put.new"
 NAMES = ["/a", "/b", "/c", "/d"]
 SESSIONS, COMMANDS = 8, 60
-SCRIPTS, LINES = 200, 300
+# Of so many commands of a script the first ones are run to their end, and the run of the others is killed.
+SCRIPTS, LINES, FIRST = 200, 300, 100
 READER = TOP / "tools/read_volume.py"
 
 
@@ -104,8 +106,8 @@ def read(path):
 
 
 def script(seed):
-    """A script of one writer, and the files after each first part of its commands."""
-    draw, lines = random.Random(seed), [f"volume {SECTORS} {SIZE}", *["cleaner 1000"] * (seed % 2), "writer"]
+    """The lines before a script's commands, the commands of its one writer, and the files after each first part of them."""
+    draw, commands = random.Random(seed), []
     files, after = {}, [{}]
     for _ in range(LINES):
         have, free = sorted(files), [name for name in NAMES if name not in files]
@@ -122,33 +124,61 @@ def script(seed):
             files[words[-1]] = content
         elif kind == "create":
             files[target] = content
-        lines.append(" ".join(words))
+        commands.append(" ".join(words))
         after.append(dict(files))
-    return "\n".join(lines) + "\n", after
+    return [f"volume {SECTORS} {SIZE}", *["cleaner 1000"] * (seed % 2), "writer"], commands, after
+
+
+def done_in(after, files, least):
+    """The fewest commands, at least `least`, that leave these files; None where no number of them does."""
+    return next((count for count in range(least, len(after)) if after[count] == files), None)
+
+
+def glance(process, image):
+    """The files on the volume in the file of a program that is stopped for as long as they are read."""
+    process.send_signal(signal.SIGSTOP)
+    # None unless it was seen to have ended before.
+    if process.returncode is None:
+        os.waitid(os.P_PID, process.pid, os.WSTOPPED | os.WEXITED | os.WNOWAIT)
+    found = read(image)
+    process.send_signal(signal.SIGCONT)
+    return found
+
+
+def run_first(runner, program, image, lines):
+    """Runs first commands on a new volume; why they weren't all answered, or None. Answers are printed at a run's end."""
+    ran = runner.run([program, "--volume", image], "\n".join(lines) + "\n", limit=60)
+    answers = [line for line in ran.out.splitlines() if line.endswith(" appended")]
+    return None if ran.status == 0 and len(answers) == FIRST else f"status {ran.status}, {len(answers)} were appended"
 
 
 def run_script(runner, program, seed, seconds=None):
-    """Runs a script on a new volume and kills it; whether it was killed, how long it ran, and why what is left is wrong,
-    or None."""
-    text, after = script(seed)
+    """Runs the first commands of a script to their end, and then the others, stops these once, and kills them; whether
+    they were killed, how long they ran, and why what is left is wrong, or None. What was answered in the first run, and
+    what the file held when the second one was stopped, has to be there."""
+    head, commands, after = script(seed)
     image, written = (runner.folder / f"script.{seed}.{end}" for end in ("image", "script"))
-    written.write_text(text)
-    started = time.monotonic()
+    why = run_first(runner, program, image, head + commands[:FIRST])
+    if why:
+        return False, 0, why
+    written.write_text("\n".join(head + commands[FIRST:]) + "\n")
+    sure, draw, started = FIRST, random.Random(-seed), time.monotonic()
     with written.open() as given:
         process = subprocess.Popen([str(program), "--volume", str(image)], stdin=given, stdout=subprocess.DEVNULL,
                                    stderr=subprocess.DEVNULL)
     if seconds is not None:
-        time.sleep(random.Random(-seed).uniform(0.2, 1.3) * seconds)
+        time.sleep(draw.uniform(0.05, 0.5) * seconds)
+        sure = done_in(after, glance(process, image), FIRST)
+        time.sleep(draw.uniform(0, 0.3) * seconds)
         process.kill()
     status, spent = process.wait(60), time.monotonic() - started
     if status not in (0, -signal.SIGKILL):
         return False, spent, f"status {status}"
-    if not image.exists():
-        return status != 0, spent, None if status else "no file was made"
-    found = read(image)
-    if status == 0:
-        after = after[-1:]
-    return status != 0, spent, None if found in after else f"{found and sorted(found)} is left by a script"
+    if sure is None:
+        return status != 0, spent, "a stopped script's file has other files than some first commands leave"
+    found, least = read(image), LINES if status == 0 else sure
+    held = done_in(after, found, least) is not None
+    return status != 0, spent, None if held else f"{found and sorted(found)} is left, not what {least} commands or more leave"
 
 
 def kill_scripts(runner):

@@ -1,8 +1,8 @@
-//! The program `jffs`: a script on standard input, what became of it on standard output. With `--volume FILE` the volume
-//! stays in that file.
+//! The program `jffs`: a script in a file or on standard input, what became of it on standard output. With
+//! `--volume FILE` the volume stays in that file.
 #![tactic(auto)]
 
-use jffs_run::{run_program, run_program_on_file};
+use jffs_run::run_called;
 use std::io::BufWriter;
 use std::process::ExitCode;
 use std::{env, io};
@@ -11,17 +11,6 @@ fn main(rt: HostRuntime) -> io::Result<ExitCode> {
     let words: Vec<String> = env::args(&rt)?.collect(rt.alloc())?;
     let mut input = rt.reader();
     let mut out = BufWriter::new(rt.alloc(), io::writer(&rt))?;
-    let status = match file_of(&words) {
-        Some(file) => run_program_on_file(&rt, file, &mut input, &mut out, &mut rt.stderr()),
-        None => run_program(&rt, &mut input, &mut out),
-    };
+    let status = run_called(&rt, &words, &mut input, &mut out, &mut rt.stderr());
     Ok(ExitCode::from(status))
-}
-
-/// The file that the program's words name.
-fn file_of(words: &[String]) -> Option<&str> {
-    match words {
-        [_, option, file] if option.as_str() == "--volume" => Some(file.as_str()),
-        _ => None,
-    }
 }

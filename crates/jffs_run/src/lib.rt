@@ -1,13 +1,15 @@
 //! A run of a script in threads, from its text to the lines that tell what became of it.
 //!
 //! `run_threads` starts a thread for the log, one for each writer and each reader, and one for the
-//! cleaner where the script asks for it, and joins them all; `run_program` does
-//! all that the program does, whatever its input and output are. It stands on `jffs_text` for texts, on `jffs_line` and `jffs_index` for what
-//! flows between the threads, and on `jffs_serve` for the log's side.
+//! cleaner where the script asks for it, and joins them all; `run_program` does all that the program
+//! does with a script, whatever its input and output are, and `run_called` what its words ask for.
+//! It stands on `jffs_text` for texts, on `jffs_line` and `jffs_index` for what flows between the
+//! threads, and on `jffs_serve` for the log's side.
 #![tactic(auto)]
 
 mod cleaner;
 mod crew;
+mod ending;
 mod fault;
 mod joining;
 mod laws;
@@ -28,7 +30,7 @@ pub use jffs_serve::Served;
 pub use jffs_text::{DumpFault, Script, ScriptFault, ScriptWhy, dump};
 pub use laws::{runs_end_unmounted, runs_have_room, runs_leave_contents, runs_without_faults};
 pub use outcome::{AcceptedBy, Run};
-pub use program::{run_program, run_program_on_file};
+pub use program::{run_called, run_program, run_program_on_file};
 pub use reader::ReaderEnd;
 pub use threads::run_threads;
 pub use writer::{Gate, NoGate};

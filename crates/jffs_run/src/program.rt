@@ -1,16 +1,17 @@
 //! The program: a script in, lines out.
 
-use crate::fault::{RunFault, RunWhy};
+use crate::ending::{Fault, Why, status_of};
+use crate::fault::RunFault;
 use crate::outcome::Run;
 use crate::printing::{print_answers, print_readers, print_served};
-use crate::reading::{InputFault, read_whole};
+use crate::reading::{read_file, read_whole};
 use crate::threads::run_threads;
 use crate::writer::NoGate;
 use jffs_core::Answer;
-use jffs_file::{FileFault, create_image, open_image};
-use jffs_flash::{Flash, FlashNew, MemoryFlash};
+use jffs_file::{FileFault, FileFlash, FileStore, create_image, open_image};
+use jffs_flash::{Flash, MemoryFlash};
 use jffs_log::{Mounted, ScanFault, scan};
-use jffs_text::{DumpFault, Script, ScriptFault, dump};
+use jffs_text::{Script, Usage, dump};
 use std::alloc::Global;
 use std::io;
 use std::io::{Read, Write};
@@ -18,22 +19,48 @@ use std::rt::Files;
 use std::sync::Wait;
 use std::thread::Threads;
 
-/// What ends the program before its lines are whole.
-#[derive(Drop)]
-enum Fault {
-    /// The one line `bad script, ..`, status 2.
-    Script(ScriptFault),
-    /// The line `fault: WHY` of a run, status 1.
-    Run(RunWhy),
-    /// The line `fault: WHY`, status 1.
-    Other(&'static str),
-    /// A line on standard error, status 1: there is no flash in the file.
-    File(FileFault),
-}
+const USAGE: Usage = Usage {
+    program: "jffs",
+    help: "jffs [--volume VOLUME] [SCRIPT]
 
-impl From<io::Error> for Fault {
-    fn from(_: io::Error) -> Fault {
-        Fault::Other("Write")
+Runs the script in the file SCRIPT, or the one on standard input, in threads, and prints what became
+of each request, and the tree that a scan finds after the run. With --volume the volume stays in the
+file VOLUME, which is made where there is none; else it stands in memory.
+
+  printf '%s\\n' 'volume 8 1024' writer 'create /f' 'write /f 0 68656c6c6f' > hello.script
+  jffs hello.script
+  jffs --volume notes.image < hello.script
+
+Status: 0; 1 after a fault of memory, a stream, a thread or the volume's file; 2 after a wrong call, and
+where the script is refused or its file can't be read. A line on standard error says why.
+",
+    option: Some("--volume"),
+    options: "--volume VOLUME, --help and --version",
+    most: 1,
+};
+
+/// Does what the words of a call ask for, of which the first is the program's own name: it runs the
+/// script in the file that they name, or else the one that `input` gives, on the volume in the file
+/// after `--volume`, or else as `run_program` does.
+///
+/// Returns the exit status, that of `run_program` or `run_program_on_file`; 0 after `--help` and
+/// `--version`; 2 after a wrong call, and where the script's file can't be read. For all but 0 a
+/// line goes to `errors`.
+pub fn run_called<
+    Rt: AllocGlobal + Files<File: Send> + Threads + Wait + Sync,
+    R: Read,
+    W: Write,
+    E: Write,
+>(rt: &Rt, words: &[String], input: &mut R, out: &mut W, errors: &mut E) -> u8 {
+    match USAGE.work(rt.alloc(), words, out, errors) {
+        Ok(work) => {
+            let ended = match work.words.first() {
+                Some(script) => run_file(rt, work.value, *script, out),
+                None => run_input(rt, work.value, input, out),
+            };
+            status_of(ended, out, errors)
+        }
+        Err(status) => status,
     }
 }
 
@@ -47,94 +74,110 @@ pub fn run_program<Rt: AllocGlobal + Threads + Wait + Sync, R: Read, W: Write>(
     input: &mut R,
     out: &mut W,
 ) -> u8 {
-    match run_script(rt, input, out) {
-        Ok(()) => 0,
-        Err(fault) => {
-            let status = tell(&fault, out);
-            let _ = out.flush();
-            status
-        }
-    }
+    status_of(run_new(rt, input, out), out, &mut io::sink())
 }
 
-/// Runs the script that a reader gives as `run_program` does, on the volume in a file, which is made, erased, where
-/// there is none; its sectors are those of the script. Gives the same exit status, and 1 after a line on `errors` where
-/// the file can't be used.
+/// Runs the script that a reader gives as `run_program` does, on the volume in a file, which is
+/// made, erased, where there is none; its sectors are those of the script.
+///
+/// Returns the same exit status, and 1 where the file can't be used. For all but 0 a line goes to
+/// `errors`.
 pub fn run_program_on_file<
     Rt: AllocGlobal + Files<File: Send> + Threads + Wait + Sync,
     R: Read,
     W: Write,
     E: Write,
 >(rt: &Rt, path: &str, input: &mut R, out: &mut W, errors: &mut E) -> u8 {
-    match run_script_on_file(rt, path, input, out) {
-        Ok(()) => 0,
-        Err(Fault::File(fault)) => {
-            let _ = writeln!(errors, "jffs: {path}: {fault}");
-            1
-        }
-        Err(fault) => {
-            let status = tell(&fault, out);
-            let _ = out.flush();
-            status
-        }
-    }
+    status_of(run_input(rt, Some(path), input, out), out, errors)
 }
 
-fn tell<W: Write>(fault: &Fault, out: &mut W) -> u8 {
-    match fault {
-        Fault::Script(fault) => {
-            let _ = writeln!(out, "{fault}");
-            2
-        }
-        Fault::Run(why) => {
-            let _ = writeln!(out, "fault: {why}");
-            1
-        }
-        Fault::Other(why) => {
-            let _ = writeln!(out, "fault: {why}");
-            1
-        }
-        Fault::File(_) => 1,
-    }
-}
-
-/// All is read, parsed, run and scanned before the first line is written.
-fn run_script<Rt: AllocGlobal + Threads + Wait + Sync, R: Read, W: Write>(
+/// Runs the script that a reader gives on a new volume in memory.
+fn run_new<'a, Rt: AllocGlobal + Threads + Wait + Sync, R: Read, W: Write>(
     rt: &Rt,
     input: &mut R,
     out: &mut W,
-) -> Result<(), Fault> {
-    let alloc = rt.alloc();
-    let script = read_script(alloc, input)?;
-    let flash = MemoryFlash::new(alloc, script.sectors, script.sector_size).map_err(flash_fault)?;
+) -> Result<(), Fault<'a>> {
+    let script = read_script(rt.alloc(), input)?;
+    run_in_memory(rt, script, out)?;
+    Ok(())
+}
+
+/// Runs the script in a file.
+fn run_file<'a, Rt: AllocGlobal + Files<File: Send> + Threads + Wait + Sync, W: Write>(
+    rt: &Rt,
+    volume: Option<&'a str>,
+    path: &'a str,
+    out: &mut W,
+) -> Result<(), Fault<'a>> {
+    let script = match read_file(rt, path) {
+        Ok(text) => script_of(rt.alloc(), text)?,
+        Err(why) => return Err(Fault::NoScript { path, why }),
+    };
+    run_script(rt, volume, script, out)
+}
+
+/// Runs the script that a reader gives.
+fn run_input<'a, Rt: AllocGlobal + Files<File: Send> + Threads + Wait + Sync, R: Read, W: Write>(
+    rt: &Rt,
+    volume: Option<&'a str>,
+    input: &mut R,
+    out: &mut W,
+) -> Result<(), Fault<'a>> {
+    let script = read_script(rt.alloc(), input)?;
+    run_script(rt, volume, script, out)
+}
+
+/// Runs a script on the volume in a file, or on a new one in memory.
+fn run_script<'a, Rt: AllocGlobal + Files<File: Send> + Threads + Wait + Sync, W: Write>(
+    rt: &Rt,
+    volume: Option<&'a str>,
+    script: Script,
+    out: &mut W,
+) -> Result<(), Fault<'a>> {
+    let Some(path) = volume else {
+        run_in_memory(rt, script, out)?;
+        return Ok(());
+    };
+    let flash = match flash_in(rt, path, script.sectors, script.sector_size) {
+        Ok(flash) => flash,
+        Err(why) => return Err(Fault::NoFlash { path, why }),
+    };
+    run_on(rt, script, flash, out)?;
+    Ok(())
+}
+
+/// Runs a script on erased flash in memory.
+fn run_in_memory<Rt: AllocGlobal + Threads + Wait + Sync, W: Write>(
+    rt: &Rt,
+    script: Script,
+    out: &mut W,
+) -> Result<(), Why> {
+    let flash = MemoryFlash::new(rt.alloc(), script.sectors, script.sector_size)?;
     run_on(rt, script, flash, out)
 }
 
-/// The same on the flash in a file.
-fn run_script_on_file<
-    Rt: AllocGlobal + Files<File: Send> + Threads + Wait + Sync,
-    R: Read,
-    W: Write,
->(rt: &Rt, path: &str, input: &mut R, out: &mut W) -> Result<(), Fault> {
-    let script = read_script(rt.alloc(), input)?;
+/// The flash in a file, which is made, erased, where there is none.
+fn flash_in<Rt: AllocGlobal + Files>(
+    rt: &Rt,
+    path: &str,
+    sectors: u32,
+    sector_size: u32,
+) -> Result<FileFlash<FileStore<Rt::File>>, FileFault> {
     let image = match open_image(rt, path) {
-        Err(FileFault::Missing) => create_image(rt, path, script.sectors, script.sector_size),
+        Err(FileFault::Missing) => create_image(rt, path, sectors, sector_size),
         opened => opened,
     };
-    let flash = image
-        .map_err(Fault::File)?
-        .into_flash(script.sectors, script.sector_size)
-        .map_err(Fault::File)?;
-    run_on(rt, script, flash, out)
+    image?.into_flash(sectors, sector_size)
 }
 
 /// Runs a script on a device, which may hold a volume already, and writes what became of it.
+/// All is run and scanned before the first line is written.
 fn run_on<Rt: AllocGlobal + Threads + Wait + Sync, F: Flash + Send + Drop, W: Write>(
     rt: &Rt,
     script: Script,
     flash: F,
     out: &mut W,
-) -> Result<(), Fault> {
+) -> Result<(), Why> {
     let alloc = rt.alloc();
     let Run {
         accepted: _,
@@ -155,7 +198,7 @@ fn run_on<Rt: AllocGlobal + Threads + Wait + Sync, F: Flash + Send + Drop, W: Wr
     print_readers(&readers, out)?;
     print_served(served, out)?;
     writeln!(out, "{}", if clean { "scan clean" } else { "scan unclean" })?;
-    dump(alloc, &tree, out).map_err(dump_fault)?;
+    dump(alloc, &tree, out)?;
     out.flush()?;
     Ok(())
 }
@@ -165,47 +208,33 @@ fn run_once<Rt: AllocGlobal + Threads + Wait + Sync, F: Flash + Send + Drop>(
     rt: &Rt,
     script: Script,
     flash: F,
-) -> Result<Run<F>, Fault> {
+) -> Result<Run<F>, Why> {
     run_threads(rt, rt.alloc(), &script, flash, &NoGate).map_err(run_fault)
 }
 
 /// The same answers in a new allocation. The old one lies among what the log thread freed, and
 /// would keep all before it from going back to the system while the scan needs as much again.
-fn moved_apart(answers: Vec<Answer>) -> Result<Vec<Answer>, Fault> {
-    answers.clone().map_err(|_| Fault::Other("Memory"))
+fn moved_apart(answers: Vec<Answer>) -> Result<Vec<Answer>, Why> {
+    answers.clone().map_err(|_| Why::Memory)
 }
 
-/// The script that a reader gives. Its text isn't kept.
-fn read_script<R: Read>(alloc: Global, input: &mut R) -> Result<Script, Fault> {
-    let text = read_whole(alloc, input).map_err(input_fault)?;
-    Script::parse(alloc, &text).map_err(Fault::Script)
+/// The script that a reader gives.
+fn read_script<'a, R: Read>(alloc: Global, input: &mut R) -> Result<Script, Fault<'a>> {
+    script_of(alloc, read_whole(alloc, input)?)
 }
 
-fn input_fault(fault: InputFault) -> Fault {
-    Fault::Other(match fault {
-        InputFault::Read => "Read",
-        InputFault::Memory => "Memory",
-    })
+/// The script that a text is, which isn't kept.
+fn script_of<'a>(alloc: Global, text: Vec<u8>) -> Result<Script, Fault<'a>> {
+    match Script::read(alloc, &text) {
+        Ok(script) => Ok(script),
+        Err(mistake) => Err(Fault::Script(mistake)),
+    }
 }
 
-fn flash_fault(fault: FlashNew) -> Fault {
-    Fault::Other(match fault {
-        FlashNew::Geometry => "Geometry",
-        FlashNew::Memory => "Memory",
-    })
+fn run_fault<F: Drop>(fault: RunFault<F>) -> Why {
+    Why::Run(fault.why)
 }
 
-fn run_fault<F: Drop>(fault: RunFault<F>) -> Fault {
-    Fault::Run(fault.why)
-}
-
-fn scan_fault<F: Drop>(_: ScanFault<F>) -> Fault {
-    Fault::Other("Scan")
-}
-
-fn dump_fault(fault: DumpFault) -> Fault {
-    Fault::Other(match fault {
-        DumpFault::Write => "Write",
-        DumpFault::Memory => "Memory",
-    })
+fn scan_fault<F: Drop>(_: ScanFault<F>) -> Why {
+    Why::Scan
 }

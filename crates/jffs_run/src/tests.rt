@@ -1,5 +1,6 @@
 //! Whole programs: a script in, lines out.
 
+mod calls;
 mod hundred;
 mod many;
 mod threads;

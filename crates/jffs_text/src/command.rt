@@ -3,8 +3,8 @@
 ghost use Rattle.std.specs.Prelude.{◌≡◌, IfOk};
 ghost use Rattle.jffs_text.specs.Wishes.{wish_of};
 
-use crate::fault::ScriptWhy;
-use crate::keyword::{Edit, Keyword};
+use crate::keyword::Edit;
+use crate::mistake::Mistake;
 use crate::word::Words;
 use jffs_node::{Bytes, NoMemory, Path};
 use jffs_tree::Wish;
@@ -44,13 +44,15 @@ pub enum Command {
 impl Command {
     /// Reads one command from all the words that are left.
     ///
-    /// `Command` where they begin with no command's word, or are too few or too many; then the
-    /// error of the first word, from the left, that isn't what should stand there: `Path`,
-    /// `Number`, `Hex`, or `Memory` if allocation failed.
-    pub fn of_words(alloc: Global, mut words: Words<'_>) -> Result<Command, ScriptWhy> {
-        match Keyword::take(&mut words) {
-            Some(Keyword::Edit(edit)) => Command::parse(alloc, edit, words),
-            _ => Err(ScriptWhy::Command),
+    /// A mistake of the kind `Command` where they begin with no command's word, or are too few or
+    /// too many; then that of the first word, from the left, that isn't what should stand there:
+    /// of the kind `Path`, `Number` or `Hex`, or `Memory` if allocation failed.
+    pub fn of_words(alloc: Global, mut words: Words<'_>) -> Result<Command, Mistake> {
+        let line = words;
+        match Edit::of(line, words.take()) {
+            Ok(edit) => Command::parse(alloc, edit, words),
+            Err(Mistake::Command(word)) => Err(Mistake::Request(word)),
+            Err(mistake) => Err(mistake),
         }
     }
 
@@ -59,7 +61,7 @@ impl Command {
         alloc: Global,
         edit: Edit,
         mut words: Words<'_>,
-    ) -> Result<Command, ScriptWhy> {
+    ) -> Result<Command, Mistake> {
         let path = words.take_path(alloc)?;
         Ok(match edit {
             Edit::MakeDir => Command::MakeDir(path),

@@ -1,7 +1,5 @@
 //! Why a script is refused.
 
-use jffs_node::NoMemory;
-use std::alloc::{AllocError, AllocFailed};
 use thiserror::Error;
 
 /// Why a script is refused. On one line the reasons are tried as they stand here, with two
@@ -42,24 +40,6 @@ pub enum ScriptWhy {
     /// Allocation failed.
     #[error("Memory")]
     Memory,
-}
-
-impl From<AllocError> for ScriptWhy {
-    fn from(_: AllocError) -> ScriptWhy {
-        ScriptWhy::Memory
-    }
-}
-
-impl From<NoMemory> for ScriptWhy {
-    fn from(_: NoMemory) -> ScriptWhy {
-        ScriptWhy::Memory
-    }
-}
-
-impl<T: Drop> From<AllocFailed<T>> for ScriptWhy {
-    fn from(_: AllocFailed<T>) -> ScriptWhy {
-        ScriptWhy::Memory
-    }
 }
 
 /// The first line at which a script is refused, counted from 1, and why.

@@ -1,5 +1,7 @@
 //! The first word of a line, and how many words stand after it.
 
+use crate::mistake::Mistake;
+use crate::quote::Quote;
 use crate::word::Words;
 
 /// Which form of line a script asks for.
@@ -23,6 +25,23 @@ pub(crate) enum Edit {
     Remove,
 }
 
+impl Edit {
+    /// The command of a line whose first word is this.
+    pub(crate) fn of(line: Words<'_>, word: &str) -> Result<Edit, Mistake> {
+        match word {
+            "mkdir" => line.as_many(2, "mkdir PATH", Edit::MakeDir),
+            "create" => line.as_many(2, "create PATH", Edit::Create),
+            "write" => line.as_many(4, "write PATH OFFSET HEX", Edit::Write),
+            "fill" => line.as_many(5, "fill PATH OFFSET COUNT HH", Edit::Fill),
+            "truncate" => line.as_many(3, "truncate PATH SIZE", Edit::Truncate),
+            "rename" => line.as_many(3, "rename PATH PATH", Edit::Rename),
+            "remove" => line.as_many(2, "remove PATH", Edit::Remove),
+            "" => Err(Mistake::Spaces),
+            _ => Err(Mistake::Command(Quote::of(word))),
+        }
+    }
+}
+
 /// What a statement begins with.
 #[derive(Clone, Copy, Debug, PartialEq, Eq)]
 pub(crate) enum Keyword {
@@ -36,39 +55,34 @@ pub(crate) enum Keyword {
 
 impl Keyword {
     /// Reads the head of a line, whose words must be as many as the statement has: its first
-    /// word, and of `line` the form too.
-    pub(crate) fn take(words: &mut Words<'_>) -> Option<Keyword> {
-        let count = words.count();
-        let (keyword, wanted) = match words.take() {
-            "volume" => (Keyword::Volume, 3),
-            "line" => (Keyword::Line(line_form(words.take())?), 3),
-            "cleaner" => (Keyword::Cleaner, 2),
-            "reader" => (Keyword::Reader, 4),
-            "writer" => (Keyword::Writer, 1),
-            other => edit_keyword(other)?,
-        };
-        if count == wanted { Some(keyword) } else { None }
+    /// word, and of `line` the form too. `Command`, `Spaces`, `Few`, `Extra` or `Choice` if it
+    /// isn't that.
+    pub(crate) fn take(words: &mut Words<'_>) -> Result<Keyword, Mistake> {
+        let line = *words;
+        match words.take() {
+            "volume" => line.as_many(3, VOLUME_FORM, Keyword::Volume),
+            "line" => {
+                line.as_many(3, "line shared C, or line rings C", ())?;
+                Ok(Keyword::Line(line_form(words.take())?))
+            }
+            "cleaner" => line.as_many(2, "cleaner N", Keyword::Cleaner),
+            "reader" => line.as_many(4, "reader W N PATH", Keyword::Reader),
+            "writer" => line.as_many(1, "writer", Keyword::Writer),
+            other => Ok(Keyword::Edit(Edit::of(line, other)?)),
+        }
     }
 }
 
-fn line_form(word: &str) -> Option<LineForm> {
+/// The words of the first statement.
+pub(crate) const VOLUME_FORM: &str = "volume S Z";
+
+fn line_form(word: &str) -> Result<LineForm, Mistake> {
     match word {
-        "shared" => Some(LineForm::Shared),
-        "rings" => Some(LineForm::Rings),
-        _ => None,
+        "shared" => Ok(LineForm::Shared),
+        "rings" => Ok(LineForm::Rings),
+        _ => Err(Mistake::Choice {
+            wanted: "'shared' or 'rings'",
+            word: Quote::of(word),
+        }),
     }
-}
-
-fn edit_keyword(word: &str) -> Option<(Keyword, usize)> {
-    let (edit, wanted) = match word {
-        "mkdir" => (Edit::MakeDir, 2),
-        "create" => (Edit::Create, 2),
-        "write" => (Edit::Write, 4),
-        "fill" => (Edit::Fill, 5),
-        "truncate" => (Edit::Truncate, 3),
-        "rename" => (Edit::Rename, 3),
-        "remove" => (Edit::Remove, 2),
-        _ => return None,
-    };
-    Some((Keyword::Edit(edit), wanted))
 }

@@ -1,22 +1,29 @@
 //! The texts of the file system: the script that a run reads, and the lines that tell of a tree.
 //!
-//! `Script::parse` carries the script's grammar, `dump` the tree's text.
+//! `Script::parse` carries the script's grammar, and `Script::read` says what is wrong in words; `dump` is the tree's
+//! text; `Usage` reads the words that a program is called with.
 #![tactic(auto)]
 
+mod arguments;
 mod cause;
 mod command;
 mod dumping;
 mod fault;
 mod keyword;
+mod mistake;
+mod quote;
 mod script;
 #[cfg(test)]
 mod tests;
 mod word;
 
+pub use arguments::{Usage, Work};
 pub use cause::cause_name;
 pub use command::{Command, FILL_MAX};
 pub use dumping::{DumpFault, dump, write_hex};
 pub use fault::{ScriptFault, ScriptWhy};
+pub use mistake::{Mistake, ScriptMistake};
+pub use quote::{QUOTE_MAX, Quote};
 pub use script::{
     CAPACITY_MAX, COMMANDS_MAX, LINE_MAX, LineChoice, LineForm, READERS_MAX, ROUNDS_MAX,
     ReaderStatement, Script, WRITERS_MAX, Writer, line_text,

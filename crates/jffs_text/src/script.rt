@@ -6,9 +6,12 @@ ghost use Rattle.std.specs.List.{list_all};
 
 use crate::command::Command;
 use crate::fault::{ScriptFault, ScriptWhy};
-use crate::keyword::Keyword;
 pub use crate::keyword::LineForm;
+use crate::keyword::{Keyword, VOLUME_FORM};
+use crate::mistake::{Mistake, ScriptMistake};
+use crate::quote::Quote;
 use crate::word::Words;
+use jffs_flash::{MAX_SECTORS, MIN_SECTORS, is_geometry};
 use jffs_node::Path;
 use std::alloc::{AllocError, Global};
 
@@ -78,18 +81,32 @@ impl Script {
     /// Reads a script. An error has the first line that is refused, from 1, and the first reason
     /// that holds there; `Memory` comes wherever allocation failed.
     pub fn parse(alloc: Global, text: &[u8]) -> Result<Script, ScriptFault> {
+        match Script::read(alloc, text) {
+            Ok(script) => Ok(script),
+            Err(mistake) => Err(mistake.fault),
+        }
+    }
+
+    /// Reads a script as `parse` does. An error has the fault of `parse`, and says more of it.
+    pub fn read(alloc: Global, text: &[u8]) -> Result<Script, ScriptMistake> {
         let mut draft = Draft::new(alloc);
         for (index, line) in text.split(|byte| *byte == b'\n').enumerate() {
-            if let Err(why) = draft.take_line(line) {
-                return Err(ScriptFault {
-                    line: index + 1,
-                    why,
+            if let Err(mistake) = draft.take_line(line) {
+                return Err(ScriptMistake {
+                    fault: ScriptFault {
+                        line: index + 1,
+                        why: draft.why(mistake),
+                    },
+                    mistake,
                 });
             }
         }
-        draft.finish().ok_or(ScriptFault {
-            line: 1,
-            why: ScriptWhy::Empty,
+        draft.finish().ok_or(ScriptMistake {
+            fault: ScriptFault {
+                line: 1,
+                why: ScriptWhy::Empty,
+            },
+            mistake: Mistake::Empty,
         })
     }
 }
@@ -130,42 +147,52 @@ impl Draft {
         })
     }
 
-    fn take_line(&mut self, line: &[u8]) -> Result<(), ScriptWhy> {
+    fn take_line(&mut self, line: &[u8]) -> Result<(), Mistake> {
         let line = line_text(line)?;
         if line.len() == 0 || line.starts_with('#') {
             return Ok(());
         }
         let mut words = Words::of(line);
-        let keyword = Keyword::take(&mut words);
         if self.volume.is_none() {
-            self.volume = Some(volume_sizes(keyword, words)?);
+            self.volume = Some(volume_sizes(words)?);
             return Ok(());
         }
-        let keyword = keyword.ok_or(ScriptWhy::Command)?;
+        let keyword = Keyword::take(&mut words)?;
         self.admit(keyword)?;
         self.take_statement(keyword, words)
     }
 
+    /// The kind of a line's mistake: `Volume` for any on the first statement, but `Text` as such.
+    fn why(&self, mistake: Mistake) -> ScriptWhy {
+        match mistake.why() {
+            ScriptWhy::Text => ScriptWhy::Text,
+            _ if self.volume.is_none() => ScriptWhy::Volume,
+            why => why,
+        }
+    }
+
     /// Whether the statement may stand here.
-    fn admit(&self, keyword: Keyword) -> Result<(), ScriptWhy> {
+    fn admit(&self, keyword: Keyword) -> Result<(), Mistake> {
         let headed = self.writers.len() > 0;
         match keyword {
-            Keyword::Volume => Err(ScriptWhy::Command),
-            Keyword::Line(_) if headed || self.line.is_some() => Err(ScriptWhy::Header),
-            Keyword::Cleaner if headed || self.cleaner.is_some() => Err(ScriptWhy::Header),
-            Keyword::Reader if headed => Err(ScriptWhy::Header),
-            Keyword::Reader if self.readers.len() >= READERS_MAX => Err(ScriptWhy::Many),
-            Keyword::Writer if self.writers.len() >= WRITERS_MAX => Err(ScriptWhy::Many),
+            Keyword::Volume => Err(Mistake::SecondVolume),
+            Keyword::Line(_) if headed => Err(Mistake::Late("line")),
+            Keyword::Line(_) if self.line.is_some() => Err(Mistake::Second("line")),
+            Keyword::Cleaner if headed => Err(Mistake::Late("cleaner")),
+            Keyword::Cleaner if self.cleaner.is_some() => Err(Mistake::Second("cleaner")),
+            Keyword::Reader if headed => Err(Mistake::Late("reader")),
+            Keyword::Reader if self.readers.len() >= READERS_MAX => Err(Mistake::Readers),
+            Keyword::Writer if self.writers.len() >= WRITERS_MAX => Err(Mistake::Writers),
             Keyword::Edit(_) => match self.writers.last() {
-                None => Err(ScriptWhy::Outside),
-                Some(writer) if writer.commands.len() >= COMMANDS_MAX => Err(ScriptWhy::Many),
+                None => Err(Mistake::Outside),
+                Some(writer) if writer.commands.len() >= COMMANDS_MAX => Err(Mistake::Commands),
                 Some(_) => Ok(()),
             },
             _ => Ok(()),
         }
     }
 
-    fn take_statement(&mut self, keyword: Keyword, mut words: Words<'_>) -> Result<(), ScriptWhy> {
+    fn take_statement(&mut self, keyword: Keyword, mut words: Words<'_>) -> Result<(), Mistake> {
         match keyword {
             Keyword::Volume => {}
             Keyword::Line(form) => {
@@ -185,7 +212,7 @@ impl Draft {
         Ok(())
     }
 
-    fn take_reader(&mut self, mut words: Words<'_>) -> Result<(), ScriptWhy> {
+    fn take_reader(&mut self, mut words: Words<'_>) -> Result<(), Mistake> {
         let writer = words.take_number(1, WRITERS_MAX as u32)?;
         let seq = words.take_number(1, u32::MAX)?;
         let path = words.take_path(self.alloc)?;
@@ -202,26 +229,48 @@ impl Draft {
 }
 
 /// The sizes in the first statement, where it is a `volume` with sizes that a volume may have.
-fn volume_sizes(keyword: Option<Keyword>, mut words: Words<'_>) -> Result<(u32, u32), ScriptWhy> {
-    if keyword != Some(Keyword::Volume) {
-        return Err(ScriptWhy::Volume);
+fn volume_sizes(mut words: Words<'_>) -> Result<(u32, u32), Mistake> {
+    let line = words;
+    let word = words.take();
+    if word != "volume" {
+        return Err(Mistake::NoVolume(Quote::of(word)));
     }
-    let sizes = (
-        words.take_number(0, u32::MAX),
-        words.take_number(0, u32::MAX),
-    );
-    match sizes {
-        (Ok(sectors), Ok(size)) if jffs_flash::is_geometry(sectors, size) => Ok((sectors, size)),
-        _ => Err(ScriptWhy::Volume),
+    line.as_many(3, VOLUME_FORM, ())?;
+    let sectors = words.take_number(0, u32::MAX)?;
+    let sector_size = words.take_number(0, u32::MAX)?;
+    if is_geometry(sectors, sector_size) {
+        Ok((sectors, sector_size))
+    } else if sectors < MIN_SECTORS || MAX_SECTORS < sectors {
+        Err(Mistake::Sectors(sectors))
+    } else {
+        Err(Mistake::SectorSize(sector_size))
     }
 }
 
-/// A line as text. `Text` if it has a byte outside `20` to `7E`, or more than [`LINE_MAX`] bytes.
-pub fn line_text(line: &[u8]) -> Result<&str, ScriptWhy> {
-    if line.len() > LINE_MAX || !is_printable(line) {
-        return Err(ScriptWhy::Text);
+/// A line as text. A mistake of the kind `Text` if it has a byte outside `20` to `7E`, or more than
+/// [`LINE_MAX`] bytes.
+pub fn line_text(line: &[u8]) -> Result<&str, Mistake> {
+    if line.len() > LINE_MAX {
+        return Err(Mistake::Long);
     }
-    str::from_utf8(line).map_err(|_| ScriptWhy::Text)
+    if !is_printable(line) {
+        return Err(unprintable(line));
+    }
+    str::from_utf8(line).map_err(|_| unprintable(line))
+}
+
+/// What is wrong with a line that has a byte outside `20` to `7E`.
+fn unprintable(line: &[u8]) -> Mistake {
+    for (before, byte) in line.iter().enumerate() {
+        let at = before + 1;
+        match *byte {
+            b' '..=b'~' => {}
+            b'\r' if at == line.len() => return Mistake::CarriageReturn,
+            b'\t' => return Mistake::Tab { at },
+            byte => return Mistake::Byte { at, byte },
+        }
+    }
+    Mistake::Long
 }
 
 fn is_printable(line: &[u8]) -> bool

@@ -1,7 +1,10 @@
-//! Trees that are dumped, and the words of a line.
+//! Trees that are dumped, the words of a line, and what is told of scripts and calls.
+
+mod told;
 
 use crate::dumping::dump;
-use crate::fault::ScriptWhy;
+use crate::mistake::Mistake;
+use crate::quote::Quote;
 use crate::script::Script;
 use crate::word::Words;
 use jffs_tree::{Limits, Tree};
@@ -80,9 +83,15 @@ fn bytes_are_lower_case_hex(rt: HostRuntime) -> Result<(), Fail> {
         [0u8, 255, 26].as_slice()
     );
     assert_eq!(rt; words.take_bytes(alloc)?.len(), 0);
-    assert_eq!(rt; words.take_bytes(alloc).err(), Some(ScriptWhy::Hex));
-    assert_eq!(rt; words.take_bytes(alloc).err(), Some(ScriptWhy::Hex));
-    assert_eq!(rt; words.take_byte(), Err(ScriptWhy::Hex));
-    assert_eq!(rt; words.take_byte(), Err(ScriptWhy::Hex));
+    assert_eq!(rt;
+        words.take_bytes(alloc).err(),
+        Some(Mistake::OddHex(Quote::of("0")))
+    );
+    assert_eq!(rt;
+        words.take_bytes(alloc).err(),
+        Some(Mistake::Hex(Quote::of("0g")))
+    );
+    assert_eq!(rt; words.take_byte(), Err(Mistake::OneByte(Quote::of("1A"))));
+    assert_eq!(rt; words.take_byte(), Err(Mistake::OneByte(Quote::of(""))));
     Ok(())
 }

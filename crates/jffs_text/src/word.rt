@@ -3,7 +3,8 @@
 ghost use Rattle.std.specs.Prelude.{◌≡◌, ◌≤◌, ◌<◌, ◌*◌, true, length, IfOk};
 ghost use Rattle.jffs_text.specs.Dump.{hex, hex_digit};
 
-use crate::fault::ScriptWhy;
+use crate::mistake::Mistake;
+use crate::quote::Quote;
 use jffs_node::{Path, PathFault};
 use std::alloc::Global;
 
@@ -52,29 +53,67 @@ impl<'a> Words<'a> {
         }
     }
 
-    /// Takes the next word, a number from `least` to `most`. `Number` if it isn't one.
-    pub fn take_number(&mut self, least: u32, most: u32) -> Result<u32, ScriptWhy>
+    /// What a statement of so many words is, if so many are left. `Few` or `Extra` with the
+    /// statement's form if they aren't, `Spaces` where one of too many is empty.
+    pub fn as_many<T: Copy>(
+        self,
+        wanted: usize,
+        form: &'static str,
+        statement: T,
+    ) -> Result<T, Mistake> {
+        if self.count == wanted {
+            Ok(statement)
+        } else if self.count < wanted {
+            Err(Mistake::Few(form))
+        } else {
+            Err(self.too_many(wanted, form))
+        }
+    }
+
+    /// What is wrong where more words are left than these.
+    fn too_many(mut self, wanted: usize, form: &'static str) -> Mistake {
+        let mut extra = Quote::of("");
+        for index in 0..self.count {
+            let word = self.take();
+            if word.is_empty() {
+                return Mistake::Spaces;
+            }
+            if index == wanted {
+                extra = Quote::of(word);
+            }
+        }
+        Mistake::Extra { word: extra, form }
+    }
+
+    /// Takes the next word, a number from `least` to `most`. A mistake of the kind `Number` if it
+    /// isn't one.
+    pub fn take_number(&mut self, least: u32, most: u32) -> Result<u32, Mistake>
         ensures least { IfOk result (λ n. least ≤ n) }
         ensures most { IfOk result (λ n. n ≤ most) }
     {
-        match number(self.take()) {
+        let word = self.take();
+        match number(word) {
             Some(value) if least <= value && value <= most => Ok(value),
-            _ => Err(ScriptWhy::Number),
+            _ => Err(no_number(word, least, most)),
         }
     }
 
     /// Takes the next word, a path. `Path` if it isn't one, `Memory` if allocation failed.
-    pub fn take_path(&mut self, alloc: Global) -> Result<Path, ScriptWhy> {
-        match Path::parse(alloc, self.take()) {
+    pub fn take_path(&mut self, alloc: Global) -> Result<Path, Mistake> {
+        let word = self.take();
+        match Path::parse(alloc, word) {
             Ok(path) => Ok(path),
-            Err(PathFault::Memory) => Err(ScriptWhy::Memory),
-            Err(_) => Err(ScriptWhy::Path),
+            Err(PathFault::Memory) => Err(Mistake::Memory),
+            Err(fault) => Err(Mistake::Path {
+                word: Quote::of(word),
+                fault,
+            }),
         }
     }
 
-    /// Takes the next word, bytes in lower case hex; `-` stands for none. `Hex` if it isn't that,
-    /// `Memory` if allocation failed.
-    pub fn take_bytes(&mut self, alloc: Global) -> Result<Vec<u8>, ScriptWhy> {
+    /// Takes the next word, bytes in lower case hex; `-` stands for none. `Hex` or `OddHex` if it
+    /// isn't that, `Memory` if allocation failed.
+    pub fn take_bytes(&mut self, alloc: Global) -> Result<Vec<u8>, Mistake> {
         let word = self.take();
         if word == "-" {
             return Ok(Vec::new(alloc));
@@ -82,14 +121,15 @@ impl<'a> Words<'a> {
         bytes_of_hex(alloc, word)
     }
 
-    /// Takes the next word, one byte as two digits of hex. `Hex` if it isn't that.
-    pub fn take_byte(&mut self) -> Result<u8, ScriptWhy> {
-        let digits = self.take().as_bytes();
+    /// Takes the next word, one byte as two digits of hex. `OneByte` if it isn't that.
+    pub fn take_byte(&mut self) -> Result<u8, Mistake> {
+        let word = self.take();
+        let digits = word.as_bytes();
         let mut byte = [0u8; 1];
         if digits.len() == 2 && read_hex(digits, &mut byte) {
             Ok(byte[0])
         } else {
-            Err(ScriptWhy::Hex)
+            Err(Mistake::OneByte(Quote::of(word)))
         }
     }
 }
@@ -114,19 +154,39 @@ fn number(word: &str) -> Option<u32> {
     }
 }
 
+/// Why a word is no number from `least` to `most`.
+fn no_number(word: &str, least: u32, most: u32) -> Mistake {
+    let quote = Quote::of(word);
+    let digits = word.as_bytes();
+    if digits.is_empty() || !digits.iter().all(|b| b.is_ascii_digit()) {
+        return Mistake::Number(quote);
+    }
+    match digits {
+        [b'0', _, ..] => Mistake::LeadingZero(quote),
+        _ => Mistake::Range {
+            least,
+            most,
+            word: quote,
+        },
+    }
+}
+
 /// Lower case hex, two digits a byte, at least one byte.
-fn bytes_of_hex(alloc: Global, word: &str) -> Result<Vec<u8>, ScriptWhy>
+fn bytes_of_hex(alloc: Global, word: &str) -> Result<Vec<u8>, Mistake>
     ensures { IfOk result (λ bytes. hex bytes.items ≡ word.now) }
 {
     let digits = word.as_bytes();
-    if digits.len() == 0 || digits.len() % 2 != 0 {
-        return Err(ScriptWhy::Hex);
+    if digits.len() == 0 {
+        return Err(Mistake::Hex(Quote::of(word)));
+    }
+    if digits.len() % 2 != 0 {
+        return Err(Mistake::OddHex(Quote::of(word)));
     }
     let mut bytes = vec![in alloc; 0u8; digits.len() / 2]?;
     if read_hex(digits, &mut bytes) {
         Ok(bytes)
     } else {
-        Err(ScriptWhy::Hex)
+        Err(Mistake::Hex(Quote::of(word)))
     }
 }
 

@@ -5,7 +5,7 @@ ghost use Rattle.std.specs.IoError.{error_kind};
 ghost use Rattle.jffs_tools.specs.Faults.{status_of};
 
 use jffs_node::NoMemory;
-use jffs_text::{DumpFault, ScriptWhy};
+use jffs_text::{DumpFault, Mistake, Quote};
 use std::alloc::{AllocError, AllocFailed};
 use std::io;
 use std::io::ErrorKind;
@@ -24,8 +24,8 @@ pub(crate) const REFUSED: u8 = 3;
 #[derive(Clone, Copy, Debug, PartialEq, Eq, Error)]
 pub enum ToolFault {
     /// A line that is no operation.
-    #[error("no operation: {0}")]
-    Operation(ScriptWhy),
+    #[error("{0}")]
+    Operation(Mistake),
     /// An operation that wants flash, before any stands there.
     #[error("there is no flash yet")]
     NoFlash,
@@ -44,12 +44,12 @@ pub enum ToolFault {
     /// The digest of flash that is larger than any volume, whose bytes aren't kept.
     #[error("the flash is larger than any volume")]
     Large,
-    /// The words of a call aren't two numbers.
+    /// A call has fewer words than two.
     #[error("SECTORS and SECTOR_SIZE are wanted, two numbers")]
-    Words,
-    /// A call has words where none are wanted.
-    #[error("no words are wanted but --help")]
-    NoWords,
+    Few,
+    /// A word of a call isn't a number.
+    #[error("SECTORS and SECTOR_SIZE are wanted, two numbers, got {0}")]
+    Word(Quote),
     /// Standard input can't be read.
     #[error("standard input can't be read")]
     Read,

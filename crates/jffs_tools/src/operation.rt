@@ -3,7 +3,7 @@
 use jffs_flash::{Fail, Fused};
 use jffs_line::Request;
 use jffs_node::{Bytes, Name};
-use jffs_text::{Command, ScriptWhy, Words};
+use jffs_text::{Command, Mistake, Quote, Words};
 use jffs_tree::Wish;
 use std::alloc::Global;
 
@@ -49,39 +49,57 @@ pub enum Operation<'a> {
 impl<'a> Operation<'a> {
     /// Reads an operation from the words of its line.
     ///
-    /// `Command` where the first word or the number of words is wrong; then the error of the first
-    /// word, from the left, that isn't what should stand there, which is `Path` for a name too;
-    /// `Memory` if allocation failed.
-    pub fn parse(alloc: Global, mut words: Words<'a>) -> Result<Operation<'a>, ScriptWhy> {
-        let count = words.count();
-        match (words.take(), count) {
-            ("flash", 3) => {
+    /// A mistake of the kind `Command` where the first word or the number of words is wrong; then
+    /// that of the first word, from the left, that isn't what should stand there, which is of the
+    /// kind `Path` for a name too; `Memory` if allocation failed.
+    pub fn parse(alloc: Global, mut words: Words<'a>) -> Result<Operation<'a>, Mistake> {
+        let line = words;
+        match words.take() {
+            "flash" => {
+                line.as_many(3, "flash S Z", ())?;
                 let (sectors, sector_size) = read_sizes(&mut words)?;
                 Ok(Operation::Flash {
                     sectors,
                     sector_size,
                 })
             }
-            ("image", 4) => read_open(words),
-            ("fuse", 4) => Ok(Operation::Fuse(read_fuse(words)?)),
-            ("mount", 1) => Ok(Operation::Mount),
-            ("request", _) => Ok(Operation::Request(read_request(alloc, words)?)),
-            ("clean_oldest", 1) => Ok(Operation::CleanOldest),
-            ("erase_dead", 1) => Ok(Operation::EraseDead),
-            ("image", 1) => Ok(Operation::Digest),
-            _ => Err(ScriptWhy::Command),
+            "image" if line.count() == 1 => Ok(Operation::Digest),
+            "image" => {
+                line.as_many(4, "image FILE S Z, or image alone", ())?;
+                read_open(words)
+            }
+            "fuse" => {
+                line.as_many(4, "fuse CALLS WHICH WHAT", ())?;
+                Ok(Operation::Fuse(read_fuse(words)?))
+            }
+            "mount" => {
+                line.as_many(1, "mount", ())?;
+                Ok(Operation::Mount)
+            }
+            "request" if line.count() < 4 => Err(Mistake::Few("request WRITER SEQ COMMAND")),
+            "request" => Ok(Operation::Request(read_request(alloc, words)?)),
+            "clean_oldest" => {
+                line.as_many(1, "clean_oldest", ())?;
+                Ok(Operation::CleanOldest)
+            }
+            "erase_dead" => {
+                line.as_many(1, "erase_dead", ())?;
+                Ok(Operation::EraseDead)
+            }
+            "" => Err(Mistake::Spaces),
+            other => Err(Mistake::Operation(Quote::of(other))),
         }
     }
 }
 
 /// How many sectors there are, and how many bytes each has.
-fn read_sizes(words: &mut Words<'_>) -> Result<(u32, u32), ScriptWhy> {
+fn read_sizes(words: &mut Words<'_>) -> Result<(u32, u32), Mistake> {
     let sectors = words.take_number(0, u32::MAX)?;
     let sector_size = words.take_number(0, u32::MAX)?;
     Ok((sectors, sector_size))
 }
 
-fn read_open<'a>(mut words: Words<'a>) -> Result<Operation<'a>, ScriptWhy> {
+fn read_open<'a>(mut words: Words<'a>) -> Result<Operation<'a>, Mistake> {
     let file = words.take();
     let (sectors, sector_size) = read_sizes(&mut words)?;
     Ok(Operation::Open {
@@ -91,22 +109,29 @@ fn read_open<'a>(mut words: Words<'a>) -> Result<Operation<'a>, ScriptWhy> {
     })
 }
 
-fn read_fuse(mut words: Words<'_>) -> Result<Fuse, ScriptWhy> {
+fn read_fuse(mut words: Words<'_>) -> Result<Fuse, Mistake> {
     let calls = words.take_number(0, u32::MAX)?;
     let fused = match words.take() {
         "Writes" => Fused::Writes,
         "All" => Fused::All,
-        _ => return Err(ScriptWhy::Command),
+        word => return Err(no_choice("'Writes' or 'All'", word)),
     };
     let fail = match words.take() {
         "Nothing" => Fail::Nothing,
         "Half" => Fail::Half,
-        _ => return Err(ScriptWhy::Command),
+        word => return Err(no_choice("'Nothing' or 'Half'", word)),
     };
     Ok(Fuse { calls, fused, fail })
 }
 
-fn read_request(alloc: Global, mut words: Words<'_>) -> Result<Request, ScriptWhy> {
+fn no_choice(wanted: &'static str, word: &str) -> Mistake {
+    Mistake::Choice {
+        wanted,
+        word: Quote::of(word),
+    }
+}
+
+fn read_request(alloc: Global, mut words: Words<'_>) -> Result<Request, Mistake> {
     let writer = words.take_number(0, u32::from(u16::MAX))?;
     let seq = words.take_number(0, u32::MAX)?;
     Ok(Request {
@@ -117,20 +142,28 @@ fn read_request(alloc: Global, mut words: Words<'_>) -> Result<Request, ScriptWh
 }
 
 /// What is asked for: an unmount, a copy, or a command of a script.
-fn read_wish(alloc: Global, words: Words<'_>) -> Result<Wish, ScriptWhy> {
-    let mut behind = words;
-    let count = behind.count();
-    match (behind.take(), count) {
-        ("unmount", 1) => Ok(Wish::Unmount),
-        ("copy", 6) => read_copy(alloc, behind),
+fn read_wish(alloc: Global, words: Words<'_>) -> Result<Wish, Mistake> {
+    let mut rest = words;
+    match rest.take() {
+        "unmount" => {
+            words.as_many(1, "unmount", ())?;
+            Ok(Wish::Unmount)
+        }
+        "copy" => {
+            words.as_many(6, "copy SOURCE PARENT NAME OFFSET HEX", ())?;
+            read_copy(alloc, rest)
+        }
         _ => Ok(Command::of_words(alloc, words)?.wish(alloc)?),
     }
 }
 
-fn read_copy(alloc: Global, mut words: Words<'_>) -> Result<Wish, ScriptWhy> {
+fn read_copy(alloc: Global, mut words: Words<'_>) -> Result<Wish, Mistake> {
     let source = words.take_number(0, u32::MAX)?;
     let parent = words.take_number(0, u32::MAX)?;
-    let name = Name::from_bytes(words.take().as_bytes()).ok_or(ScriptWhy::Path)?;
+    let word = words.take();
+    let Some(name) = Name::from_bytes(word.as_bytes()) else {
+        return Err(Mistake::Name(Quote::of(word)));
+    };
     let offset = words.take_number(0, u32::MAX)?;
     let bytes = Bytes::from_vec(words.take_bytes(alloc)?)?;
     Ok(Wish::Copy {

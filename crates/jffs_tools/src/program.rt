@@ -7,33 +7,52 @@ use crate::operation::Operation;
 use crate::reading::{read_image, read_line};
 use crate::replay::{Replay, image_of};
 use crate::texts::answered_text;
-use jffs_text::{ScriptWhy, Words, line_text};
+use jffs_text::{Mistake, Quote, Usage, Words, line_text};
 use std::alloc::Global;
 use std::io::{BufRead, BufReader, Read, Write};
 use std::rt::Files;
 use std::{fs, io};
 
-const IMAGE_HELP: &str = "jffs_image SECTORS SECTOR_SIZE < IMAGE
+const IMAGE: Usage = Usage {
+    program: "jffs_image",
+    help: "jffs_image SECTORS SECTOR_SIZE < IMAGE
 
 Shows what is on the image of a volume, which it reads from standard input: whether it is clean,
 the numbers that come next, the sectors that hold the log, its records and the tree.
-Status: 0, 3 where no volume is there (`refused WHY`), 2 after a wrong call, 1 after a fault.
-";
 
-const REPLAY_HELP: &str = "jffs_replay < OPERATIONS
+  jffs_image 6 1024 < notes.image
+
+Status: 0, 3 where no volume is there (`refused WHY`), 2 after a wrong call, 1 after a fault.
+",
+    option: None,
+    options: "--help and --version",
+    most: 2,
+};
+
+const REPLAY: Usage = Usage {
+    program: "jffs_replay",
+    help: "jffs_replay < OPERATIONS
 
 Drives a core operation by operation, and writes one line for each:
   flash S Z | image FILE S Z | fuse CALLS Writes|All Nothing|Half | mount
   request WRITER SEQ COMMAND | clean_oldest | erase_dead | image
+
+  printf '%s\\n' 'flash 6 1024' mount 'request 1 1 create /f' | jffs_replay
+
 Status: 0, 2 after a wrong call or a line that is no operation, 1 after a fault.
-";
+",
+    option: None,
+    options: "--help and --version",
+    most: 0,
+};
 
 /// Shows what is on the image that `input` gives, of the sizes that two words say, and reads no
 /// more than the image and one byte. `words` is how the program was called, with its own name
 /// first.
 ///
-/// Returns the exit status: 0; 3 where the scan refuses the image; 2 after a wrong call; 1 if it
-/// can't read, write or allocate. For the last two one line goes to `errors`.
+/// Returns the exit status: 0, also after `--help` and `--version`; 3 where the scan refuses the
+/// image; 2 after a wrong call; 1 if it can't read, write or allocate. For the last two one line
+/// goes to `errors`.
 pub fn run_image<R: Read, W: Write, E: Write>(
     alloc: Global,
     words: &[String],
@@ -41,25 +60,24 @@ pub fn run_image<R: Read, W: Write, E: Write>(
     out: &mut W,
     errors: &mut E,
 ) -> u8 {
-    match show_image(alloc, words, input, out) {
-        Ok(status) => status,
-        Err(fault) => {
-            let _ = writeln!(errors, "jffs_image: {fault}");
-            fault.status()
-        }
+    match IMAGE.work(alloc, words, out, errors) {
+        Ok(work) => match show_image(alloc, &work.words, input, out) {
+            Ok(status) => status,
+            Err(fault) => {
+                let _ = writeln!(errors, "jffs_image: {fault}");
+                fault.status()
+            }
+        },
+        Err(status) => status,
     }
 }
 
 fn show_image<R: Read, W: Write>(
     alloc: Global,
-    words: &[String],
+    words: &[&str],
     input: &mut R,
     out: &mut W,
 ) -> Result<u8, ToolFault> {
-    if asks_help(words) {
-        write_help(IMAGE_HELP, out)?;
-        return Ok(DONE);
-    }
     let (sectors, sector_size) = image_sizes(words)?;
     let bytes = read_image(alloc, sectors, sector_size, input).map_err(ToolFault::of_input)?;
     let seen = show(alloc, image_of(sectors, sector_size, bytes)?, out)?;
@@ -70,43 +88,29 @@ fn show_image<R: Read, W: Write>(
     })
 }
 
-/// Whether the program was called with `--help` alone.
-fn asks_help(words: &[String]) -> bool {
+/// The two numbers that a call has.
+fn image_sizes(words: &[&str]) -> Result<(u32, u32), ToolFault> {
     match words {
-        [_, word] => word.as_str() == "--help",
-        _ => false,
+        [sectors, size] => Ok((number_of(*sectors)?, number_of(*size)?)),
+        _ => Err(ToolFault::Few),
     }
 }
 
-fn write_help<W: Write>(help: &str, out: &mut W) -> Result<(), ToolFault> {
-    out.write_all(help.as_bytes())?;
-    out.flush()?;
-    Ok(())
-}
-
-/// The two numbers after the program's name.
-fn image_sizes(words: &[String]) -> Result<(u32, u32), ToolFault> {
-    match words {
-        [_, sectors, size] => Ok((number_of(sectors)?, number_of(size)?)),
-        _ => Err(ToolFault::Words),
+fn number_of(word: &str) -> Result<u32, ToolFault> {
+    let mut words = Words::of(word);
+    match words.take_number(0, u32::MAX) {
+        Ok(number) if words.count() == 0 => Ok(number),
+        _ => Err(ToolFault::Word(Quote::of(word))),
     }
-}
-
-fn number_of(word: &String) -> Result<u32, ToolFault> {
-    let mut words = Words::of(word.as_str());
-    if words.count() != 1 {
-        return Err(ToolFault::Words);
-    }
-    words.take_number(0, u32::MAX).map_err(|_| ToolFault::Words)
 }
 
 /// Runs the operations that `input` gives, each before the next line is read, and writes one line
 /// for each to `out`, which is flushed at once. `words` is how the program was called, with its own
 /// name first.
 ///
-/// Returns the exit status: 0; 2 after a wrong call, or a line that is no operation or can't be
-/// done; 1 if it can't read, write or allocate. For the last two one line goes to `errors`, with
-/// the number of the line where there is one.
+/// Returns the exit status: 0, also after `--help` and `--version`; 2 after a wrong call, or a line
+/// that is no operation or can't be done; 1 if it can't read, write or allocate. For the last two
+/// one line goes to `errors`, with the number of the line where there is one.
 pub fn run_replay<Rt: Files + AllocGlobal, R: Read, W: Write, E: Write>(
     rt: &Rt,
     words: &[String],
@@ -114,17 +118,9 @@ pub fn run_replay<Rt: Files + AllocGlobal, R: Read, W: Write, E: Write>(
     out: &mut W,
     errors: &mut E,
 ) -> u8 {
-    let wordless = match words {
-        [] | [_] => return replay_lines(rt, input, out, errors),
-        _ if asks_help(words) => write_help(REPLAY_HELP, out),
-        _ => Err(ToolFault::NoWords),
-    };
-    match wordless {
-        Ok(()) => DONE,
-        Err(fault) => {
-            let _ = writeln!(errors, "jffs_replay: {fault}");
-            fault.status()
-        }
+    match REPLAY.work(rt.alloc(), words, out, errors) {
+        Ok(_) => replay_lines(rt, input, out, errors),
+        Err(status) => status,
     }
 }
 
@@ -217,8 +213,8 @@ fn run_line<Rt: Files + AllocGlobal, W: Write>(
     }
     match Operation::parse(rt.alloc(), Words::of(line)) {
         Ok(operation) => run_operation(rt, replay, operation, out)?,
-        Err(ScriptWhy::Memory) => return Err(ToolFault::Memory),
-        Err(why) => return Err(ToolFault::Operation(why)),
+        Err(Mistake::Memory) => return Err(ToolFault::Memory),
+        Err(mistake) => return Err(ToolFault::Operation(mistake)),
     }
     out.write_all(b"\n")?;
     out.flush()?;

@@ -176,14 +176,25 @@ fn an_image_is_called_for_by_two_numbers(rt: HostRuntime) -> Result<(), Fail> {
         (
             ["jffs_image", "6", "1k"].as_slice(),
             2,
-            "jffs_image: SECTORS and SECTOR_SIZE are wanted, two numbers\n",
+            "jffs_image: SECTORS and SECTOR_SIZE are wanted, two numbers, got '1k'\n",
         ),
         (
             ["jffs_image", "6"].as_slice(),
             2,
             "jffs_image: SECTORS and SECTOR_SIZE are wanted, two numbers\n",
         ),
+        (
+            ["jffs_image", "6", "1024", "v.image"].as_slice(),
+            2,
+            "jffs_image: unexpected word 'v.image'; --help tells more\n",
+        ),
+        (
+            ["jffs_image", "-6", "1024"].as_slice(),
+            2,
+            "jffs_image: unknown option '-6'; options are --help and --version\n",
+        ),
         (["jffs_image", "--help"].as_slice(), 0, ""),
+        (["jffs_image", "--version"].as_slice(), 0, ""),
     ] {
         let called = called(alloc, words)?;
         let mut input = b"too short".as_slice();

@@ -103,7 +103,7 @@ fn a_line_without_end_is_no_operation(rt: HostRuntime) -> Result<(), Fail> {
     assert_eq!(rt; ended, 2);
     assert_eq!(rt;
         errors.as_slice(),
-        b"jffs_replay: line 1: no operation: Text\n".as_slice()
+        b"jffs_replay: line 1: the line has more than 16384 bytes\n".as_slice()
     );
     assert!(rt; input.limit() > (1 << 32) - 65_536);
     let longest = String::from_utf8(vec![in alloc; b'#'; 16_384]?)?;
@@ -151,18 +151,26 @@ fn a_fault_of_a_stream_is_named(rt: HostRuntime) -> Result<(), Fail> {
 #[test]
 fn a_replay_takes_no_words(rt: HostRuntime) -> Result<(), Fail> {
     let alloc = rt.alloc();
-    let words = called(alloc, &["jffs_replay", "bogus"])?;
-    let mut errors = Vec::new(alloc);
-    let mut input = b"flash 6 1024\n".as_slice();
-    let mut out = Vec::new(alloc);
-    assert_eq!(rt;
-        run_replay(&rt, &words, &mut input, &mut out, &mut errors),
-        2
-    );
-    assert_eq!(rt;
-        errors.as_slice(),
-        b"jffs_replay: no words are wanted but --help\n".as_slice()
-    );
-    assert!(rt; out.is_empty());
+    for (word, wanted) in [
+        (
+            "bogus",
+            "jffs_replay: unexpected word 'bogus'; --help tells more\n",
+        ),
+        (
+            "--bogus",
+            "jffs_replay: unknown option '--bogus'; options are --help and --version\n",
+        ),
+    ] {
+        let words = called(alloc, &["jffs_replay", word])?;
+        let mut errors = Vec::new(alloc);
+        let mut input = b"flash 6 1024\n".as_slice();
+        let mut out = Vec::new(alloc);
+        assert_eq!(rt;
+            run_replay(&rt, &words, &mut input, &mut out, &mut errors),
+            2
+        );
+        assert_eq!(rt; errors.as_slice(), wanted.as_bytes());
+        assert!(rt; out.is_empty());
+    }
     Ok(())
 }

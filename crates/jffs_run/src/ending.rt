@@ -1,0 +1,151 @@
+//! What ends the program before its lines are whole: what is printed then, what people are told,
+//! and the status.
+
+use crate::fault::RunWhy;
+use crate::reading::{InputFault, Unread};
+use jffs_file::FileFault;
+use jffs_flash::FlashNew;
+use jffs_text::{DumpFault, ScriptMistake};
+use std::io;
+use std::io::Write;
+use thiserror::Error;
+
+/// The status of a program that printed all its lines.
+pub(crate) const DONE: u8 = 0;
+/// The status of a program that was given up.
+const BROKEN: u8 = 1;
+/// The status of a script that is refused, or whose file can't be read.
+const REFUSED: u8 = 2;
+
+/// What ends the program before its lines are whole; as people are told of it.
+#[derive(Clone, Copy, Debug, PartialEq, Eq, Error)]
+pub(crate) enum Fault<'a> {
+    /// The one line `bad script, ..`, status 2.
+    #[error("{0}")]
+    Script(ScriptMistake),
+    /// The script's file can't be read: no line, status 2, or 1 for want of memory.
+    #[error("{path}: {why}")]
+    NoScript { path: &'a str, why: Unread },
+    /// There is no flash in the volume's file: no line, status 1.
+    #[error("{path}: {why}")]
+    NoFlash { path: &'a str, why: FileFault },
+    /// The line `fault: WHY`, status 1.
+    #[error("{}", .0.text())]
+    Broken(Why),
+}
+
+/// The name in a line `fault: WHY`.
+#[derive(Clone, Copy, Debug, PartialEq, Eq, Error)]
+pub(crate) enum Why {
+    #[error("Read")]
+    Read,
+    #[error("Write")]
+    Write,
+    #[error("Memory")]
+    Memory,
+    #[error("Geometry")]
+    Geometry,
+    #[error("Scan")]
+    Scan,
+    #[error("{0}")]
+    Run(RunWhy),
+}
+
+impl Why {
+    /// What people are told.
+    fn text(self) -> &'static str {
+        match self {
+            Why::Read => "standard input can't be read",
+            Why::Write => "standard output can't be written",
+            Why::Memory | Why::Run(RunWhy::Memory) => "out of memory",
+            Why::Geometry => "a volume may not have so many sectors of this size",
+            Why::Scan => "what the run left on the flash is no volume, or can't be read",
+            Why::Run(RunWhy::Mount) => "the volume can't be mounted: jffs_image says why",
+            Why::Run(RunWhy::Line) => "the line of requests can't be made",
+            Why::Run(RunWhy::Index) => "the index that readers look into can't be made",
+            Why::Run(RunWhy::Spawn) => "a thread can't be started",
+            Why::Run(RunWhy::Settle) => "the ends of the line can't be taken back",
+        }
+    }
+}
+
+impl<'a> Fault<'a> {
+    /// The exit status.
+    fn status(self) -> u8 {
+        match self {
+            Fault::NoScript {
+                why: Unread::Memory,
+                ..
+            } => BROKEN,
+            Fault::Script(_) | Fault::NoScript { .. } => REFUSED,
+            Fault::NoFlash { .. } | Fault::Broken(_) => BROKEN,
+        }
+    }
+
+    /// Writes the line that a program reads, where there is one.
+    fn print<W: Write>(self, out: &mut W) -> io::Result<()> {
+        match self {
+            Fault::Script(mistake) => writeln!(out, "{}", mistake.fault)?,
+            Fault::Broken(why) => writeln!(out, "fault: {why}")?,
+            Fault::NoScript { .. } | Fault::NoFlash { .. } => {}
+        }
+        out.flush()
+    }
+}
+
+/// The exit status of a program that ended so. A fault is told of on `errors`, and its line is
+/// written to `out`; each is dropped where it can't be written.
+pub(crate) fn status_of<W: Write, E: Write>(
+    ended: Result<(), Fault<'_>>,
+    out: &mut W,
+    errors: &mut E,
+) -> u8 {
+    match ended {
+        Ok(()) => DONE,
+        Err(fault) => {
+            let _ = writeln!(errors, "jffs: {fault}");
+            let _ = fault.print(out);
+            fault.status()
+        }
+    }
+}
+
+impl<'a> From<Why> for Fault<'a> {
+    fn from(why: Why) -> Fault<'a> {
+        Fault::Broken(why)
+    }
+}
+
+/// An error of standard output.
+impl From<io::Error> for Why {
+    fn from(_: io::Error) -> Why {
+        Why::Write
+    }
+}
+
+impl From<DumpFault> for Why {
+    fn from(fault: DumpFault) -> Why {
+        match fault {
+            DumpFault::Write => Why::Write,
+            DumpFault::Memory => Why::Memory,
+        }
+    }
+}
+
+impl From<FlashNew> for Why {
+    fn from(fault: FlashNew) -> Why {
+        match fault {
+            FlashNew::Geometry => Why::Geometry,
+            FlashNew::Memory => Why::Memory,
+        }
+    }
+}
+
+impl<'a> From<InputFault> for Fault<'a> {
+    fn from(fault: InputFault) -> Fault<'a> {
+        Fault::Broken(match fault {
+            InputFault::Read => Why::Read,
+            InputFault::Memory => Why::Memory,
+        })
+    }
+}

@@ -14,7 +14,7 @@ use std::thread;
 use std::thread::Threads;
 use std::time::{Clock, Instant};
 
-/// The places of each line.
+/// The capacity of each line.
 const CAPACITY: usize = 64;
 
 /// Both forms of the line and a plain bounded channel, with 1, 2 and 8 writers.

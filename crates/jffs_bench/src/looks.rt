@@ -105,9 +105,9 @@ fn publish_refusals<P: Wait + Drop>(publisher: Publisher<P>, steps: u32) -> Resu
 fn fill(alloc: Global, tree: &mut Tree, writes: u32) -> Result<(), Fault> {
     grant(tree, &create(alloc, "/f")?, 1)?;
     grant(tree, &create(alloc, "/g")?, 2)?;
-    for place in 0..writes {
-        let wish = write(alloc, place.saturating_mul(WRITE_LEN))?;
-        grant(tree, &wish, place.saturating_add(3))?;
+    for number in 0..writes {
+        let wish = write(alloc, number.saturating_mul(WRITE_LEN))?;
+        grant(tree, &wish, number.saturating_add(3))?;
     }
     Ok(())
 }

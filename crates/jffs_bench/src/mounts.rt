@@ -29,8 +29,8 @@ pub(crate) fn measure_mounts<R: Clock, W: Write + Drop>(
 fn filled(alloc: Global, writes: u32) -> Result<MemoryFlash, Fault> {
     let mut volume = Volume::erased(alloc, LARGEST)?;
     volume.grant(create(alloc, "/f")?)?;
-    for place in 0..writes {
-        if !volume.write(place.saturating_mul(WRITE_LEN))? {
+    for number in 0..writes {
+        if !volume.write(number.saturating_mul(WRITE_LEN))? {
             break;
         }
     }

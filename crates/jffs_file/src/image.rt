@@ -129,7 +129,7 @@ pub fn create_image<R: Files + AllocGlobal>(
     }
 }
 
-/// A file with these bytes, in place of any of that name.
+/// A file with these bytes, instead of any of that name.
 fn write_new<R: Files>(rt: &R, path: &str, bytes: &[u8]) -> io::Result<R::File> {
     let mut file = OpenOptions::new()
         .read(true)

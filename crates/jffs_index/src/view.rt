@@ -104,7 +104,7 @@ impl View {
         self.tree.live(inode, version)
     }
 
-    /// The copy that would take the place of a live node, with its inode's name and the bytes of
+    /// The copy that would replace a live node, with its inode's name and the bytes of
     /// its range as they are here. Precondition: the node's version is live in its inode
     /// ([`View::live`]).
     ///

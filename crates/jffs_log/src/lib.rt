@@ -4,7 +4,7 @@
 //! for the tree that the log makes.
 #![tactic(auto)]
 
-mod book;
+mod log_index;
 mod dead;
 mod erasing;
 mod examples;
@@ -19,7 +19,7 @@ mod sector;
 mod weighing;
 mod writing;
 
-pub use book::{Book, Kept};
+pub use log_index::{LogIndex, RecordRef};
 pub use examples::{example_is_cleaned, examples_are_scanned};
 pub use laws::{
     cleaning_keeps_room, copies_take_over, full_logs_are_heavy, histories_stay_lawful,

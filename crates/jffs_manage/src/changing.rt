@@ -12,7 +12,7 @@ use std::io::Read;
 /// The name of a file that a put hasn't finished.
 const UNFINISHED: &str = ".put.new";
 
-/// Puts bytes into a file at a path, in place of one that stands there: into a new file beside it, then the old one is
+/// Puts bytes into a file at a path, instead of one that stands there: into a new file beside it, then the old one is
 /// removed and the new one renamed. `FileLong` where no file is so long, `Reserved` where the path
 /// is that of an unfinished file, `Left` where an unfinished file stands there already, `Directory` where a directory
 /// stands at the path, `Refused` where a request was refused; then the new file is removed, if that can be.

@@ -71,7 +71,7 @@ pub fn run_volume<Rt: Files + AllocGlobal, R: Read, W: Write, E: Write>(
     }
 }
 
-/// Writes what a call ended with, behind the words that it is about.
+/// Writes what a call ended with, after the words that it is about.
 fn tell<E: Write>(call: Call<'_>, fault: VolumeFault, errors: &mut E) -> io::Result<()> {
     errors.write_all(b"jffs_volume: ")?;
     if let Call::Do(work) = call {

@@ -161,7 +161,7 @@ fn states_size(kind: Kind, deleted: bool, rest: &[u8]) -> Result<bool, Why>
     }
 }
 
-/// The size that the record states, or zeros in its place.
+/// The size that the record states, or zeros instead.
 fn size_of(stated: bool, rest: &[u8]) -> Result<Option<u32>, Why>
     requires long { 64 ≤ length rest.now }
     requires stated { stated ≡ (form_at rest.now == 2) }

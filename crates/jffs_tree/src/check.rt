@@ -34,7 +34,7 @@ impl Tree {
         true
     }
 
-    /// Each inode is the first of its name, so no two stand at one place.
+    /// Each inode is the first of its name, so no two have the same directory and name.
     fn names_differ(&self) -> bool
         ensures { result ≡ names_differ (state_in self.now) }
     {

@@ -12,7 +12,7 @@ use std::sync::Wait;
 use std::thread;
 use std::thread::Threads;
 
-/// Offers so many wishes, each until it is accepted; an Unmount in place of one that has no memory, so that the taker
+/// Offers so many wishes, each until it is accepted; an Unmount instead of one that has no memory, so that the taker
 /// gets as many as it waits for.
 fn hand_in_all<H: Hand, R: Wait>(rt: &R, alloc: Global, hand: H, count: u32) -> H
     ensures { ◌≡◌ {A = End} (H.sender result, H.line result) (H.sender hand, H.line hand) }

@@ -2,29 +2,29 @@
 use Rattle.std.specs.Prelude.{◌≡◌, ℕ, Bool, List}
 use Rattle.jffs_tree.specs.Origin.{Tree}
 use Rattle.jffs_tree.specs.declared.wish.Limits.{Limits}
-use Rattle.jffs_log.specs.declared.book.Book.{Book}
+use Rattle.jffs_log.specs.declared.log_index.LogIndex.{LogIndex}
 use Rattle.jffs_core.specs.declared.answer.Answer.{Answer}
 
 -- The image of the device, how often it failed, whether an erase was among that, what the log knows of it, and what the core knows.
-pub record Standing : Type 0 where
+pub record CoreState : Type 0 where
   pub image : List ℕ
   pub faults : ℕ
   pub erase_failed : Bool
-  pub book : Book
+  pub index : LogIndex
   pub tree : Tree
   pub limits : Limits
   pub clean : Bool
   pub failed : Bool
   pub closed : Bool
   pub answers : List Answer
-  pub places : ℕ
+  pub capacity : ℕ
 
--- the same in all but the places that are reserved for answers
-abbrev pub IsSameButPlaces : Standing → Standing → Type 0
-IsSameButPlaces old new = new ≡ record old { places = new.places }
+-- the same in all but the capacity reserved for answers
+abbrev pub IsSameButCapacity : CoreState → CoreState → Type 0
+IsSameButCapacity old new = new ≡ record old { capacity = new.capacity }
 
--- the answers, their places, and whether the session is over, are the same
-pub record SameAnswers (old new : Standing) : Type 0 where
+-- the answers, their capacity, and whether the session is over, are the same
+pub record SameAnswers (old new : CoreState) : Type 0 where
   pub answers : new.answers ≡ old.answers
-  pub places : new.places ≡ old.places
+  pub capacity : new.capacity ≡ old.capacity
   pub closed : new.closed ≡ old.closed

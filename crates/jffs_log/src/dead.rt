@@ -5,8 +5,8 @@ ghost use Rattle.std.specs.List.{list_all, take_while};
 ghost use Rattle.jffs_tree.specs.Look.{holds_version};
 ghost use Rattle.jffs_log.specs.declared.log_index.RecordRef.{RecordRef as RefValue};
 
-use crate::log_index::RecordRef;
 use crate::log::Log;
+use crate::log_index::RecordRef;
 use jffs_flash::Flash;
 use jffs_tree::Tree;
 use std::collections::VecDeque;

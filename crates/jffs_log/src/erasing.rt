@@ -3,8 +3,8 @@
 ghost use Rattle.std.specs.Prelude.{◌≡◌, ◌≤◌, false, IfOk, OnOk, IfErr};
 ghost use Rattle.jffs_log.specs.LogIndex.{from_other};
 
-use crate::log_index::RecordRef;
 use crate::log::{Log, failure, sector_at};
+use crate::log_index::RecordRef;
 use jffs_flash::{ERASED_BYTE, Flash};
 use jffs_tree::{Cause, Tree};
 use std::alloc::Global;

@@ -221,7 +221,10 @@ fn ends_with_unmount(nodes: &[Node]) -> bool
 }
 
 /// What is kept of the records of the log, the oldest first.
-pub(crate) fn list_records(alloc: Global, held: &[SectorRead]) -> Result<VecDeque<RecordRef>, AllocError>
+pub(crate) fn list_records(
+    alloc: Global,
+    held: &[SectorRead],
+) -> Result<VecDeque<RecordRef>, AllocError>
     ensures { IfOk result (λ records. records.items ≡ map ref_of (flat_map records_in held.now)) }
 {
     let mut records = VecDeque::new(alloc);

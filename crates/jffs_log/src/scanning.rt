@@ -4,10 +4,10 @@ ghost use Rattle.std.specs.Prelude.{◌≡◌, IfOk, IfErr};
 ghost use Rattle.jffs_flash.specs.Device.{Unchanged};
 ghost use Rattle.jffs_log.specs.ScanFound.{IsFound, IsMounted, IsRefused};
 
-use crate::log_index::LogIndex;
 use crate::finding::{Tail, is_clean, keep_log, list_records, nodes_of, oldest, read_sectors};
 use crate::folding::{Numbers, tree_of_log};
 use crate::log::Log;
+use crate::log_index::LogIndex;
 use jffs_flash::{Flash, FlashFault, is_geometry};
 use jffs_node::{NoMemory, Why};
 use jffs_tree::{Limits, Tree};

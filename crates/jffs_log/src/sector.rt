@@ -101,7 +101,11 @@ impl SectorRead {
 }
 
 /// Adds what is kept of the records of these nodes, which stand at the start of a sector.
-fn list_nodes(sector: u32, nodes: &[Node], records: &mut VecDeque<RecordRef>) -> Result<(), AllocError>
+fn list_nodes(
+    sector: u32,
+    nodes: &[Node],
+    records: &mut VecDeque<RecordRef>,
+) -> Result<(), AllocError>
     requires { sum_by length_of nodes.now < 2 ^ 32 }
     ensures { OnOk result (records.new.items ≡ records.old.items ++ map ref_of (placed_from sector 0 nodes.now)) }
 {

@@ -3,8 +3,8 @@
 ghost use Rattle.std.specs.Prelude.{◌≡◌, ◌<◌, ◌^◌, ◌==◌, ◌&&◌, false, List, length, map, filter, sum};
 ghost use Rattle.jffs_tree.specs.Look.{holds_version};
 
-use crate::log_index::RecordRef;
 use crate::log::Log;
+use crate::log_index::RecordRef;
 use jffs_flash::Flash;
 use jffs_tree::Tree;
 use std::collections::VecDeque;

@@ -6,7 +6,7 @@ ghost use Rattle.jffs_line.specs.InOrder.{Learned, knows, joined};
 ghost use Rattle.jffs_line.specs.Requests.{of, IsNumbered};
 ghost use Rattle.jffs_line.specs.Shared.{channel_line, shared_line, shared_end, shared_accepted, shared_ends, shared_taken, all_hands, hand_sent};
 
-use super::{Each, SharedPass, Receives, Sends, SharedHand, SharedTaker, Take};
+use super::{Each, Receives, Sends, SharedHand, SharedPass, SharedTaker, Take};
 use crate::hand::{Hands, Settle};
 use crate::request::{Request, SettleFault, Settled};
 use std::alloc::{AllocError, Global};

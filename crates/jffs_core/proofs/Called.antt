@@ -19,7 +19,7 @@ use Rattle.jffs_core.proofs.Refusing.{by_refusal, works_past, copies_follow, ref
 use Rattle.jffs_core.proofs.Full.{sizes_low}
 use Rattle.jffs_core.proofs.Contents.{grows_along, only_copies_grow}
 
--- What a core stands for after cleaning.
+-- What a core represents after cleaning.
 pub stands_after : (mounted past after : List Node) (new : CoreState) → Grows mounted past → OnlyCopies past after → RepresentsPast after new → Represents mounted after new
 stands_after mounted past after new grown added stands = record { grown = grows_along mounted past after grown (only_copies_grow past after added); stands = stands }
 

@@ -31,7 +31,7 @@ use Rattle.jffs_core.proofs.Refusing.{refused_along}
 use Rattle.jffs_core.proofs.Full.{sizes_low}
 use Rattle.jffs_core.proofs.Sweeping.{oldest_is}
 
--- So many of the oldest sector's records were handled.
+-- The first k of the oldest sector's records were handled.
 pub record IsCopying (nodes : List Node) (k copies : ℕ) (old now : CoreState) : Type 0 where
   pub works : now.failed ≡ false
   pub same : SameAnswers old now

@@ -164,7 +164,7 @@ module _ (past : List Node) (old new : CoreState) (q : Request) (works : old.fai
           by_wish true b h k = k
           by_wish false b h k = cc
 
-  -- a record wasn't put, and nothing was made beside it
+  -- a record wasn't put, and nothing was made besides it
   pub put_stopped : (room : Room) (node : Node) (cause : Cause) (of : IsNodeOf old q node) → room ≡ room_of of.new → MayPut past old.index.sector_size room node → PutRefused room node cause old new → (cause ≡ causes.NoSpace → is_fresh (with of.new 0 0 0) ≡ true → ⊥)
       → HasAnswered past old new q (Refused cause) None
   put_stopped room node cause of is may h none =

@@ -16,7 +16,7 @@ use Rattle.jffs_core.proofs.Lawful.{copies_along}
 use Rattle.jffs_core.proofs.Refusing.{refused_along}
 use Rattle.jffs_core.proofs.Full.{sizes_low}
 
--- Room is being made: so many cleanings are left.
+-- Room is being made, and `left` cleanings are left.
 pub record HasTurned (len left : ℕ) (past after : List Node) (old now : CoreState) : Type 0 where
   pub copies : OnlyCopies past after
   pub stands : WorksOn after old now

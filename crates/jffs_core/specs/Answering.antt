@@ -18,7 +18,7 @@ use Rattle.jffs_core.specs.Step.{Turn, IsStep, IsInHand}
 use Rattle.jffs_core.specs.Nodes.{listed}
 use Rattle.jffs_core.specs.Calls.{KeepsTwo}
 
--- the node that was decided on for the request, with the next version, by a core that knows some history
+-- the node that was decided on for the request, with the next version, by a core that represents some history
 pub record IsNodeOf (c : CoreState) (q : Request) (node : Node) : Type 0 where
   pub past : List Node
   pub known : RepresentsWorking past c
@@ -51,7 +51,7 @@ turn_of past old new = record {
   device_faulted = nat_lt old.faults new.faults;
 }
 
--- The answer is a lawful step from this history to another, which the core has then, and this node is what it appended for the request itself. The core has failed exactly where the answer is Device or Failed, and while it works the device failed no call. After Device only the node in hand may stand beside that history.
+-- The answer is a lawful step from this history to another, which the core has then, and this node is what it appended for the request itself. The core has failed exactly where the answer is Device or Failed, and while it works the device failed no call. After Device only the node in hand may stand besides that history.
 pub record HasAnswered (past : List Node) (old new : CoreState) (q : Request) (o : Outcome) (node : Option Node) : Type 0 where
   pub after : List Node
   pub stands : RepresentsPast after new

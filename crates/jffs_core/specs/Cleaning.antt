@@ -87,7 +87,7 @@ DidClean (Erased sector copies) past old new =
     (sector ≡ old.index.first) × (2 ≤ length (layout_in old.image old.index).sectors) × ((after : List Node) × HasCleaned past after copies old new)
 DidClean OneSector past old new = (new ≡ old) × (length (layout_in old.image old.index).sectors < 2)
 
--- A cleaning that came to its end, of a core that stood for this history.
+-- A cleaning that came to its end, of a core that represented this history.
 pub record Cleans (mounted past : List Node) (done : Cleaned) (old new : CoreState) : Type 0 where
   pub after : List Node
   pub added : OnlyCopies past after
@@ -101,7 +101,7 @@ StopIs Failed after old new = (old.failed ≡ true) × (new ≡ old)
 StopIs NoSpace after old new = RefusedAt NoSpace after old new × (2 ≤ (layout_in old.image old.index).erased → ⊥)
 StopIs cause after old new = (old.failed ≡ false) × RefusedAt cause after old new
 
--- A cleaning that stopped, of a core that stood for this history, and unless the core had failed, of a log of several sectors. The copies that were made stay.
+-- A cleaning that stopped, of a core that represented this history, and unless the core had failed, of a log of several sectors. The copies that were made stay.
 pub record Stops (mounted past : List Node) (cause : Cause) (old new : CoreState) : Type 0 where
   pub after : List Node
   pub added : OnlyCopies past after
@@ -124,7 +124,7 @@ pub record IsDeadOldest (c : CoreState) : Type 0 where
 abbrev pub AreDead : List Node → List (List Node) → Type 0
 AreDead past sectors = AllByRecursion (NoneLive past) sectors
 
--- So many of the oldest sectors were erased, none of which held a live record; the history is the same, and the oldest sector that is left may not be erased.
+-- The `count` oldest sectors were erased, none of which held a live record; the history is the same, and the oldest sector that is left may not be erased.
 pub record ErasesDead (mounted past : List Node) (count : ℕ) (old new : CoreState) : Type 0 where
   pub works : old.failed ≡ false
   pub still_works : new.failed ≡ false

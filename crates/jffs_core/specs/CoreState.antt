@@ -1,11 +1,11 @@
--- What stands in a core.
+-- The state of a core.
 use Rattle.std.specs.Prelude.{◌≡◌, ℕ, Bool, List}
 use Rattle.jffs_tree.specs.Origin.{Tree}
 use Rattle.jffs_tree.specs.declared.wish.Limits.{Limits}
 use Rattle.jffs_log.specs.declared.log_index.LogIndex.{LogIndex}
 use Rattle.jffs_core.specs.declared.answer.Answer.{Answer}
 
--- The image of the device, how often it failed, whether an erase was among that, what the log knows of it, and what the core knows.
+-- The image of the device, how often it failed, whether an erase was among that, the log's index, and the core's tree, numbers, flags and answers.
 pub record CoreState : Type 0 where
   pub image : List ℕ
   pub faults : ℕ

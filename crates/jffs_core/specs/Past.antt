@@ -1,4 +1,4 @@
--- What a core stands for: the log that was mounted, and the history since.
+-- What a core represents: the log that was mounted, and the history since.
 use Rattle.std.specs.Prelude.{◌≡◌, ◌⊎◌, ℕ, Bool, true, false, List, [], ◌∷◌, ◌++◌, Ok}
 use Rattle.jffs_node.specs.declared.node.Node.{Node}
 use Rattle.jffs_tree.specs.Origin.{Tree, state_in, tree_of}
@@ -23,7 +23,7 @@ use Rattle.jffs_core.specs.Step.{ends_with_unmount}
 abbrev pub is_clean_in : List ℕ → LogIndex → Bool
 is_clean_in image b = is_clean (sectors_in b.sectors b.sector_size image)
 
--- What a core that works knows is what this history makes, of which the image holds the newest part.
+-- What a core that works has is what this history makes, of which the image holds the newest part.
 pub record IsPast (past : List Node) (image : List ℕ) (b : LogIndex) (tree : Tree) (limits : Limits) (clean : Bool) : Type 0 where
   pub history : IsHistory image b past
   pub sound : IsSound b.sectors b.sector_size (record { past = past; log = layout_in image b })
@@ -31,11 +31,11 @@ pub record IsPast (past : List Node) (image : List ℕ) (b : LogIndex) (tree : T
   pub limits_are : limits ≡ limits_of b.sector_size past
   pub clean_is : clean ≡ is_clean_in image b
 
--- the same of all that stands in a core
+-- The core works, and represents this history: the same of all that is in it.
 abbrev pub RepresentsWorking : List Node → CoreState → Type 0
 RepresentsWorking past c = IsPast past c.image c.index c.tree c.limits c.clean
 
--- The index has the sizes of the device. Unless the device failed, it describes the image, and the core knows some history.
+-- The index has the sizes of the device. Unless the device failed, it describes the image, and the core represents some history.
 pub record HasLogIndex (failed : Bool) (count len : ℕ) (image : List ℕ) (b : LogIndex) (tree : Tree) (limits : Limits) (clean : Bool) : Type 0 where
   pub sizes : HasSizes count len b
   pub index : failed ≡ false → IsLogIndex image b
@@ -59,12 +59,12 @@ pub record HasFailed (More : Node → Type 0) (past : List Node) (c : CoreState)
   pub tree : OrOneMore More past (λ found. c.tree ≡ tree_of found)
   pub left : c.erase_failed ≡ false → OrOneMore More past (λ found. IsHistory c.image c.index found)
 
--- what stands of a core with this history, whether or not its device failed
+-- the core represents this history, whether or not its device failed
 pub record RepresentsPast (past : List Node) (c : CoreState) : Type 0 where
   pub working : c.failed ≡ false → RepresentsWorking past c
   pub broken : c.failed ≡ true → HasFailed (MayFollow past) past c
 
--- A core stands for the log that was mounted and the history since.
+-- The abstraction relation: a core represents the log that was mounted and the history since.
 pub record Represents (mounted past : List Node) (c : CoreState) : Type 0 where
   pub grown : Grows mounted past
   pub stands : RepresentsPast past c
@@ -76,7 +76,7 @@ pub record IsLeftBy (c : CoreState) (device : Device) : Type 0 where
   pub faults_are : device.faults ≡ c.faults
   pub erases_are : device.erase_failed ≡ c.erase_failed
 
--- What a mount of the device gives: a core that stands for the log that a scan finds, and has answered nothing.
+-- What a mount of the device gives: a core that represents the log that a scan finds, and has answered nothing.
 pub record IsFresh (device : Device) (c : CoreState) : Type 0 where
   pub scanned : Scanned
   pub found : scan_of device ≡ Ok scanned

@@ -50,7 +50,7 @@ impl<F: Flash> Model for Core<F> {
 impl<F: Flash> Core<F> {
     ghost use Rattle.jffs_core.specs.Past.{IsFresh, IsLeftBy};
 
-    /// Mounts a device: scans it, whatever it holds, and never writes to it. The core stands for
+    /// Mounts a device: scans it, whatever it holds, and never writes to it. The core represents
     /// the log that was found, without answers.
     ///
     /// A refusal has the scan's reason, and hands the device back.

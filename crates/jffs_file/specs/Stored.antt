@@ -2,7 +2,7 @@
 use Rattle.std.specs.Prelude.{◌≡◌, ℕ, ◌+◌, ◌≤◌, List, ◌++◌, length, take, drop, Option, Some, Result, MatchResult}
 use Rattle.jffs_flash.specs.Image.{window, replaced}
 
--- so many of these bytes, and then the old ones
+-- the first `count` of these bytes, and then the old ones
 abbrev pub first_part : ℕ → List ℕ → List ℕ → List ℕ
 first_part count bytes old = take count bytes ++ drop count old
 

@@ -97,7 +97,7 @@ impl View {
     }
 
     /// Whether the inode is present and this version of it is live. A source that cleaning copied
-    /// beside a request may still count, since such a copy is no step.
+    /// while it answered a request may still count, since such a copy is no step.
     pub fn live(&self, inode: u32, version: u32) -> bool
         ensures { result ≡ holds_version self.now.tree inode version }
     {

@@ -25,7 +25,7 @@ full_at_start z free (s ∷ sectors) = full_at_start z free sectors
 pub start : (total z : ℕ) (s : GcState) → IsSound total z s → 2 ≤ s.log.erased → IsTurn total z (charged (live_in s.past) (length s.log.sectors) s.log.sectors) (length s.log.sectors) s
 start total z s sound two = record { sound = sound; two = two; charge = omega arith; full = full_at_start z s.log.free s.log.sectors }
 
--- so many sectors and one more
+-- a k of at least 2 is one more than another number
 one_less : (total z weight k : ℕ) (s : GcState) → 2 ≤ k → IsTurn total z weight k s → (left : ℕ) × IsTurn total z weight (suc left) s
 one_less total z weight zero s h w = absurd (omega arith)
 one_less total z weight (suc left) s h w = (left, w)

@@ -24,7 +24,7 @@ pub enum ScanWhy {
     /// A read failed.
     #[error("the flash failed")]
     Device,
-    /// A closed record breaks a rule; the place is counted in bytes from the sector's start.
+    /// A closed record breaks a rule; `place` is its offset, from the sector's start.
     #[error("the record at byte {place} of sector {sector} is bad: {why:?}")]
     BadRecord { sector: u32, place: u32, why: Why },
     /// No sector is erased.

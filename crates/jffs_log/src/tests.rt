@@ -8,7 +8,7 @@ use std::alloc::{AllocError, Global};
 use std::process::Abort;
 use std::test::Fail as TestFail;
 
-/// A node that writes so many bytes over the start of the one file.
+/// A node that writes `amount` bytes over the start of the one file.
 fn written(alloc: Global, version: u32, amount: u32) -> Result<Node, AllocError> {
     let bytes = vec![in alloc; 0x61u8; amount as usize]?;
     Ok(Node {

@@ -28,7 +28,7 @@ numbers_of sender (answer ∷ answers) = cond (eqb answer.writer sender) (answer
 
 -- Some order of the accepted requests was answered, each once, and what each sender has waiting is what it had accepted beyond that, so that its answers are numbered 1, 2, 3, ..
 -- Of each writer the first of its commands were accepted, and every one if an Unmount was; of the control one Unmount at most, of the cleaner copies alone, and no others
--- From whatever history the core stood for at the start, the answers are lawful for these requests, and the core at the end, which left the device as it is, stands for the history after them
+-- From whatever history the core represented at the start, the answers are lawful for these requests, and the core at the end, which left the device as it is, represents the history after them
 -- What was served is determined by the answers
 -- Each reader saw what its path reads after a beginning of the answers, from the tree at the start on, or counts as one that saw nothing
 pub record IsRun (start : CoreState) (account : Account) : Type 0 where

@@ -13,7 +13,7 @@ use Rattle.jffs_serve.specs.Answered.{ErasesSince, KeepsHistory}
 pub since_start : (start : CoreState) → ErasesSince start 0 start
 since_start start = record { erases = omega arith; held = λ works. omega arith }
 
--- a call of a core that worked erased so many sectors more
+-- a call of a core that worked, which erased no more than `more` answers may
 since_worked : (start old new : CoreState) (answers more : ℕ) → old.failed ≡ false → ErasesSince start answers old → ErasesAtMost (more * start.index.sectors) old new → ErasesSince start (answers + more) new
 since_worked start old new answers more works was erased =
     let before = was.held works in

@@ -1,4 +1,4 @@
--- Calls after which the core stands for the history that it stood for.
+-- Calls after which the core represents the history that it represented.
 use Rattle.std.proofs.Common.{◌≡◌, ◌⊎◌, ◌<◌, ℕ, List, inl, inr, ⊎_elim, true, false, not, refl, sym, ap, subst, ◌∙◌, arith, Result, Ok, Err, OnOk, IfOk, IfErr}
 use Rattle.std.proofs.lemmas.Bool.{and_parts, both_ways, cases_Bool, false_from_ne_true, not-true}
 use Rattle.jffs_node.specs.declared.node.Node.{Node}
@@ -47,7 +47,7 @@ same_but_capacity old new same = subst (KeepsHistory old) (sym same) (record {
   };
 })
 
--- what a core that works knows it stands for
+-- a core that works represents its history, with that as the mounted log
 represents_itself : (past : List Node) (c : CoreState) → c.failed ≡ false → RepresentsWorking past c → Represents past past c
 represents_itself past c works known = record { grown = no_growth past; stands = works_past past c works known }
 

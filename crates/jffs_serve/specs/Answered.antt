@@ -47,7 +47,7 @@ pub record IsRequested (volume : Volume) (replies : List Reply) (after : List No
   pub copies : OnlyCopies turn.past after
   pub node : IsNodeFor turn reply.request after n
 
--- From this history to another: each request was replied to in its turn, none after Closed, and the core stands for the history after them. Two erased sectors stay so, but for an answer that may not keep them. Where an answer tells of a failure, the core has failed. The device's count of faults is the same while the core works, and has risen where it failed meanwhile. A core that fails meanwhile has nothing else in hand than an own copy, or the node of the request that was answered Device.
+-- From this history to another: each request was replied to in its turn, none after Closed, and the core represents the history after them. Two erased sectors stay so, but for an answer that may not keep them. Where an answer tells of a failure, the core has failed. The device's count of faults is the same while the core works, and has risen where it failed meanwhile. A core that fails meanwhile has nothing else in hand than an own copy, or the node of the request that was answered Device.
 pub record RunsTo (start core : CoreState) (mounted past : List Node) (replies : List Reply) : Type 0 where
   pub after : List Node
   pub stands : Represents mounted after core
@@ -64,7 +64,7 @@ pub record ErasesSince (start : CoreState) (answers : ℕ) (core : CoreState) : 
   pub erases : core.index.erases ≤ start.index.erases + start.index.held + answers * start.index.sectors
   pub held : core.failed ≡ false → core.index.erases + core.index.held ≤ start.index.erases + start.index.held + answers * start.index.sectors
 
--- These replies were made since: all that was taken, each of them once; and each is put, or pending, in order. They are lawful from whatever history the core stood for.
+-- These replies were made since: all that was taken, each of them once; and each is put, or pending, in order. They are lawful from whatever history the core represented.
 pub record HasReplied (start : Start) (core : CoreState) (unsent : Option PendingStep) (put : List Step) (taken : ℕ → List Request) (replies : List Reply) : Type 0 where
   pub all_taken : (w : ℕ) → taken w ≡ start.taken w ++ of w (map (λ (r : Reply). r.request) replies)
   pub answered : core.answers ≡ start.core.answers ++ map answer_in replies
@@ -86,7 +86,7 @@ abbrev pub FailuresAreFaults : Type 0
 FailuresAreFaults = (start core : CoreState) (mounted past : List Node) (replies : List Reply) → RunsTo start core mounted past replies
     → start.failed ≡ false → core.faults ≡ start.faults → any_failure (map answer_in replies) ≡ false
 
--- The core stands for the history that it stood for, on a device of the same sizes, and what it erased held the log. Where it had failed, nothing is changed; where it works on, no call of the device failed, and two erased sectors stay so; where it fails now, one did, and nothing else than an own copy was in hand.
+-- The core represents the history that it represented, on a device of the same sizes, and what it erased held the log. Where it had failed, nothing is changed; where it works on, no call of the device failed, and two erased sectors stay so; where it fails now, one did, and nothing else than an own copy was in hand.
 pub record KeepsHistory (old new : CoreState) : Type 0 where
   pub sizes : HasSizes old.index.sectors old.index.sector_size new.index
   pub erases : ErasesAtMost 0 old new

@@ -102,7 +102,7 @@ impl<F: Flash> Session<F> {
         }
     }
 
-    /// Whether a cleaner is wanted, and no job was sent since so many erases.
+    /// Whether a cleaner is wanted, and no job was sent since there were `erases` erases.
     fn is_due(&self, erases: u64) -> bool
         ensures { result ≡ true → (wants_cleaning self.now.core ≡ true) × (self.now.sent_at ≢ Some erases) }
     {

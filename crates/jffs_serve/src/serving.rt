@@ -22,8 +22,8 @@ use std::sync::Wait;
 /// fails; waits for requests and for readers on the way. After Memory a further call goes on: first
 /// it sends the step that is pending.
 ///
-/// The answers are lawful for the requests, from whatever history the core stood for to the one
-/// that it stands for then, over any number of calls.
+/// The answers are lawful for the requests, from whatever history the core represented to the
+/// one that it represents then, over any number of calls.
 ///
 /// Precondition: what is published has the state of the core's tree, as an index has that was
 /// opened over a copy of it. So each node that the core appends may be applied there.

@@ -12,7 +12,7 @@ use std::io::{BufRead, Read};
 /// How many bytes the largest volume has.
 pub(crate) const VOLUME_MAX: u64 = MAX_SECTORS as u64 * SECTOR_SIZES[4] as u64;
 
-/// How many bytes so many sectors have together.
+/// How many bytes `sectors` sectors of `sector_size` bytes have.
 pub(crate) fn device_length(sectors: u32, sector_size: u32) -> u64
     ensures { result ≡ sectors * sector_size }
 {

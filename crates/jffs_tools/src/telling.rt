@@ -49,7 +49,7 @@ pub(crate) fn own_records(outcome: Outcome, appended: u64) -> u64
     }
 }
 
-/// What a request did that appended so many records, the newest of which begins at this byte of
+/// What a request did that appended `appended` records, the newest of which begins at byte `at` of
 /// the image.
 pub(crate) fn did(outcome: Outcome, appended: u64, at: u64) -> Did
     ensures { result ≡ did_of outcome appended at }

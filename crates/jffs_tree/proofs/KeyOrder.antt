@@ -85,7 +85,7 @@ pub first_of_directory : (p : ℕ) (o : Option (List ℕ)) (j : ℕ) → is_gt (
 first_of_directory p None j = first_of_name p None j
 first_of_directory p (Some x) j = ap (λ a. is_gt (ordering_then (ordering_then a Less) (nat_cmp 0 j))) (tied_itself nat_cmp_total p)
 
--- Places that the order doesn't tell apart are one.
+-- Keys that the order doesn't tell apart are one.
 pub same_key : (a b : ChildKey) → is_at (key_cmp a) b ≡ true → a ≡ b
 same_key a b h =
     let last = then_tied (head_cmp a b) (nat_cmp a.2 b.2) ((Equal-is (key_cmp a b)).0 h) in

@@ -1,4 +1,4 @@
--- How often each version is live, kept beside the inodes.
+-- How often each version is live, kept besides the inodes.
 use Rattle.std.specs.Prelude.{◌≡◌, ◌≢◌, ◌≤◌, ◌+◌, ℕ, ◌==◌, ◌&&◌, List, Some, count_by, sum_by, flat_map, unwrap_or, if◌then◌else◌}
 use Rattle.std.specs.List.{filter}
 use Rattle.std.specs.List.Sorted.{IsStrictlySortedBy}

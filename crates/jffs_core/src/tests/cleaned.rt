@@ -80,7 +80,7 @@ fn cleaning_copies_current_names(rt: HostRuntime) -> Result<(), Fail> {
     Ok(())
 }
 
-/// Cleaning erases sector 0 after so many copies.
+/// Cleaning erases sector 0 after `copies` copies.
 fn cleans(rt: &impl Abort, session: &mut Session<MemoryFlash>, copies: u32) {
     let cleaned = Cleaned::Erased { sector: 0, copies };
     assert_eq!(rt; session.core.clean_oldest(), Ok(cleaned));

@@ -64,7 +64,7 @@ fn put_writer(text: &mut Vec<u8>, writer: u32) -> Result<(), Fail> {
     Ok(())
 }
 
-/// Writes so many equal bytes from an offset on; what lies between the end and the offset is 0.
+/// Writes `count` equal bytes from an offset on; what lies between the end and the offset is 0.
 fn fill(bytes: &mut Vec<u8>, offset: usize, count: usize, byte: u8) -> Result<(), Fail> {
     for at in (0..count).map(|k| offset.saturating_add(k)) {
         for _ in bytes.len()..=at {

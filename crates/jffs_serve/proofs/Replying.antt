@@ -128,7 +128,7 @@ pub replied_capacity :
 replied_capacity start old new unsent put before now replies same taken was =
     replied_same start old new unsent put before now replies (ap (λ (s : CoreState). s.answers) same) (ap (λ (s : CoreState). s.closed) same) (same_but_capacity old new same) taken was
 
--- the step that was pending is put
+-- the unsent step is put
 pub replied_put :
     (start : Start) (core : CoreState) (step : Step) (ending : Option Served) (put now : List Step) (taken : ℕ → List Request) (replies : List Reply)
     → now ≡ put ++ step ∷ []
@@ -145,7 +145,7 @@ replied_put start core step ending put now taken replies is was = record {
   lawful = was.lawful;
 }
 
--- nothing is pending any more of what was put
+-- nothing is unsent any more of what was put
 pub replied_sent :
     (start : Start) (core : CoreState) (unsent : Option PendingStep) (put : List Step) (taken : ℕ → List Request) (replies : List Reply)
     → unput unsent ≡ []
@@ -162,7 +162,7 @@ replied_sent start core unsent put taken replies is was = record {
   lawful = was.lawful;
 }
 
--- the ending that is pending fits
+-- the ending of the unsent step fits
 pub pending_fits :
     (start : Start) (core : CoreState) (unsent : Option PendingStep) (put : List Step) (taken : ℕ → List Request) (replies : List Reply) (ending : Option Served)
     → ending ≡ ending_of unsent

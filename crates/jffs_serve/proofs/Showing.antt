@@ -65,13 +65,13 @@ module _ {W : Type 0} where
       ap₂ (λ (h : History) (steps : List Step). h.steps ++ steps) same more ∙ sym (append_assoc (published old).steps (pending old) (step ∷ []))
 
 module _ {F : Type 0} where
-  -- what was pending is forgotten once it was put
+  -- what was unsent is forgotten once it was put
   pub ending_shown : (old new : Session F) → unput old.unsent ≡ [] → new.unsent ≡ None → new.core ≡ old.core → (shown : Shown) → IsShown old.unsent shown old.core → IsShown new.unsent shown new.core
   ending_shown old new put unsent core shown is =
       subst (λ (k : Option PendingStep). IsShown k shown new.core) (sym unsent) (subst (λ (c : CoreState). ShowsCore shown.tree c) (sym core) (shown_sent old.unsent shown old.core put is))
 
 module _ {F W : Type 0} where
-  -- Serving begins: nothing is pending, and the index was opened over a copy of the core's tree.
+  -- Serving begins: nothing is unsent, and the index was opened over a copy of the core's tree.
   pub can_begin : (session : Session F) (publisher : Publisher W) → session.unsent ≡ None → published publisher ≡ opening_of session.core.tree → pending publisher ≡ [] → CanServe session publisher
   can_begin session publisher nothing opening none =
       let put : all_put publisher ≡ opening_of session.core.tree = ap₂ (λ (h : History) (steps : List Step). extended h steps) opening none in
@@ -81,7 +81,7 @@ module _ {F W : Type 0} where
             (λ works. ap (λ (h : History). state_in (view_of h).tree) put);
       }
 
-  -- the step that is pending fits what was put, and shows the core once it is put
+  -- the unsent step fits what was put, and shows the core once it is put
   pub can_put : (session : Session F) (publisher : Publisher W) (step : Step) (ending : Option Served) → session.unsent ≡ Some (Unput step ending) → CanServe session publisher
       → (fits (view_of (all_put publisher)) step ≡ true) × ShowsCore (after_step (view_of (all_put publisher)) step).tree session.core
   can_put session publisher step ending unsent can = subst (λ (k : Option PendingStep). IsShown k (view_of (all_put publisher)) session.core) unsent can.shown

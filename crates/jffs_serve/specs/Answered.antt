@@ -64,7 +64,7 @@ pub record ErasesSince (start : CoreState) (answers : ℕ) (core : CoreState) : 
   pub erases : core.index.erases ≤ start.index.erases + start.index.held + answers * start.index.sectors
   pub held : core.failed ≡ false → core.index.erases + core.index.held ≤ start.index.erases + start.index.held + answers * start.index.sectors
 
--- These replies were made since: all that was taken, each of them once; and each is put, or pending, in order. They are lawful from whatever history the core represented.
+-- These replies were made since: all that was taken, each of them once; and each is put, or unsent, in order. They are lawful from whatever history the core represented.
 pub record HasReplied (start : Start) (core : CoreState) (unsent : Option PendingStep) (put : List Step) (taken : ℕ → List Request) (replies : List Reply) : Type 0 where
   pub all_taken : (w : ℕ) → taken w ≡ start.taken w ++ of w (map (λ (r : Reply). r.request) replies)
   pub answered : core.answers ≡ start.core.answers ++ map answer_in replies

@@ -14,7 +14,7 @@ unput None = []
 unput (Some (Unput step ending)) = step ∷ []
 unput (Some (Unpublished ending)) = []
 
--- how serving ends once nothing is pending, if it does
+-- how serving ends once nothing is unsent, if it does
 abbrev pub ending_of : Option PendingStep → Option Served
 ending_of None = None
 ending_of (Some (Unput step ending)) = ending

@@ -15,7 +15,7 @@ use Rattle.jffs_serve.specs.PendingStep.{IsReady}
 abbrev pub ShowsCore : Tree → CoreState → Type 0
 ShowsCore tree core = core.failed ≡ false → state_in tree ≡ state_in core.tree
 
--- what was put shows the core, once the step that is pending is put too; and that step may be put
+-- what was put shows the core, once the unsent step is put too; and that step may be put
 abbrev pub IsShown : Option PendingStep → Shown → CoreState → Type 0
 IsShown None shown core = ShowsCore shown.tree core
 IsShown (Some (Unput step ending)) shown core = (fits shown step ≡ true) × ShowsCore (after_step shown step).tree core

@@ -20,7 +20,7 @@ use std::sync::Wait;
 
 /// Takes requests and answers them, until an Unmount was answered, no hand is left, or allocation
 /// fails; waits for requests and for readers on the way. After Memory a further call goes on: first
-/// it sends the step that is pending.
+/// it sends the unsent step.
 ///
 /// The answers are lawful for the requests, from whatever history the core represented to the
 /// one that it represents then, over any number of calls.
@@ -57,7 +57,7 @@ pub fn serve<R: Wait, W: Wait + Drop, F: Flash, T: Taker>(
     unreachable!()
 }
 
-/// Takes a request and answers it, unless a step is pending. Where it does neither it says how
+/// Takes a request and answers it, unless a step is unsent. Where it does neither it says how
 /// serving ends.
 fn answer_next<R: Wait, F: Flash, T: Taker>(
     rt: &R,
@@ -90,8 +90,8 @@ fn answer_next<R: Wait, F: Flash, T: Taker>(
     }
 }
 
-/// Puts and publishes the step that is pending, if one is. Answers how serving ends then, if it does.
-/// If allocation fails, what is still to be done stays pending.
+/// Puts and publishes the unsent step, if one is. Answers how serving ends then, if it does.
+/// If allocation fails, what is still to be done stays so.
 fn send_pending<F: Flash, W: Wait + Drop>(
     session: &mut Session<F>,
     publisher: &mut Publisher<W>,
@@ -112,7 +112,7 @@ fn send_pending<F: Flash, W: Wait + Drop>(
     Ok(session.take_ending())
 }
 
-/// Puts the step that is pending, if it is still to be put.
+/// Puts the unsent step, if it is still to be put.
 fn put_pending<F: Flash, W: Wait + Drop>(
     session: &mut Session<F>,
     publisher: &mut Publisher<W>,

@@ -7,7 +7,7 @@ use Rattle.jffs_serve.proofs.Showing.{answered_can, tidied_can}
 use Rattle.jffs_serve.proofs.serving.serve.Goals as goal
 use Rattle.jffs_serve.proofs.serving.serve.Goals.{In_default, After-tidy}
 
--- a request was answered, or a step was pending before
+-- a request was answered, or a step was unsent before
 answered : (g : _) (c : In_default g) → RepliesMore c.args.session.now (all_put c.args.publisher.now).steps (g.T.Taker.taken c.args.taker.now)
     c.answer_next.new.session (all_put c.loop.publisher).steps (g.T.Taker.taken c.answer_next.new.taker) None
 answered g c =

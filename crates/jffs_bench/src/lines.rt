@@ -14,7 +14,7 @@ use std::thread;
 use std::thread::Threads;
 use std::time::{Clock, Instant};
 
-/// The places of each line.
+/// The capacity of each line.
 const CAPACITY: usize = 64;
 
 /// Both forms of the line and a plain bounded channel, with 1, 2 and 8 writers.
@@ -47,7 +47,7 @@ fn wish(alloc: Global, size: u32) -> Option<Wish> {
     Some(Wish::Truncate { path, size })
 }
 
-/// Hands in so many wishes, each until it is accepted.
+/// Hands in `count` wishes, each until it is accepted.
 fn hand_in<H: Hand, R: Wait>(rt: &R, alloc: Global, hand: H, count: u32) {
     let mut hand = hand;
     for size in 0..count {
@@ -74,7 +74,7 @@ fn insist<H: Hand, R: Wait>(rt: &R, hand: &mut H, wish: Wish) {
     }
 }
 
-/// Each writer hands in so many wishes in a thread of its own, and all are taken; how many.
+/// Each writer hands in `each` wishes in a thread of its own, and all are taken; how many.
 fn hand_in_all<H: Hand + Send, T: Taker, R: Threads + Wait + Sync>(
     rt: &R,
     alloc: Global,

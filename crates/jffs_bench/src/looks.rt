@@ -52,7 +52,7 @@ fn measure_readers<R: Threads + Wait + Sync + Clock, W: Write + Drop>(
     measure.varying("looks beside that", looks)
 }
 
-/// How often the readers looked in threads of their own while so many steps were published.
+/// How often the readers looked in threads of their own while `steps` steps were published.
 fn look_beside<R: Threads + Wait + Sync>(
     rt: &R,
     publisher: Publisher<&R>,
@@ -83,7 +83,7 @@ fn count_looks(reader: Reader, counter: &AtomicU64) {
     }
 }
 
-/// Publishes so many steps without nodes.
+/// Publishes `steps` steps without nodes.
 fn publish_refusals<P: Wait + Drop>(publisher: Publisher<P>, steps: u32) -> Result<(), Fault> {
     let mut publisher = publisher;
     for seq in 0..steps {
@@ -101,13 +101,13 @@ fn publish_refusals<P: Wait + Drop>(publisher: Publisher<P>, steps: u32) -> Resu
     Ok(())
 }
 
-/// A tree with `/f`, to which so many writes were appended, and with the empty `/g`.
+/// A tree with `/f`, to which `writes` writes were appended, and with the empty `/g`.
 fn fill(alloc: Global, tree: &mut Tree, writes: u32) -> Result<(), Fault> {
     grant(tree, &create(alloc, "/f")?, 1)?;
     grant(tree, &create(alloc, "/g")?, 2)?;
-    for place in 0..writes {
-        let wish = write(alloc, place.saturating_mul(WRITE_LEN))?;
-        grant(tree, &wish, place.saturating_add(3))?;
+    for number in 0..writes {
+        let wish = write(alloc, number.saturating_mul(WRITE_LEN))?;
+        grant(tree, &wish, number.saturating_add(3))?;
     }
     Ok(())
 }

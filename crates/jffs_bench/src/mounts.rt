@@ -25,12 +25,12 @@ pub(crate) fn measure_mounts<R: Clock, W: Write + Drop>(
     measure.line(rt, "records mounted of a full volume", records, start)
 }
 
-/// A volume to whose file at most so many writes were appended, until there was no room.
+/// A volume to whose file at most `writes` writes were appended, until there was no room.
 fn filled(alloc: Global, writes: u32) -> Result<MemoryFlash, Fault> {
     let mut volume = Volume::erased(alloc, LARGEST)?;
     volume.grant(create(alloc, "/f")?)?;
-    for place in 0..writes {
-        if !volume.write(place.saturating_mul(WRITE_LEN))? {
+    for number in 0..writes {
+        if !volume.write(number.saturating_mul(WRITE_LEN))? {
             break;
         }
     }

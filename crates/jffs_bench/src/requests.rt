@@ -46,8 +46,8 @@ fn measure_creates<R: Clock, W: Write + Drop>(
     let mut volume = volume;
     let alloc = volume.alloc;
     let start = Instant::now(rt)?;
-    for place in 0..room {
-        let path = format!(in alloc; "/f{place}")?;
+    for number in 0..room {
+        let path = format!(in alloc; "/f{number}")?;
         volume.grant(create(alloc, &path)?)?;
     }
     measure.line(rt, "creates", u64::from(room), start)
@@ -60,8 +60,8 @@ fn measure_appends<R: Clock, W: Write + Drop>(
     room: u32,
 ) -> Result<(), Fault> {
     let start = Instant::now(rt)?;
-    for place in 0..room {
-        if !volume.write(place.saturating_mul(WRITE_LEN))? {
+    for number in 0..room {
+        if !volume.write(number.saturating_mul(WRITE_LEN))? {
             return Err(Fault::Refused);
         }
     }

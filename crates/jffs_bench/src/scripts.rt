@@ -23,7 +23,7 @@ const SIZES: Sizes = Sizes {
 /// The writes of all writers of a script together.
 const WRITES: u32 = 4_000;
 
-/// Who takes part in a script beside its writers.
+/// Who takes part in a script besides its writers.
 #[derive(Clone, Copy, Debug, PartialEq, Eq)]
 enum Beside {
     Nobody,
@@ -62,7 +62,7 @@ pub(crate) fn measure_scripts<R: Threads + Wait + Sync + Clock, W: Write + Drop>
     Ok(())
 }
 
-/// A script in which each writer makes a file of its own and writes to it so many times.
+/// A script in which each writer makes a file of its own and writes to it `writes` times.
 fn script(
     alloc: Global,
     line: &str,

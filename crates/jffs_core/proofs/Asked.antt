@@ -16,12 +16,12 @@ use Rattle.jffs_line.specs.declared.request.Request.{Request}
 use Rattle.jffs_log.specs.declared.room.Room.{Room}
 use Rattle.jffs_log.specs.declared.room.Room.TheVariants as rooms
 use Rattle.jffs_log.specs.Room.{next_version, has_room, limits as limits_of}
-use Rattle.jffs_log.specs.Book.{HasSizes, layout_in}
-use Rattle.jffs_core.specs.Standing.{Standing}
+use Rattle.jffs_log.specs.LogIndex.{HasSizes, layout_in}
+use Rattle.jffs_core.specs.CoreState.{CoreState}
 use Rattle.jffs_core.specs.History.{MayFollow}
 use Rattle.jffs_core.specs.Run.{OnlyCopies}
 use Rattle.jffs_core.specs.Step.{IsInHand, MakesRoom, had_room, room_of}
-use Rattle.jffs_core.specs.Past.{Knows, has_room_for}
+use Rattle.jffs_core.specs.Past.{RepresentsWorking, has_room_for}
 use Rattle.jffs_core.specs.Appending.{MayPut}
 use Rattle.jffs_core.specs.Answering.{IsNodeOf, turn_of}
 use Rattle.jffs_log.specs.RoomLaws.{suits_room}
@@ -31,10 +31,10 @@ use Rattle.jffs_core.proofs.Deciding.{may_put, put_short, is_made_fresh, limits_
 use Rattle.jffs_core.proofs.Contents.{copy_given}
 
 -- the decision that the core takes is that on its history
-pub decision_is : (past : List Node) (c : Standing) (q : Request) → Knows past c → decide past (limits_of c.book.sector_size past) q.wish ≡ decide_on c.tree c.limits q.wish
+pub decision_is : (past : List Node) (c : CoreState) (q : Request) → RepresentsWorking past c → decide past (limits_of c.index.sector_size past) q.wish ≡ decide_on c.tree c.limits q.wish
 decision_is past c q h =
-    sym (decides_by_tree past (limits_of c.book.sector_size past) q.wish)
-    ∙ ap (λ t. decide_on t (limits_of c.book.sector_size past) q.wish) (sym h.tree_is)
+    sym (decides_by_tree past (limits_of c.index.sector_size past) q.wish)
+    ∙ ap (λ t. decide_on t (limits_of c.index.sector_size past) q.wish) (sym h.tree_is)
     ∙ ap (λ l. decide_on c.tree l q.wish) (sym h.limits_are)
 
 -- The node of a request, by its wish.
@@ -49,39 +49,39 @@ unmount_is past limits _ n w is = cc
 fresh_room_of : (n : NewNode) → is_unmount n.kind ≡ false → rooms.Fresh ≡ room_of n
 fresh_room_of n e = ap (λ t. elim t [ true ↦ rooms.Unmount | false ↦ rooms.Fresh ]) (sym e)
 
-module _ (past : List Node) (c : Standing) (q : Request) (node : Node) (known : Knows past c) (of : IsNodeOf c q node) where
-  its_decision : decide past (limits_of c.book.sector_size past) q.wish ≡ Ok of.new
+module _ (past : List Node) (c : CoreState) (q : Request) (node : Node) (known : RepresentsWorking past c) (of : IsNodeOf c q node) where
+  its_decision : decide past (limits_of c.index.sector_size past) q.wish ≡ Ok of.new
   its_decision = decision_is past c q known ∙ of.decided
 
   pub its_version : next_version past ≡ Some node.version
   its_version = ap (λ (l : Limits). l.next_version) (sym known.limits_are) ∙ of.next
 
-  its_may : (room : Room) → suits_room room (with of.new node.version q.writer q.seq) ≡ true → MayFollow past (with of.new node.version q.writer q.seq) → MayPut past c.book.sector_size room node
-  its_may room suits follows = subst (MayPut past c.book.sector_size room) (sym of.is)
-      (may_put c.book.sectors c.book.sector_size past past q.wish of.new node.version q.writer q.seq known.history.sizes known.history.rules (limits_given c.book.sector_size past) its_decision of.wish its_version of.writer of.seq room suits follows)
+  its_may : (room : Room) → suits_room room (with of.new node.version q.writer q.seq) ≡ true → MayFollow past (with of.new node.version q.writer q.seq) → MayPut past c.index.sector_size room node
+  its_may room suits follows = subst (MayPut past c.index.sector_size room) (sym of.is)
+      (may_put c.index.sectors c.index.sector_size past past q.wish of.new node.version q.writer q.seq known.history.sizes known.history.rules (limits_given c.index.sector_size past) its_decision of.wish its_version of.writer of.seq room suits follows)
 
-  pub its_short : record_len node ≤ c.book.sector_size / 4
-  its_short = subst (λ (n : Node). record_len n ≤ c.book.sector_size / 4) (sym of.is)
-      (put_short c.book.sectors c.book.sector_size past past q.wish of.new node.version q.writer q.seq known.history.sizes known.history.rules (limits_given c.book.sector_size past) its_decision of.wish its_version of.writer of.seq)
+  pub its_short : record_len node ≤ c.index.sector_size / 4
+  its_short = subst (λ (n : Node). record_len n ≤ c.index.sector_size / 4) (sym of.is)
+      (put_short c.index.sectors c.index.sector_size past past q.wish of.new node.version q.writer q.seq known.history.sizes known.history.rules (limits_given c.index.sector_size past) its_decision of.wish its_version of.writer of.seq)
 
   pub its_len : record_len node < 2 ^ 32
-  its_len = let short = its_short in let small = sizes_small c.book.sectors c.book.sector_size known.history.sizes in omega arith
+  its_len = let short = its_short in let small = sizes_small c.index.sectors c.index.sector_size known.history.sizes in omega arith
 
-  pub unmount_may : is_unmount_wish q.wish ≡ true → MayPut past c.book.sector_size rooms.Unmount node
+  pub unmount_may : is_unmount_wish q.wish ≡ true → MayPut past c.index.sector_size rooms.Unmount node
   unmount_may u =
-      let same = unmount_is past (limits_of c.book.sector_size past) q.wish of.new u its_decision in
+      let same = unmount_is past (limits_of c.index.sector_size past) q.wish of.new u its_decision in
       its_may rooms.Unmount (ap (λ n. suits_room rooms.Unmount (with n node.version q.writer q.seq)) (sym same)) (inr (inl (ap (λ (n : NewNode). is_unmount n.kind) (sym same))))
 
   pub unmount_room : is_unmount_wish q.wish ≡ true → rooms.Unmount ≡ room_of of.new
-  unmount_room u = ap room_of (unmount_is past (limits_of c.book.sector_size past) q.wish of.new u its_decision)
+  unmount_room u = ap room_of (unmount_is past (limits_of c.index.sector_size past) q.wish of.new u its_decision)
 
   pub unmount_old : is_unmount_wish q.wish ≡ true → is_fresh (with of.new 0 0 0) ≡ true → ⊥
-  unmount_old u f = both_ways (is_fresh (with unmount_node 0 0 0)) refl (ap (λ n. is_fresh (with n 0 0 0)) (unmount_is past (limits_of c.book.sector_size past) q.wish of.new u its_decision) ∙ f)
+  unmount_old u f = both_ways (is_fresh (with unmount_node 0 0 0)) refl (ap (λ n. is_fresh (with n 0 0 0)) (unmount_is past (limits_of c.index.sector_size past) q.wish of.new u its_decision) ∙ f)
 
   its_copy : is_copy_wish q.wish ≡ true → (e : Entry) × IsTrueCopy past (with of.new node.version q.writer q.seq) e
-  its_copy k = copy_given past (limits_of c.book.sector_size past) q.wish of.new node.version q.writer q.seq k its_decision
+  its_copy k = copy_given past (limits_of c.index.sector_size past) q.wish of.new node.version q.writer q.seq k its_decision
 
-  pub copy_may : is_copy_wish q.wish ≡ true → MayPut past c.book.sector_size rooms.Fresh node
+  pub copy_may : is_copy_wish q.wish ≡ true → MayPut past c.index.sector_size rooms.Fresh node
   copy_may k = its_may rooms.Fresh refl (inr (inr (its_copy k)))
 
   pub copy_room : is_copy_wish q.wish ≡ true → rooms.Fresh ≡ room_of of.new
@@ -92,44 +92,44 @@ module _ (past : List Node) (c : Standing) (q : Request) (node : Node) (known : 
 
   pub fresh_is : is_copy_wish q.wish ≡ false → is_unmount_wish q.wish ≡ false → is_fresh (with of.new 0 0 0) ≡ true
   fresh_is k u =
-      is_made_fresh c.book.sectors c.book.sector_size past past q.wish of.new node.version q.writer q.seq known.history.sizes known.history.rules (limits_given c.book.sector_size past) its_decision of.wish its_version of.writer of.seq k u
+      is_made_fresh c.index.sectors c.index.sector_size past past q.wish of.new node.version q.writer q.seq known.history.sizes known.history.rules (limits_given c.index.sector_size past) its_decision of.wish its_version of.writer of.seq k u
 
-  pub fresh_may : is_copy_wish q.wish ≡ false → is_unmount_wish q.wish ≡ false → MayPut past c.book.sector_size rooms.Fresh node
+  pub fresh_may : is_copy_wish q.wish ≡ false → is_unmount_wish q.wish ≡ false → MayPut past c.index.sector_size rooms.Fresh node
   fresh_may k u = its_may rooms.Fresh refl (inl (fresh_is k u))
 
   pub fresh_room : is_copy_wish q.wish ≡ false → is_unmount_wish q.wish ≡ false → rooms.Fresh ≡ room_of of.new
   fresh_room k u = fresh_room_of of.new (not-true (is_unmount of.new.kind) (and_parts (not of.new.copy) (not (is_unmount of.new.kind)) (fresh_is k u)).1)
 
-  pub its_full : (new : Standing) → rooms.Fresh ≡ room_of of.new → has_room_for c rooms.Fresh (record_len node) ≡ false → had_room (turn_of past c new) of.new ≡ false
+  pub its_full : (new : CoreState) → rooms.Fresh ≡ room_of of.new → has_room_for c rooms.Fresh (record_len node) ≡ false → had_room (turn_of past c new) of.new ≡ false
   its_full new is e =
-      let log = layout_in c.image c.book in
+      let log = layout_in c.image c.index in
       ap (λ r. has_room r (record_len (with of.new 0 0 0)) log.free log.erased) (sym is) ∙ ap (λ k. has_room rooms.Fresh k log.free log.erased) (ap record_len (sym of.is)) ∙ e
 
-  pub its_makes_room : (new : Standing) → rooms.Fresh ≡ room_of of.new → has_room_for c rooms.Fresh (record_len node) ≡ false → is_fresh (with of.new 0 0 0) ≡ true → MakesRoom (turn_of past c new) q
+  pub its_makes_room : (new : CoreState) → rooms.Fresh ≡ room_of of.new → has_room_for c rooms.Fresh (record_len node) ≡ false → is_fresh (with of.new 0 0 0) ≡ true → MakesRoom (turn_of past c new) q
   its_makes_room new is e fresh = (of.new, record { decided = its_decision; none = its_full new is e }, fresh)
 
   -- after own copies, with the version that comes next then
   pub later_may : (after : List Node) (later : Node) → is_copy_wish q.wish ≡ false → is_unmount_wish q.wish ≡ false → OnlyCopies past after → KeepsRules after → next_version after ≡ Some later.version → later ≡ with of.new later.version q.writer q.seq
-      → MayPut after c.book.sector_size rooms.Fresh later
+      → MayPut after c.index.sector_size rooms.Fresh later
   later_may after later k u copies rules next is =
-      let stays = decision_stays past after (limits_of c.book.sector_size past) q.wish copies k ∙ its_decision in
-      let fits = limits_stay c.book.sector_size past after copies in
-      let fresh = is_made_fresh c.book.sectors c.book.sector_size past after q.wish of.new later.version q.writer q.seq known.history.sizes rules fits stays of.wish next of.writer of.seq k u in
-      subst (MayPut after c.book.sector_size rooms.Fresh) (sym is)
-      (may_put c.book.sectors c.book.sector_size past after q.wish of.new later.version q.writer q.seq known.history.sizes rules fits stays of.wish next of.writer of.seq rooms.Fresh refl (inl fresh))
+      let stays = decision_stays past after (limits_of c.index.sector_size past) q.wish copies k ∙ its_decision in
+      let fits = limits_stay c.index.sector_size past after copies in
+      let fresh = is_made_fresh c.index.sectors c.index.sector_size past after q.wish of.new later.version q.writer q.seq known.history.sizes rules fits stays of.wish next of.writer of.seq k u in
+      subst (MayPut after c.index.sector_size rooms.Fresh) (sym is)
+      (may_put c.index.sectors c.index.sector_size past after q.wish of.new later.version q.writer q.seq known.history.sizes rules fits stays of.wish next of.writer of.seq rooms.Fresh refl (inl fresh))
 
 -- the node in hand is that of the request
-pub own_in_hand : (past : List Node) (c : Standing) (q : Request) → Knows past c → (node next : Node) (of : IsNodeOf c q node) (after : List Node) (new : Standing) → next ≡ with of.new next.version q.writer q.seq → next_version after ≡ Some next.version
+pub own_in_hand : (past : List Node) (c : CoreState) (q : Request) → RepresentsWorking past c → (node next : Node) (of : IsNodeOf c q node) (after : List Node) (new : CoreState) → next ≡ with of.new next.version q.writer q.seq → next_version after ≡ Some next.version
     → IsInHand (turn_of past c new) q after next
 own_in_hand past c q known node next of after new is version = inr (record { new = of.new; decided = decision_is past c q known ∙ of.decided; is = is; next = version })
 
 -- the version that comes next, as the core has it
-pub known_version : (past : List Node) (c : Standing) (o : Option ℕ) → Knows past c → c.limits.next_version ≡ o → next_version past ≡ o
+pub known_version : (past : List Node) (c : CoreState) (o : Option ℕ) → RepresentsWorking past c → c.limits.next_version ≡ o → next_version past ≡ o
 known_version past c o known is = ap (λ (l : Limits). l.next_version) (sym known.limits_are) ∙ is
 
-pub may_later : (past after : List Node) (old middle : Standing) (q : Request) (node : Node) (of : IsNodeOf old q node) (v : ℕ) → Knows past old → is_copy_wish q.wish ≡ false → is_unmount_wish q.wish ≡ false → OnlyCopies past after → Knows after middle
-    → HasSizes old.book.sectors old.book.sector_size middle.book → middle.limits.next_version ≡ Some v → MayPut after middle.book.sector_size rooms.Fresh (record node { version = v })
-may_later past after old middle q node of v known k u copies knows sizes is =
+pub may_later : (past after : List Node) (old middle : CoreState) (q : Request) (node : Node) (of : IsNodeOf old q node) (v : ℕ) → RepresentsWorking past old → is_copy_wish q.wish ≡ false → is_unmount_wish q.wish ≡ false → OnlyCopies past after → RepresentsWorking after middle
+    → HasSizes old.index.sectors old.index.sector_size middle.index → middle.limits.next_version ≡ Some v → MayPut after middle.index.sector_size rooms.Fresh (record node { version = v })
+may_later past after old middle q node of v known k u copies represents sizes is =
     let later : Node = record node { version = v } in
     subst (λ z. MayPut after z rooms.Fresh later) sizes.1
-    (later_may past old q node known of after later k u copies knows.history.rules (known_version after middle (Some v) knows is) (ap (λ (m : Node). record m { version = v }) of.is))
+    (later_may past old q node known of after later k u copies represents.history.rules (known_version after middle (Some v) represents is) (ap (λ (m : Node). record m { version = v }) of.is))

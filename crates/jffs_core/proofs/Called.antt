@@ -3,68 +3,68 @@ use Rattle.std.proofs.Common.{◌≡◌, ℕ, zero, suc, ◌≤◌, false, List,
 use Rattle.jffs_node.specs.declared.node.Node.{Node}
 use Rattle.jffs_tree.specs.declared.wish.Cause.{Cause}
 use Rattle.jffs_tree.specs.declared.wish.Cause.TheVariants as causes
-use Rattle.jffs_log.specs.Book.{layout_in}
-use Rattle.jffs_log.specs.Cleaning.{Layout, Session, cleaned}
+use Rattle.jffs_log.specs.LogIndex.{layout_in}
+use Rattle.jffs_log.specs.Cleaning.{Layout, GcState, cleaned}
 use Rattle.jffs_log.proofs.Copied.{copies_take_over, unmounts_are_dead}
 use Rattle.jffs_log.proofs.Bound.{cleaning_has_room}
-use Rattle.jffs_core.specs.Standing.{Standing}
+use Rattle.jffs_core.specs.CoreState.{CoreState}
 use Rattle.jffs_core.specs.Run.{OnlyCopies}
 use Rattle.jffs_core.specs.declared.cleaning.Cleaned.{Cleaned}
 use Rattle.jffs_core.specs.declared.cleaning.Cleaned.TheVariants.{Erased, OneSector}
 use Rattle.jffs_core.specs.History.{IsOwnCopy, Grows}
-use Rattle.jffs_core.specs.Past.{Knows, HasPast, StandsFor, session}
+use Rattle.jffs_core.specs.Past.{RepresentsWorking, RepresentsPast, Represents, gc_state}
 use Rattle.jffs_core.specs.Calls.{RefusedAt, KeepsTwo}
 use Rattle.jffs_core.specs.Cleaning.{HasCleaned, SectorStopped, DidClean, Cleans, Stops, StopIs, erased_times}
 use Rattle.jffs_core.proofs.Refusing.{by_refusal, works_past, copies_follow, refused_past}
 use Rattle.jffs_core.proofs.Full.{sizes_low}
 use Rattle.jffs_core.proofs.Contents.{grows_along, only_copies_grow}
 
--- What a core stands for after cleaning.
-pub stands_after : (mounted past after : List Node) (new : Standing) → Grows mounted past → OnlyCopies past after → HasPast after new → StandsFor mounted after new
+-- What a core represents after cleaning.
+pub stands_after : (mounted past after : List Node) (new : CoreState) → Grows mounted past → OnlyCopies past after → RepresentsPast after new → Represents mounted after new
 stands_after mounted past after new grown added stands = record { grown = grows_along mounted past after grown (only_copies_grow past after added); stands = stands }
 
-cleaned_keeps : (past later : List Node) (copies : ℕ) (old new : Standing) → Knows past old → 2 ≤ length (layout_in old.image old.book).sectors → HasCleaned past later copies old new → KeepsTwo old new
+cleaned_keeps : (past later : List Node) (copies : ℕ) (old new : CoreState) → RepresentsWorking past old → 2 ≤ length (layout_in old.image old.index).sectors → HasCleaned past later copies old new → KeepsTwo old new
 cleaned_keeps past later copies old new known several c two =
-    let low = sizes_low old.book.sectors old.book.sector_size known.history.sizes in
-    let more = (cleaning_has_room copies_take_over unmounts_are_dead old.book.sectors old.book.sector_size (session past old) low.1 known.sound two several).2 in
-    let at : (layout_in new.image new.book).erased ≡ (cleaned old.book.sector_size (session past old)).log.erased = ap (λ (x : Session). x.log.erased) c.turn in
+    let low = sizes_low old.index.sectors old.index.sector_size known.history.sizes in
+    let more = (cleaning_has_room copies_take_over unmounts_are_dead old.index.sectors old.index.sector_size (gc_state past old) low.1 known.sound two several).2 in
+    let at : (layout_in new.image new.index).erased ≡ (cleaned old.index.sector_size (gc_state past old)).log.erased = ap (λ (x : GcState). x.log.erased) c.turn in
     omega arith
 
-pub did_clean : (mounted past : List Node) (done : Cleaned) (old new : Standing) → old.failed ≡ false → StandsFor mounted past old → DidClean done past old new → Cleans mounted past done old new
+pub did_clean : (mounted past : List Node) (done : Cleaned) (old new : CoreState) → old.failed ≡ false → Represents mounted past old → DidClean done past old new → Cleans mounted past done old new
 did_clean mounted past (Erased sector copies) old new works s h =
     let c = h.2.1 in
     let k = s.stands in
     record {
       after = h.2.0;
       added = c.added;
-      stands = stands_after mounted past h.2.0 new s.grown c.added (works_past h.2.0 new c.stands.works c.stands.knows);
+      stands = stands_after mounted past h.2.0 new s.grown c.added (works_past h.2.0 new c.stands.works c.stands.represents);
       did = h;
       two = cleaned_keeps past h.2.0 copies old new (k.working works) h.1 c;
     }
 did_clean mounted past OneSector old new works s h = record {
   after = past;
   added = record { copies = []; true_copies = tt; joined = refl };
-  stands = subst (StandsFor mounted past) (sym h.0) s;
+  stands = subst (Represents mounted past) (sym h.0) s;
   did = h;
-  two = λ e. subst (λ (c : Standing). 2 ≤ (layout_in c.image c.book).erased) (sym h.0) e;
+  two = λ e. subst (λ (c : CoreState). 2 ≤ (layout_in c.image c.index).erased) (sym h.0) e;
 }
 
 times_more : (k : ℕ) (log : Layout) → log.erased ≤ (erased_times k log).erased
 times_more zero log = omega arith
 times_more (suc k) log = let l = times_more k log in omega arith
 
-pub erased_keeps : (count : ℕ) (old new : Standing) → layout_in new.image new.book ≡ erased_times count (layout_in old.image old.book) → KeepsTwo old new
+pub erased_keeps : (count : ℕ) (old new : CoreState) → layout_in new.image new.index ≡ erased_times count (layout_in old.image old.index) → KeepsTwo old new
 erased_keeps count old new is two =
-    let at : (layout_in new.image new.book).erased ≡ (erased_times count (layout_in old.image old.book)).erased = ap (λ (l : Layout). l.erased) is in
-    let more = times_more count (layout_in old.image old.book) in
+    let at : (layout_in new.image new.index).erased ≡ (erased_times count (layout_in old.image old.index)).erased = ap (λ (l : Layout). l.erased) is in
+    let more = times_more count (layout_in old.image old.index) in
     omega arith
 
-stop_is : (cause : Cause) (after : List Node) (old new : Standing) → old.failed ≡ false → RefusedAt cause after old new → (cause ≡ causes.NoSpace → 2 ≤ (layout_in old.image old.book).erased → ⊥) → StopIs cause after old new
+stop_is : (cause : Cause) (after : List Node) (old new : CoreState) → old.failed ≡ false → RefusedAt cause after old new → (cause ≡ causes.NoSpace → 2 ≤ (layout_in old.image old.index).erased → ⊥) → StopIs cause after old new
 stop_is cause after old new w h none =
-    by_refusal (IsOwnCopy after) after old new (λ c. (c ≡ causes.NoSpace → 2 ≤ (layout_in old.image old.book).erased → ⊥) → StopIs c after old new)
+    by_refusal (IsOwnCopy after) after old new (λ c. (c ≡ causes.NoSpace → 2 ≤ (layout_in old.image old.index).erased → ⊥) → StopIs c after old new)
     (λ works spent none. (w, (works, spent))) (λ works none. (w, works)) (λ works none. (works, none refl)) (λ fails none. (w, fails)) cause h none
 
-pub did_stop : (mounted past : List Node) (cause : Cause) (old new : Standing) → old.failed ≡ false → StandsFor mounted past old → (after : List Node) × SectorStopped cause past after old new → Stops mounted past cause old new
+pub did_stop : (mounted past : List Node) (cause : Cause) (old new : CoreState) → old.failed ≡ false → Represents mounted past old → (after : List Node) × SectorStopped cause past after old new → Stops mounted past cause old new
 did_stop mounted past cause old new works s h =
     let one = h.1 in
     let c = one.stopped in
@@ -77,7 +77,7 @@ did_stop mounted past cause old new works s h =
       wants = one.wants;
     }
 
-pub device_stop : (mounted past : List Node) (cause : Cause) (old new : Standing) → old.failed ≡ false → StandsFor mounted past old → cause ≡ causes.Device → RefusedAt cause past old new → StandsFor mounted past new × StopIs cause past old new
+pub device_stop : (mounted past : List Node) (cause : Cause) (old new : CoreState) → old.failed ≡ false → Represents mounted past old → cause ≡ causes.Device → RefusedAt cause past old new → Represents mounted past new × StopIs cause past old new
 device_stop mounted past cause old new works s is h =
     (record { grown = s.grown; stands = refused_past (IsOwnCopy past) past (copies_follow past) cause old new h }, stop_is cause past old new works h (λ e. absurd (other (sym e ∙ is))))
   where

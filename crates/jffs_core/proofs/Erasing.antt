@@ -7,14 +7,14 @@ use Rattle.jffs_node.specs.declared.node.Node.{Node}
 use Rattle.jffs_tree.specs.Origin.{Tree}
 use Rattle.jffs_tree.specs.Laws.{NoneLive}
 use Rattle.jffs_tree.specs.declared.wish.Limits.{Limits}
-use Rattle.jffs_log.specs.declared.book.Book.{Book}
-use Rattle.jffs_log.specs.Book.{IsBook, HasSizes, layout_in, lives_in, oldest_in}
+use Rattle.jffs_log.specs.declared.log_index.LogIndex.{LogIndex}
+use Rattle.jffs_log.specs.LogIndex.{IsLogIndex, HasSizes, layout_in, lives_in, oldest_in}
 use Rattle.jffs_log.specs.Cleaning.{Layout, without_oldest, oldest_records, erase_oldest}
 use Rattle.jffs_log.specs.RoomLaws.{Among}
 use Rattle.jffs_node.proofs.Each.{each_append}
 use Rattle.jffs_log.proofs.Histories.{dead_as}
-use Rattle.jffs_core.specs.Standing.{Standing, SameAnswers}
-use Rattle.jffs_core.specs.Past.{IsPast, Knows}
+use Rattle.jffs_core.specs.CoreState.{CoreState, SameAnswers}
+use Rattle.jffs_core.specs.Past.{IsPast, RepresentsWorking}
 use Rattle.jffs_core.specs.Calls.{WorksOn}
 use Rattle.jffs_core.specs.Cleaning.{HasErased, IsDeadOldest, AreDead, erased_times}
 use Rattle.jffs_core.specs.Erases.{ErasesAtMost}
@@ -22,35 +22,35 @@ use Rattle.jffs_core.proofs.RoomMade.{oldest_known}
 use Rattle.jffs_core.proofs.Sweeping.{held_is, oldest_is}
 
 -- No more sectors hold the log than there are.
-pub held_most : (past : List Node) (image : List ℕ) (b : Book) (tree : Tree) (limits : Limits) (clean : Bool) → IsBook image b → IsPast past image b tree limits clean → b.held ≤ b.sectors
-held_most past image b tree limits clean book h = let many = held_is image b book in let all = h.sound.counted in omega arith
+pub held_most : (past : List Node) (image : List ℕ) (b : LogIndex) (tree : Tree) (limits : Limits) (clean : Bool) → IsLogIndex image b → IsPast past image b tree limits clean → b.held ≤ b.sectors
+held_most past image b tree limits clean index h = let many = held_is image b index in let all = h.sound.counted in omega arith
 
 -- Nothing was erased.
-pub erased_none : (c : Standing) → ErasesAtMost 0 c c
+pub erased_none : (c : CoreState) → ErasesAtMost 0 c c
 erased_none c = record { erases = omega arith; held = λ w. omega arith }
 
 -- One sector was erased.
-pub erased_one : (old new : Standing) → new.book.erases ≤ old.book.erases + 1 → new.book.held + 1 ≡ old.book.held → ErasesAtMost 0 old new
+pub erased_one : (old new : CoreState) → new.index.erases ≤ old.index.erases + 1 → new.index.held + 1 ≡ old.index.held → ErasesAtMost 0 old new
 erased_one old new erases held = record { erases = omega arith; held = λ w. omega arith }
 
 -- An erase failed.
-pub erase_failed : (old new : Standing) → new.failed ≡ true → new.book.erases ≤ old.book.erases + 1 → 2 ≤ old.book.held → ErasesAtMost 0 old new
+pub erase_failed : (old new : CoreState) → new.failed ≡ true → new.index.erases ≤ old.index.erases + 1 → 2 ≤ old.index.held → ErasesAtMost 0 old new
 erase_failed old new fails erases several = record { erases = omega arith; held = λ w. absurd (both_ways new.failed w fails) }
 
 -- Several were, and what came then.
-pub erased_along : (old middle new : Standing) → middle.book.erases + middle.book.held ≤ old.book.erases + old.book.held → ErasesAtMost 0 middle new → ErasesAtMost 0 old new
+pub erased_along : (old middle new : CoreState) → middle.index.erases + middle.index.held ≤ old.index.erases + old.index.held → ErasesAtMost 0 middle new → ErasesAtMost 0 old new
 erased_along old middle new so_far h = record { erases = let e = h.erases in omega arith; held = λ w. let e = h.held w in omega arith }
 
 -- Dead sectors are erased one after another.
-pub record IsErasing (count : ℕ) (old now : Standing) : Type 0 where
+pub record IsErasing (count : ℕ) (old now : CoreState) : Type 0 where
   pub works : now.failed ≡ false
   pub same : SameAnswers old now
-  pub sizes : HasSizes old.book.sectors old.book.sector_size now.book
-  pub log : layout_in now.image now.book ≡ erased_times count (layout_in old.image old.book)
-  pub left : count + length (layout_in now.image now.book).sectors ≡ length (layout_in old.image old.book).sectors
-  pub erases : now.book.erases + now.book.held ≤ old.book.erases + old.book.held
-  pub done : (past : List Node) → Knows past old → WorksOn past old now
-  pub dead : (past : List Node) → Knows past old → AreDead past (take count (layout_in old.image old.book).sectors)
+  pub sizes : HasSizes old.index.sectors old.index.sector_size now.index
+  pub log : layout_in now.image now.index ≡ erased_times count (layout_in old.image old.index)
+  pub left : count + length (layout_in now.image now.index).sectors ≡ length (layout_in old.image old.index).sectors
+  pub erases : now.index.erases + now.index.held ≤ old.index.erases + old.index.held
+  pub done : (past : List Node) → RepresentsWorking past old → WorksOn past old now
+  pub dead : (past : List Node) → RepresentsWorking past old → AreDead past (take count (layout_in old.image old.index).sectors)
 
 pub one_fewer : (sectors : List (List Node)) → 2 ≤ length sectors → length (without_oldest sectors) + 1 ≡ length sectors
 one_fewer [] h = absurd (omega arith)
@@ -67,11 +67,11 @@ left_after zero log = refl
 left_after (suc k) log = ap without_oldest (left_after k log) ∙ newer_left k log.sectors
 
 -- the records of the oldest sector, of which none is live in the tree
-oldest_dead : (past : List Node) (c : Standing) → Knows past c → AllByRecursion (λ p. lives_in c.tree p ≡ false) (oldest_in c.image c.book) → NoneLive past (oldest_records (layout_in c.image c.book).sectors)
+oldest_dead : (past : List Node) (c : CoreState) → RepresentsWorking past c → AllByRecursion (λ p. lives_in c.tree p ≡ false) (oldest_in c.image c.index) → NoneLive past (oldest_records (layout_in c.image c.index).sectors)
 oldest_dead past c known dead =
-    let ps = oldest_in c.image c.book in
-    let is = oldest_is c.image c.book in
-    let among = subst (AllByRecursion (λ n. Among n past)) (sym is) (oldest_known past (layout_in c.image c.book).sectors known.sound.known) in
+    let ps = oldest_in c.image c.index in
+    let is = oldest_is c.image c.index in
+    let among = subst (AllByRecursion (λ n. Among n past)) (sym is) (oldest_known past (layout_in c.image c.index).sectors known.sound.known) in
     subst (NoneLive past) is ((dead_as past ps known.history.rules.falls among).0 (subst (λ t. AllByRecursion (λ p. lives_in t p ≡ false) ps) known.tree_is dead))
 
 -- None of the sectors so far was live, and the oldest that is left isn't.
@@ -80,31 +80,31 @@ dead_so_far past k log below so_far dead =
     let oldest : oldest_records (erased_times k log).sectors ≡ get_or log.sectors k [] = ap oldest_records (left_after k log ∙ drop-cons log.sectors k [] below) in
     subst (AreDead past) (sym (take-suc log.sectors k [] below)) (each_append (NoneLive past) (take k log.sectors) (get_or log.sectors k [] ∷ []) so_far (subst (NoneLive past) oldest dead, tt))
 
-pub erasing_goes_on : (count : ℕ) (old middle new : Standing) → IsErasing count old middle → IsDeadOldest middle → new.failed ≡ false → SameAnswers middle new → HasSizes middle.book.sectors middle.book.sector_size new.book
-    → layout_in new.image new.book ≡ erase_oldest (layout_in middle.image middle.book) → ((past : List Node) → Knows past middle → HasErased past middle new) → ErasesAtMost 0 middle new → IsErasing (count + 1) old new
+pub erasing_goes_on : (count : ℕ) (old middle new : CoreState) → IsErasing count old middle → IsDeadOldest middle → new.failed ≡ false → SameAnswers middle new → HasSizes middle.index.sectors middle.index.sector_size new.index
+    → layout_in new.image new.index ≡ erase_oldest (layout_in middle.image middle.index) → ((past : List Node) → RepresentsWorking past middle → HasErased past middle new) → ErasesAtMost 0 middle new → IsErasing (count + 1) old new
 erasing_goes_on count old middle new h oldest works same sizes log erased one =
     let more : suc count ≡ count + 1 = omega arith in
     record {
       works = works;
-      same = record { answers = same.answers ∙ h.same.answers; places = same.places ∙ h.same.places; closed = same.closed ∙ h.same.closed };
+      same = record { answers = same.answers ∙ h.same.answers; capacity = same.capacity ∙ h.same.capacity; closed = same.closed ∙ h.same.closed };
       sizes = (h.sizes.0 ∙ sizes.0, h.sizes.1 ∙ sizes.1);
-      log = log ∙ ap erase_oldest h.log ∙ ap (λ k. erased_times k (layout_in old.image old.book)) more;
+      log = log ∙ ap erase_oldest h.log ∙ ap (λ k. erased_times k (layout_in old.image old.index)) more;
       left =
           let e = ap (λ (l : Layout). length l.sectors) log in
-          let f = one_fewer (layout_in middle.image middle.book).sectors oldest.several in
+          let f = one_fewer (layout_in middle.image middle.index).sectors oldest.several in
           let k = h.left in
           omega arith;
       erases = let before = h.erases in let more = one.held works in omega arith;
       done = λ past known.
           let d = h.done past known in
-          let e = erased past d.knows in
+          let e = erased past d.represents in
           let s = e.stands in
-          record { works = s.works; faults = s.faults ∙ d.faults; knows = s.knows };
+          record { works = s.works; faults = s.faults ∙ d.faults; represents = s.represents };
       dead = λ past known.
-          let log = layout_in old.image old.book in
+          let log = layout_in old.image old.index in
           let left = h.left in
           let several = oldest.several in
-          let now = oldest_dead past middle (h.done past known).knows oldest.dead in
+          let now = oldest_dead past middle (h.done past known).represents oldest.dead in
           subst (λ k. AreDead past (take k log.sectors)) more
           (dead_so_far past count log (omega arith) (h.dead past known) (subst (λ (l : Layout). NoneLive past (oldest_records l.sectors)) h.log now));
     }

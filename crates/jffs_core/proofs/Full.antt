@@ -5,9 +5,9 @@ use Rattle.jffs_node.specs.declared.node.Node.{Node}
 use Rattle.jffs_flash.specs.Sizes.{is_geometry, is_sector_size}
 use Rattle.jffs_log.specs.declared.room.Room.TheVariants as rooms
 use Rattle.jffs_log.specs.Room.{heavy, weight}
-use Rattle.jffs_log.specs.Book.{layout_in}
-use Rattle.jffs_core.specs.Standing.{Standing}
-use Rattle.jffs_core.specs.Past.{session, Knows, has_room_for}
+use Rattle.jffs_log.specs.LogIndex.{layout_in}
+use Rattle.jffs_core.specs.CoreState.{CoreState}
+use Rattle.jffs_core.specs.Past.{gc_state, RepresentsWorking, has_room_for}
 use Rattle.jffs_core.specs.Cleaning.{HasMadeRoom}
 use Rattle.jffs_log.specs.Image.{log_sectors}
 use Rattle.jffs_log.specs.Volume.{sectors_in}
@@ -20,10 +20,10 @@ use Rattle.jffs_log.proofs.Parts.{logs_weigh_less}
 use Rattle.jffs_core.proofs.Deciding.{sector_sizes}
 
 -- The log holds the newest part of the history.
-pub past_holds : (past : List Node) (c : Standing) → Knows past c → (gone : List Node) × Holds (session past c) gone
+pub past_holds : (past : List Node) (c : CoreState) → RepresentsWorking past c → (gone : List Node) × Holds (gc_state past c) gone
 past_holds past c h = (
   h.history.gone,
-  h.history.front ∙ ap (λ (nodes : List Node). reverse nodes ++ h.history.gone) (log_nodes (log_sectors (sectors_in c.book.sectors c.book.sector_size c.image))),
+  h.history.front ∙ ap (λ (nodes : List Node). reverse nodes ++ h.history.gone) (log_nodes (log_sectors (sectors_in c.index.sectors c.index.sector_size c.image))),
 )
 
 pub sizes_low : (count z : ℕ) → is_geometry count z ≡ true → (6 ≤ count) × (64 ≤ z)
@@ -32,12 +32,12 @@ sizes_low count z h =
     (leb-true 6 count (and_parts (leb 6 count) (leb count 64) parts.0).0, sector_sizes (λ y. 64 ≤ y) z parts.1 (omega arith) (omega arith) (omega arith) (omega arith) (omega arith))
 
 -- Where a fresh record has no room after room was made, the log was heavy.
-pub turn_was_full : (len : ℕ) (past after : List Node) (old middle : Standing) → Knows past old → HasMadeRoom len past after old middle → len ≤ old.book.sector_size / 4 → has_room_for middle rooms.Fresh len ≡ false
-    → 2 ≤ (layout_in old.image old.book).erased → heavy old.book.sectors old.book.sector_size ≤ weight past
+pub turn_was_full : (len : ℕ) (past after : List Node) (old middle : CoreState) → RepresentsWorking past old → HasMadeRoom len past after old middle → len ≤ old.index.sector_size / 4 → has_room_for middle rooms.Fresh len ≡ false
+    → 2 ≤ (layout_in old.image old.index).erased → heavy old.index.sectors old.index.sector_size ≤ weight past
 turn_was_full len past after old middle known made short none two =
-    let sizes = sizes_low old.book.sectors old.book.sector_size known.history.sizes in
-    let full : fresh_has_room len (room_made old.book.sector_size len (length (layout_in old.image old.book).sectors) (session past old)) ≡ false = ap (fresh_has_room len) (sym made.turn) ∙ none in
-    let heavy_log = full_logs_are_heavy copies_take_over unmounts_are_dead old.book.sectors old.book.sector_size len (session past old) sizes.1 sizes.0 short known.sound two full in
+    let sizes = sizes_low old.index.sectors old.index.sector_size known.history.sizes in
+    let full : fresh_has_room len (room_made old.index.sector_size len (length (layout_in old.image old.index).sectors) (gc_state past old)) ≡ false = ap (fresh_has_room len) (sym made.turn) ∙ none in
+    let heavy_log = full_logs_are_heavy copies_take_over unmounts_are_dead old.index.sectors old.index.sector_size len (gc_state past old) sizes.1 sizes.0 short known.sound two full in
     let holds = past_holds past old known in
-    let part = logs_weigh_less (session past old) holds.0 holds.1 in
+    let part = logs_weigh_less (gc_state past old) holds.0 holds.1 in
     omega arith

@@ -7,9 +7,9 @@ use Rattle.jffs_tree.specs.declared.wish.Limits.{Limits}
 use Rattle.jffs_tree.specs.declared.wish.Cause.{Cause}
 use Rattle.jffs_tree.specs.declared.wish.Cause.TheVariants as causes
 use Rattle.jffs_flash.specs.Device.{Device}
-use Rattle.jffs_log.specs.Book.{layout_in}
+use Rattle.jffs_log.specs.LogIndex.{layout_in}
 use Rattle.jffs_log.specs.LogState.{LogState, ErasedOldest, EraseFailed, ReadFailed, ReadStopped}
-use Rattle.jffs_core.specs.Standing.{Standing}
+use Rattle.jffs_core.specs.CoreState.{CoreState}
 use Rattle.jffs_core.specs.History.{IsOwnCopy}
 use Rattle.jffs_core.specs.Past.{IsPast, HasFailed}
 use Rattle.jffs_core.specs.Calls.{WorksOn, FailsIn, RefusedAt}
@@ -17,32 +17,32 @@ use Rattle.jffs_core.proofs.Mounting.{clean_ends}
 use Rattle.jffs_core.proofs.Sweeping.{erased_past, read_past}
 
 -- The core knows the same history after the oldest sector was erased.
-pub erased_left : (past : List Node) (old new : LogState) (tree : Tree) (limits : Limits) (clean : Bool) → IsPast past old.device.image old.book tree limits clean
-    → 2 ≤ length (layout_in old.device.image old.book).sectors → ErasedOldest tree old new → IsPast past new.device.image new.book tree limits clean
+pub erased_left : (past : List Node) (old new : LogState) (tree : Tree) (limits : Limits) (clean : Bool) → IsPast past old.device.image old.index tree limits clean
+    → 2 ≤ length (layout_in old.device.image old.index).sectors → ErasedOldest tree old new → IsPast past new.device.image new.index tree limits clean
 erased_left past old new tree limits clean h several e =
-    erased_past past old.device.image new.device.image old.book new.book tree limits clean h (e.history past h.tree_is h.history) e.layout_is e.clean e.sizes several
+    erased_past past old.device.image new.device.image old.index new.index tree limits clean h (e.history past h.tree_is h.history) e.layout_is e.clean e.sizes several
 
 -- What is left where the device failed in a call that appends nothing: an erase, of whose image nothing is known, or a read.
-pub erase_left : (past : List Node) (old new : LogState) (core : Standing) (why : Cause) → IsPast past old.device.image old.book core.tree core.limits core.clean → EraseFailed why old new
+pub erase_left : (past : List Node) (old new : LogState) (core : CoreState) (why : Cause) → IsPast past old.device.image old.index core.tree core.limits core.clean → EraseFailed why old new
     → core.erase_failed ≡ new.device.erase_failed → HasFailed (IsOwnCopy past) past core
 erase_left past old new core why h f same = record {
-  clean = λ is. clean_ends past old.device.image old.book core.tree core.limits core.clean h is;
+  clean = λ is. clean_ends past old.device.image old.index core.tree core.limits core.clean h is;
   tree = inl h.tree_is;
   left = λ intact. absurd (both_ways _ intact (same ∙ ap (λ (d : Device). d.erase_failed) f.device.rest));
 }
 
-pub read_left : (past : List Node) (old new : LogState) (core : Standing) → IsPast past old.device.image old.book core.tree core.limits core.clean → ReadFailed old new
-    → core.image ≡ new.device.image → core.book ≡ new.book → HasFailed (IsOwnCopy past) past core
+pub read_left : (past : List Node) (old new : LogState) (core : CoreState) → IsPast past old.device.image old.index core.tree core.limits core.clean → ReadFailed old new
+    → core.image ≡ new.device.image → core.index ≡ new.index → HasFailed (IsOwnCopy past) past core
 read_left past old new core h f same_image same_book =
-    let now = read_past past old.device.image core.image old.book core.book core.tree core.limits core.clean (same_image ∙ f.device.left) (same_book ∙ f.book) h in
+    let now = read_past past old.device.image core.image old.index core.index core.tree core.limits core.clean (same_image ∙ f.device.left) (same_book ∙ f.index) h in
     record {
-      clean = λ is. clean_ends past old.device.image old.book core.tree core.limits core.clean h is;
+      clean = λ is. clean_ends past old.device.image old.index core.tree core.limits core.clean h is;
       tree = inl h.tree_is;
       left = λ intact. inl now.history;
     }
 
 -- A read that stopped is refused with its cause.
-pub read_refused : (why : Cause) (past : List Node) (old new : LogState) (before after : Standing) → ReadStopped why old new → (new ≡ old → WorksOn past before after) → (ReadFailed old new → FailsIn (IsOwnCopy past) past before after)
+pub read_refused : (why : Cause) (past : List Node) (old new : LogState) (before after : CoreState) → ReadStopped why old new → (new ≡ old → WorksOn past before after) → (ReadFailed old new → FailsIn (IsOwnCopy past) past before after)
     → RefusedAt why past before after
 read_refused causes.Memory past old new before after h works fails = works h
 read_refused causes.Device past old new before after h works fails = fails h

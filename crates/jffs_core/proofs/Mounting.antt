@@ -6,24 +6,24 @@ use Rattle.std.proofs.lemmas.Bool.{and_parts, both_ways}
 use Rattle.jffs_node.specs.declared.node.Node.{Node}
 use Rattle.jffs_tree.specs.Origin.{Tree, tree_of}
 use Rattle.jffs_tree.specs.declared.wish.Limits.{Limits}
-use Rattle.jffs_log.specs.declared.book.Book.{Book}
+use Rattle.jffs_log.specs.declared.log_index.LogIndex.{LogIndex}
 use Rattle.jffs_log.specs.Image.{records_in, log_sectors, nodes_of, past_of, is_free, is_clean, is_clean_tail, ends_with_unmount as log_ends}
 use Rattle.jffs_log.specs.Volume.{split, sectors_in}
 use Rattle.jffs_log.specs.Scan.{Scanned}
 use Rattle.jffs_log.specs.LogState.{LogState}
 use Rattle.jffs_log.specs.ScanFound.{IsFound, IsMounted}
 use Rattle.jffs_log.specs.Live.{live_log}
-use Rattle.jffs_log.specs.Book.{log_in, layout_in}
+use Rattle.jffs_log.specs.LogIndex.{log_in, layout_in}
 use Rattle.jffs_log.specs.RoomLaws.{IsSound}
 use Rattle.jffs_log.proofs.Ring.{Numbered}
 use Rattle.jffs_log.proofs.Volume.{length-split}
 use Rattle.jffs_log.proofs.MountedLog.{mounts_are_sound, ok_same, nodes_mapped, placed_nodes}
 use Rattle.jffs_log.proofs.MountHistory.{mounts_are_histories}
 use Rattle.jffs_log.proofs.Histories.{histories_are_scanned, turned_round}
-use Rattle.jffs_core.specs.Standing.{Standing}
+use Rattle.jffs_core.specs.CoreState.{CoreState}
 use Rattle.jffs_core.specs.Step.{ends_with_unmount}
 use Rattle.jffs_flash.specs.Device.{Device}
-use Rattle.jffs_core.specs.Past.{IsPast, HasBook, IsFresh, IsLeftBy}
+use Rattle.jffs_core.specs.Past.{IsPast, HasLogIndex, IsFresh, IsLeftBy}
 use Rattle.jffs_core.proofs.Contents.{no_growth}
 
 abbrev pub Bytes : List ℕ → Type 0
@@ -35,7 +35,7 @@ whole_sectors (suc more) len image whole h =
     let d = length-drop len image in
     ((length-take-le len image (omega arith), h.0), whole_sectors more len (drop len image) (omega arith) h.1)
 
-pub found_past : (image : List ℕ) (b : Book) (tree : Tree) (clean : Bool) (limits : Limits) → IsFound b.sectors b.sector_size image b tree clean limits → IsPast (past_of (log_in image b)) image b tree limits clean
+pub found_past : (image : List ℕ) (b : LogIndex) (tree : Tree) (clean : Bool) (limits : Limits) → IsFound b.sectors b.sector_size image b tree clean limits → IsPast (past_of (log_in image b)) image b tree limits clean
 found_past image b tree clean limits h =
     let count = b.sectors in
     let len = b.sector_size in
@@ -44,7 +44,7 @@ found_past image b tree clean limits h =
     let history = mounts_are_histories count len image scanned h.bytes h.answer in
     let again : Scanned = record { log = live_log count len image; tree = tree_of past; clean = is_clean (sectors_in count len image) } in
     let same = ok_same scanned again (sym h.answer ∙ histories_are_scanned count len image past history) in
-    let sound = mounts_are_sound len (split count len image) scanned (whole_sectors count len image h.book.whole h.bytes) h.answer in
+    let sound = mounts_are_sound len (split count len image) scanned (whole_sectors count len image h.index.whole h.bytes) h.answer in
     record {
       history = history;
       sound = subst (λ k. IsSound k len (record { past = past; log = layout_in image b })) (length-split count len image) sound;
@@ -53,31 +53,31 @@ found_past image b tree clean limits h =
       clean_is = ap (λ (s : Scanned). s.clean) same;
     }
 
-by_book : (count len : ℕ) (image : List ℕ) (b : Book) (tree : Tree) (clean : Bool) (limits : Limits) → IsFound count len image b tree clean limits → IsFound b.sectors b.sector_size image b tree clean limits
-by_book count len image b tree clean limits h =
+by_index : (count len : ℕ) (image : List ℕ) (b : LogIndex) (tree : Tree) (clean : Bool) (limits : Limits) → IsFound count len image b tree clean limits → IsFound b.sectors b.sector_size image b tree clean limits
+by_index count len image b tree clean limits h =
     subst (λ k. IsFound b.sectors k image b tree clean limits) h.sizes.1 (subst (λ k. IsFound k len image b tree clean limits) h.sizes.0 h)
 
-pub found_book : (device : Device) (log : LogState) (tree : Tree) (clean : Bool) (limits : Limits) → IsMounted device log tree clean limits
-    → HasBook log.failed log.device.sectors log.device.sector_size log.device.image log.book tree limits clean
-found_book device log tree clean limits m =
-    let h = subst (λ (d : Device). IsFound d.sectors d.sector_size d.image log.book tree clean limits) (sym m.device_is) m.found in
+pub found_index : (device : Device) (log : LogState) (tree : Tree) (clean : Bool) (limits : Limits) → IsMounted device log tree clean limits
+    → HasLogIndex log.failed log.device.sectors log.device.sector_size log.device.image log.index tree limits clean
+found_index device log tree clean limits m =
+    let h = subst (λ (d : Device). IsFound d.sectors d.sector_size d.image log.index tree clean limits) (sym m.device_is) m.found in
     record {
       sizes = h.sizes;
-      book = λ works. h.book;
-      past = λ works. (past_of (log_in log.device.image log.book), found_past log.device.image log.book tree clean limits (by_book log.device.sectors log.device.sector_size log.device.image log.book tree clean limits h));
+      index = λ works. h.index;
+      past = λ works. (past_of (log_in log.device.image log.index), found_past log.device.image log.index tree clean limits (by_index log.device.sectors log.device.sector_size log.device.image log.index tree clean limits h));
     }
 
-pub found_fresh : (device : Device) (c : Standing) → IsFound device.sectors device.sector_size device.image c.book c.tree c.clean c.limits → IsLeftBy c device
+pub found_fresh : (device : Device) (c : CoreState) → IsFound device.sectors device.sector_size device.image c.index c.tree c.clean c.limits → IsLeftBy c device
     → c.failed ≡ false → c.closed ≡ false → c.answers ≡ [] → IsFresh device c
 found_fresh device c h left works not_closed none =
-    let past = past_of (log_in device.image c.book) in
+    let past = past_of (log_in device.image c.index) in
     record {
-      scanned = record { log = log_in device.image c.book; tree = c.tree; clean = c.clean };
+      scanned = record { log = log_in device.image c.index; tree = c.tree; clean = c.clean };
       found = h.answer;
       stands = record {
         grown = no_growth past;
         stands = record {
-          working = λ w. subst (λ (xs : List ℕ). IsPast past xs c.book c.tree c.limits c.clean) left.image_is (found_past device.image c.book c.tree c.clean c.limits (by_book device.sectors device.sector_size device.image c.book c.tree c.clean c.limits h));
+          working = λ w. subst (λ (xs : List ℕ). IsPast past xs c.index c.tree c.limits c.clean) left.image_is (found_past device.image c.index c.tree c.clean c.limits (by_index device.sectors device.sector_size device.image c.index c.tree c.clean c.limits h));
           broken = λ f. absurd (both_ways c.failed works f);
         };
       };
@@ -109,7 +109,7 @@ ends_turned [] gone h = cc
 ends_turned (n ∷ []) gone h = ap ends_with_unmount (turned_round n [] gone) ∙ h
 ends_turned (n ∷ m ∷ nodes) gone h = ap ends_with_unmount (turned_round n (m ∷ nodes) gone) ∙ ends_turned (m ∷ nodes) (n ∷ gone) h
 
-pub clean_ends : (past : List Node) (image : List ℕ) (b : Book) (tree : Tree) (limits : Limits) (clean : Bool) → IsPast past image b tree limits clean → clean ≡ true → ends_with_unmount past ≡ true
+pub clean_ends : (past : List Node) (image : List ℕ) (b : LogIndex) (tree : Tree) (limits : Limits) (clean : Bool) → IsPast past image b tree limits clean → clean ≡ true → ends_with_unmount past ≡ true
 clean_ends past image b tree limits clean h is =
     ap ends_with_unmount h.history.front
     ∙ ends_turned (nodes_of (live_log b.sectors b.sector_size image)) h.history.gone (clean_log (log_sectors (sectors_in b.sectors b.sector_size image)) (sym h.clean_is ∙ is))

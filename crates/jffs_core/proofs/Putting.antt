@@ -6,17 +6,17 @@ use Rattle.jffs_node.specs.declared.node.Node.{Node}
 use Rattle.jffs_node.specs.Record.{record_len, dsize, is_lawful, is_unmount}
 use Rattle.jffs_tree.specs.Origin.{Tree, tree_of}
 use Rattle.jffs_tree.specs.Check.{each_fits, check}
-use Rattle.jffs_tree.specs.After.{keeps_places_in}
+use Rattle.jffs_tree.specs.After.{keeps_offsets_in}
 use Rattle.jffs_tree.specs.declared.wish.Limits.{Limits}
 use Rattle.jffs_tree.proofs.Entries.{fits_parts}
 use Rattle.jffs_tree.proofs.Tested.{trees_test_as_nodes}
-use Rattle.jffs_log.specs.declared.book.Book.{Book}
+use Rattle.jffs_log.specs.declared.log_index.LogIndex.{LogIndex}
 use Rattle.jffs_log.specs.declared.room.Room.{Room}
 use Rattle.jffs_log.specs.declared.room.Room.TheVariants as rooms
 use Rattle.jffs_flash.specs.Device.{Device as FlashDevice}
 use Rattle.jffs_log.specs.LogState.{LogState, IsSameLog, MayAppend, Appended}
 use Rattle.jffs_log.specs.Room.{has_room, following, next_inode, limits as limits_of}
-use Rattle.jffs_log.specs.Book.{HasSizes, IsSameBook, layout_in}
+use Rattle.jffs_log.specs.LogIndex.{HasSizes, IsSameLogIndex, layout_in}
 use Rattle.jffs_log.specs.Cleaning.{Layout, put, is_history, versions_fall, keeps_length}
 use Rattle.jffs_log.specs.RoomLaws.{IsSound, suits_room}
 use Rattle.jffs_log.specs.History.{IsHistory, IsLawfulHistory, KeepsRules}
@@ -24,8 +24,8 @@ use Rattle.jffs_log.proofs.MountedLog.{lawful_keeps}
 use Rattle.jffs_log.proofs.Bound.{puts_keep_sound}
 use Rattle.jffs_tree.specs.declared.wish.Cause.{Cause}
 use Rattle.jffs_tree.specs.declared.wish.Cause.TheVariants.{NoSpace, Device}
-use Rattle.jffs_core.specs.Standing.{Standing}
-use Rattle.jffs_core.specs.Past.{IsPast, Knows, is_clean_in, HasFailed}
+use Rattle.jffs_core.specs.CoreState.{CoreState}
+use Rattle.jffs_core.specs.Past.{IsPast, RepresentsWorking, is_clean_in, HasFailed}
 use Rattle.jffs_core.specs.Appending.{MayPut, PutRefused}
 
 -- Nodes that keep the rules never move a byte.
@@ -41,10 +41,10 @@ rules_history past h =
     (keeps_all_lengths past h.lawful.each)
 
 -- The tree takes the node.
-pub places_kept : (past : List Node) (n : Node) (tree : Tree) → tree ≡ tree_of past → KeepsRules (n ∷ past) → keeps_places_in tree n ≡ true
-places_kept past n tree is h =
+pub offsets_kept : (past : List Node) (n : Node) (tree : Tree) → tree ≡ tree_of past → KeepsRules (n ∷ past) → keeps_offsets_in tree n ≡ true
+offsets_kept past n tree is h =
     let fits = fits_parts n past (and_parts (each_fits (n ∷ past)) (check (tree_of (n ∷ past))) h.lawful.tree).0 in
-    ap (λ t. keeps_places_in t n) is ∙ (trees_test_as_nodes past n h.lawful.each.0).1 ∙ fits.2
+    ap (λ t. keeps_offsets_in t n) is ∙ (trees_test_as_nodes past n h.lawful.each.0).1 ∙ fits.2
 
 -- The numbers that come next.
 pub fold_max : (a b : ℕ) (past : List Node) → fold (λ most n. max most n.inode) (max a b) past ≡ max (fold (λ most n. max most n.inode) a past) b
@@ -61,25 +61,25 @@ counted z past n old new is data_max version inode =
     let most_data : new.data_max ≡ (limits_of z past).data_max = data_max ∙ ap (λ (l : Limits). l.data_max) is in
     λ i. record { data_max = most_data i; next_inode = numbers i; next_version = version i }
 
--- The same history and log by a book that is the same but for places.
-pub same_history : (image : List ℕ) (b c : Book) (past : List Node) → b.sectors ≡ c.sectors → b.sector_size ≡ c.sector_size → IsHistory image b past → IsHistory image c past
+-- The same history and log by an index that is the same but for capacity.
+pub same_history : (image : List ℕ) (b c : LogIndex) (past : List Node) → b.sectors ≡ c.sectors → b.sector_size ≡ c.sector_size → IsHistory image b past → IsHistory image c past
 same_history image b c past sectors size h = subst (λ k. IsLawfulHistory c.sectors k image past) size (subst (λ k. IsLawfulHistory k b.sector_size image past) sectors h)
 
-pub same_layout : (image : List ℕ) (b c : Book) → b.sectors ≡ c.sectors → b.sector_size ≡ c.sector_size → layout_in image b ≡ layout_in image c
+pub same_layout : (image : List ℕ) (b c : LogIndex) → b.sectors ≡ c.sectors → b.sector_size ≡ c.sector_size → layout_in image b ≡ layout_in image c
 same_layout image b c sectors size = ap (λ k. layout_in image (record b { sectors = k })) sectors ∙ ap (λ k. layout_in image (record c { sector_size = k })) size
 
--- A log that is the same but for places has the same layout and history.
-pub mid_layout : (old mid : LogState) → IsSameLog old mid → layout_in mid.device.image mid.book ≡ layout_in old.device.image old.book
+-- A log that is the same but for capacity has the same layout and history.
+pub mid_layout : (old mid : LogState) → IsSameLog old mid → layout_in mid.device.image mid.index ≡ layout_in old.device.image old.index
 mid_layout old mid same =
-    ap (λ (d : FlashDevice). layout_in d.image mid.book) same.device ∙ same_layout old.device.image mid.book old.book same.book.sectors same.book.sector_size
+    ap (λ (d : FlashDevice). layout_in d.image mid.index) same.device ∙ same_layout old.device.image mid.index old.index same.index.sectors same.index.sector_size
 
-pub mid_history : (past : List Node) (old mid : LogState) → IsSameLog old mid → IsHistory old.device.image old.book past → IsHistory mid.device.image mid.book past
+pub mid_history : (past : List Node) (old mid : LogState) → IsSameLog old mid → IsHistory old.device.image old.index past → IsHistory mid.device.image mid.index past
 mid_history past old mid same h =
-    subst (λ (d : FlashDevice). IsHistory d.image mid.book past) (sym same.device) (same_history old.device.image old.book mid.book past (sym same.book.sectors) (sym same.book.sector_size) h)
+    subst (λ (d : FlashDevice). IsHistory d.image mid.index past) (sym same.device) (same_history old.device.image old.index mid.index past (sym same.index.sectors) (sym same.index.sector_size) h)
 
 -- A node was put.
-module _ (past : List Node) (room : Room) (n : Node) (old new : List ℕ) (b c d : Book) (before after : Tree) (limits next : Limits) (was clean : Bool)
-    (h : IsPast past old b before limits was) (may : MayPut past b.sector_size room n) (same : IsSameBook b c) (sizes : HasSizes c.sectors c.sector_size d) where
+module _ (past : List Node) (room : Room) (n : Node) (old new : List ℕ) (b c d : LogIndex) (before after : Tree) (limits next : Limits) (was clean : Bool)
+    (h : IsPast past old b before limits was) (may : MayPut past b.sector_size room n) (same : IsSameLogIndex b c) (sizes : HasSizes c.sectors c.sector_size d) where
   pub put_past : has_room room (record_len n) (layout_in old b).free (layout_in old b).erased ≡ true → IsHistory new d (n ∷ past) → layout_in new d ≡ put c.sector_size room n (layout_in old c) → after ≡ tree_of (n ∷ past)
       → next ≡ limits_of b.sector_size (n ∷ past) → clean ≡ is_clean_in new d → IsPast (n ∷ past) new d after next clean
   put_past had_room history log tree numbers ends =
@@ -100,22 +100,22 @@ module _ (past : List Node) (room : Room) (n : Node) (old new : List ℕ) (b c d
       put_log e = e ∙ ap (λ k. put k room n (layout_in old c)) same.sector_size ∙ ap (put b.sector_size room n) (same_layout old c b same.sectors same.sector_size)
 
 -- The core knows the history with the node, once its record is in the log.
-pub put_known : (past : List Node) (room : Room) (n : Node) (old mid new : LogState) (before after : Tree) (limits next : Limits) (was clean : Bool) → IsPast past old.device.image old.book before limits was
-    → MayPut past old.book.sector_size room n → IsSameLog old mid → has_room room (record_len n) (layout_in old.device.image old.book).free (layout_in old.device.image old.book).erased ≡ true
-    → Appended room n mid new → after ≡ tree_of (n ∷ past) → next ≡ limits_of old.book.sector_size (n ∷ past) → clean ≡ is_unmount n.kind → IsPast (n ∷ past) new.device.image new.book after next clean
+pub put_known : (past : List Node) (room : Room) (n : Node) (old mid new : LogState) (before after : Tree) (limits next : Limits) (was clean : Bool) → IsPast past old.device.image old.index before limits was
+    → MayPut past old.index.sector_size room n → IsSameLog old mid → has_room room (record_len n) (layout_in old.device.image old.index).free (layout_in old.device.image old.index).erased ≡ true
+    → Appended room n mid new → after ≡ tree_of (n ∷ past) → next ≡ limits_of old.index.sector_size (n ∷ past) → clean ≡ is_unmount n.kind → IsPast (n ∷ past) new.device.image new.index after next clean
 put_known past room n old mid new before after limits next was clean h may same had e tree numbers ends =
     let image : mid.device.image ≡ old.device.image = ap (λ (d : FlashDevice). d.image) same.device in
-    put_past past room n old.device.image new.device.image old.book mid.book new.book before after limits next was clean h may same.book e.numbers.sizes had
+    put_past past room n old.device.image new.device.image old.index mid.index new.index before after limits next was clean h may same.index e.numbers.sizes had
     (e.history past (mid_history past old mid same h.history) may.rules)
-    (e.layout_is ∙ ap (λ (xs : List ℕ). put mid.book.sector_size room n (layout_in xs mid.book)) image)
+    (e.layout_is ∙ ap (λ (xs : List ℕ). put mid.index.sector_size room n (layout_in xs mid.index)) image)
     tree numbers (ends ∙ sym e.clean)
 
 -- the node's record may be appended, where it has room
-pub may_append : (past : List Node) (room : Room) (n : Node) (old mid : LogState) → MayPut past old.book.sector_size room n → IsSameLog old mid
-    → has_room room (record_len n) (layout_in old.device.image old.book).free (layout_in old.device.image old.book).erased ≡ true → MayAppend room n mid
+pub may_append : (past : List Node) (room : Room) (n : Node) (old mid : LogState) → MayPut past old.index.sector_size room n → IsSameLog old mid
+    → has_room room (record_len n) (layout_in old.device.image old.index).free (layout_in old.device.image old.index).erased ≡ true → MayAppend room n mid
 may_append past room n old mid may same had = record {
   lawful = may.rules.lawful.each.0;
-  short = subst (λ k. record_len n ≤ k / 4) (sym same.book.sector_size) may.short;
+  short = subst (λ k. record_len n ≤ k / 4) (sym same.index.sector_size) may.short;
   has_room = ap (λ (l : Layout). has_room room (record_len n) l.free l.erased) (mid_layout old mid same) ∙ had;
   unmounts = suits room n may.suits;
 }
@@ -126,7 +126,7 @@ may_append past room n old mid may same had = record {
     suits rooms.Unmount n h e = (and_parts (is_unmount n.kind) (dsize n == 0) h).0
 
 -- The device failed while a node was put.
-pub put_failed : (room : Room) (n : Node) (cause : Cause) (old new : Standing) → cause ≡ Device → new.failed ≡ true → old.faults < new.faults → ((past : List Node) → Knows past old → MayPut past old.book.sector_size room n → HasFailed (λ m. m ≡ n) past new) → PutRefused room n cause old new
+pub put_failed : (room : Room) (n : Node) (cause : Cause) (old new : CoreState) → cause ≡ Device → new.failed ≡ true → old.faults < new.faults → ((past : List Node) → RepresentsWorking past old → MayPut past old.index.sector_size room n → HasFailed (λ m. m ≡ n) past new) → PutRefused room n cause old new
 put_failed room n cause old new device fails faults left = subst (λ c. PutRefused room n c old new) (sym device) (record {
   stands = λ past known may. record { fails = fails; faults = faults; left = left past known may };
   no_room = λ is. absurd (other is);

@@ -8,19 +8,19 @@ use Rattle.jffs_tree.specs.declared.wish.Outcome.{Outcome}
 use Rattle.jffs_tree.specs.declared.wish.Outcome.TheVariants.{Refused}
 use Rattle.jffs_tree.specs.Origin.{tree_of}
 use Rattle.jffs_log.specs.Room.{next_version}
-use Rattle.jffs_core.specs.Standing.{Standing}
+use Rattle.jffs_core.specs.CoreState.{CoreState}
 use Rattle.jffs_core.specs.History.{IsOwnCopy, MayFollow}
 use Rattle.jffs_core.specs.Run.{is_failure}
-use Rattle.jffs_core.specs.Past.{Knows, HasPast, HasFailed, OrOneMore}
+use Rattle.jffs_core.specs.Past.{RepresentsWorking, RepresentsPast, HasFailed, OrOneMore}
 use Rattle.jffs_core.specs.Calls.{WorksOn, FailsIn, RefusedWith, KeepsTwo}
 use Rattle.jffs_core.specs.Answering.{keeps_two}
 use Rattle.jffs_log.specs.History.{IsHistory}
 
 -- what stands after a call
-pub works_past : (after : List Node) (new : Standing) → new.failed ≡ false → Knows after new → HasPast after new
+pub works_past : (after : List Node) (new : CoreState) → new.failed ≡ false → RepresentsWorking after new → RepresentsPast after new
 works_past after new works known = record { working = λ w. known; broken = λ f. absurd (both_ways new.failed works f) }
 
-pub fails_past : (after : List Node) (new : Standing) → new.failed ≡ true → HasFailed (MayFollow after) after new → HasPast after new
+pub fails_past : (after : List Node) (new : CoreState) → new.failed ≡ true → HasFailed (MayFollow after) after new → RepresentsPast after new
 fails_past after new fails left = record { working = λ w. absurd (both_ways new.failed w fails); broken = λ f. left }
 
 -- One kind of node in hand is also of another.
@@ -28,15 +28,15 @@ more_kinds : (P Q : Node → Type 0) → ((n : Node) → P n → Q n) → (past 
 more_kinds P Q f past R (inl h) = inl h
 more_kinds P Q f past R (inr h) = inr (h.0, f h.0 h.1, h.2)
 
-pub failed_more : (P Q : Node → Type 0) → ((n : Node) → P n → Q n) → (after : List Node) (c : Standing) → HasFailed P after c → HasFailed Q after c
+pub failed_more : (P Q : Node → Type 0) → ((n : Node) → P n → Q n) → (after : List Node) (c : CoreState) → HasFailed P after c → HasFailed Q after c
 failed_more P Q f after c h = record {
   clean = h.clean;
   tree = more_kinds P Q f after (λ found. c.tree ≡ tree_of found) h.tree;
-  left = λ intact. more_kinds P Q f after (λ found. IsHistory c.image c.book found) (h.left intact);
+  left = λ intact. more_kinds P Q f after (λ found. IsHistory c.image c.index found) (h.left intact);
 }
 
 -- What follows in each of the four cases follows for every cause.
-pub by_refusal : (P : Node → Type 0) (after : List Node) (old new : Standing) (F : Cause → Type 0)
+pub by_refusal : (P : Node → Type 0) (after : List Node) (old new : CoreState) (F : Cause → Type 0)
     → (WorksOn after old new → next_version after ≡ None → F causes.VersionsSpent) → (WorksOn after old new → F causes.Memory) → (WorksOn after old new → F causes.NoSpace) → (FailsIn P after old new → F causes.Device)
     → (cause : Cause) → RefusedWith P cause after old new → F cause
 by_refusal P after old new F spent memory full device causes.VersionsSpent h = spent h.0 h.1
@@ -45,7 +45,7 @@ by_refusal P after old new F spent memory full device causes.NoSpace h = full h
 by_refusal P after old new F spent memory full device causes.Device h = device h
 by_refusal P after old new F spent memory full device _ h = absurd h
 
-pub refused_more : (P Q : Node → Type 0) → ((n : Node) → P n → Q n) → (cause : Cause) (after : List Node) (old new : Standing) → RefusedWith P cause after old new → RefusedWith Q cause after old new
+pub refused_more : (P Q : Node → Type 0) → ((n : Node) → P n → Q n) → (cause : Cause) (after : List Node) (old new : CoreState) → RefusedWith P cause after old new → RefusedWith Q cause after old new
 refused_more P Q f cause after old new h =
     by_refusal P after old new (λ c. RefusedWith Q c after old new) (λ w none. (w, none)) (λ w. w) (λ w. w)
     (λ d. record { fails = d.fails; faults = d.faults; left = failed_more P Q f after new d.left }) cause h
@@ -54,19 +54,19 @@ refused_more P Q f cause after old new h =
 pub copies_follow : (after : List Node) (n : Node) → IsOwnCopy after n → MayFollow after n
 copies_follow after n h = inr (inr h.3)
 
-pub refused_past : (P : Node → Type 0) (after : List Node) → ((n : Node) → P n → MayFollow after n) → (cause : Cause) (old new : Standing) → RefusedWith P cause after old new → HasPast after new
+pub refused_past : (P : Node → Type 0) (after : List Node) → ((n : Node) → P n → MayFollow after n) → (cause : Cause) (old new : CoreState) → RefusedWith P cause after old new → RepresentsPast after new
 refused_past P after f cause old new h =
-    let works : WorksOn after old new → HasPast after new = λ w. works_past after new w.works w.knows in
-    by_refusal P after old new (λ c. HasPast after new) (λ w none. works w) works works
+    let works : WorksOn after old new → RepresentsPast after new = λ w. works_past after new w.works w.represents in
+    by_refusal P after old new (λ c. RepresentsPast after new) (λ w none. works w) works works
     (λ d. fails_past after new d.fails (failed_more P (MayFollow after) f after new d.left)) cause h
 
 -- A core has failed exactly where the answer says so.
-pub fails_as : (P : Node → Type 0) (cause : Cause) (after : List Node) (old new : Standing) → RefusedWith P cause after old new → new.failed ≡ is_failure (Refused cause)
+pub fails_as : (P : Node → Type 0) (cause : Cause) (after : List Node) (old new : CoreState) → RefusedWith P cause after old new → new.failed ≡ is_failure (Refused cause)
 fails_as P cause after old new h =
     by_refusal P after old new (λ c. new.failed ≡ is_failure (Refused c)) (λ w none. w.works) (λ w. w.works) (λ w. w.works) (λ d. d.fails) cause h
 
 -- While a core works no call of the device failed.
-pub works_on_faults : (P : Node → Type 0) (cause : Cause) (after : List Node) (old new : Standing) → RefusedWith P cause after old new → new.failed ≡ false → new.faults ≡ old.faults
+pub works_on_faults : (P : Node → Type 0) (cause : Cause) (after : List Node) (old new : CoreState) → RefusedWith P cause after old new → new.failed ≡ false → new.faults ≡ old.faults
 works_on_faults P cause after old new h works =
     by_refusal P after old new (λ c. new.faults ≡ old.faults) (λ w none. w.faults) (λ w. w.faults) (λ w. w.faults) (λ d. absurd (both_ways new.failed works d.fails)) cause h
 
@@ -74,12 +74,12 @@ pub same_cause : {a b : Cause} → ◌≡◌ {A = Outcome} (Refused a) (Refused 
 same_cause e = cc
 
 -- after the answer Device
-pub device_left : (P Q : Node → Type 0) → ((n : Node) → P n → Q n) → (cause : Cause) (after : List Node) (old new : Standing) → RefusedWith P cause after old new → ◌≡◌ {A = Outcome} (Refused cause) (Refused causes.Device) → HasFailed Q after new
+pub device_left : (P Q : Node → Type 0) → ((n : Node) → P n → Q n) → (cause : Cause) (after : List Node) (old new : CoreState) → RefusedWith P cause after old new → ◌≡◌ {A = Outcome} (Refused cause) (Refused causes.Device) → HasFailed Q after new
 device_left P Q f cause after old new h is =
     let d : FailsIn P after old new = subst (λ c. RefusedWith P c after old new) (same_cause is) h in
     failed_more P Q f after new d.left
 
-pub refused_keeps : (P : Node → Type 0) (cause : Cause) (after : List Node) (old new : Standing) → RefusedWith P cause after old new → (cause ≡ causes.NoSpace → KeepsTwo old new) → keeps_two (Refused cause) ≡ true → KeepsTwo old new
+pub refused_keeps : (P : Node → Type 0) (cause : Cause) (after : List Node) (old new : CoreState) → RefusedWith P cause after old new → (cause ≡ causes.NoSpace → KeepsTwo old new) → keeps_two (Refused cause) ≡ true → KeepsTwo old new
 refused_keeps P cause after old new h none k =
     by_refusal P after old new (λ c. (c ≡ causes.NoSpace → KeepsTwo old new) → keeps_two (Refused c) ≡ true → KeepsTwo old new)
     (λ w spent none k. absurd (both_ways (keeps_two (Refused causes.VersionsSpent)) refl k))
@@ -89,8 +89,8 @@ refused_keeps P cause after old new h none k =
     cause h none k
 
 -- Seen from before the cleaning.
-pub refused_along : (P : Node → Type 0) (cause : Cause) (after : List Node) (old middle new : Standing) → middle.faults ≡ old.faults → RefusedWith P cause after middle new → RefusedWith P cause after old new
+pub refused_along : (P : Node → Type 0) (cause : Cause) (after : List Node) (old middle new : CoreState) → middle.faults ≡ old.faults → RefusedWith P cause after middle new → RefusedWith P cause after old new
 refused_along P cause after old middle new same h =
-    let works : WorksOn after middle new → WorksOn after old new = λ w. record { works = w.works; faults = w.faults ∙ same; knows = w.knows } in
+    let works : WorksOn after middle new → WorksOn after old new = λ w. record { works = w.works; faults = w.faults ∙ same; represents = w.represents } in
     by_refusal P after middle new (λ c. RefusedWith P c after old new) (λ w none. (works w, none)) works works
     (λ d. record { fails = d.fails; faults = subst (λ k. k < new.faults) same d.faults; left = d.left }) cause h

@@ -7,7 +7,7 @@ use Rattle.jffs_node.specs.Record.{record_len}
 use Rattle.jffs_tree.specs.Origin.{is_live}
 use Rattle.jffs_tree.proofs.Copies.{cleaning_copies_are_true}
 use Rattle.jffs_log.specs.Room.{next_version, weight}
-use Rattle.jffs_log.specs.Cleaning.{Session, version_after, copied, with_copy, handled, handled_each, cleaned, oldest_records, fresh_has_room, room_made, is_history}
+use Rattle.jffs_log.specs.Cleaning.{GcState, version_after, copied, with_copy, handled, handled_each, cleaned, oldest_records, fresh_has_room, room_made, is_history}
 use Rattle.jffs_log.specs.RoomLaws.{Among}
 use Rattle.jffs_log.proofs.Puts.{map_all}
 use Rattle.jffs_log.proofs.Copied.{copies_take_over, unmounts_are_dead, live_present}
@@ -42,7 +42,7 @@ has_next : (past : List Node) → version_after past + 1 ≤ 2 ^ 32 → next_ver
 has_next [] h = refl
 has_next (n ∷ past) h = ap (λ t. cond t (Some (n.version + 1)) None) (lt-ltb (n.version + 1) (2 ^ 32) (omega arith))
 
-one_only : (z : ℕ) (n : Node) (s : Session) → is_history s.past ≡ true → Among n s.past → version_after (handled z n s).past ≤ 2 ^ 32 → OnlyCopies s.past (handled z n s).past
+one_only : (z : ℕ) (n : Node) (s : GcState) → is_history s.past ≡ true → Among n s.past → version_after (handled z n s).past ≤ 2 ^ 32 → OnlyCopies s.past (handled z n s).past
 one_only z n s h a few = ⊎_elim
     (λ live.
     let there = live_present s.past n h a live in
@@ -59,7 +59,7 @@ one_only z n s h a few = ⊎_elim
     record { copies = []; true_copies = tt; joined = sym is })
     (cases_Bool (is_live s.past n.version))
 
-each_only : (z : ℕ) (nodes : List Node) (s : Session) → is_history s.past ≡ true → AllByRecursion (λ n. Among n s.past) nodes → version_after (handled_each z nodes s).past ≤ 2 ^ 32
+each_only : (z : ℕ) (nodes : List Node) (s : GcState) → is_history s.past ≡ true → AllByRecursion (λ n. Among n s.past) nodes → version_after (handled_each z nodes s).past ≤ 2 ^ 32
     → OnlyCopies s.past (handled_each z nodes s).past
 each_only z [] s h known few = none_made s.past
 each_only z (n ∷ nodes) s h known few =
@@ -81,7 +81,7 @@ stopped_only_copies total z s done rest sound is few =
     each_only z done s sound.history (each_front (λ n. Among n s.past) done rest known).0 few
 
 module _ (total z weight len : ℕ) (low : 64 ≤ z) (enough : 6 ≤ total) where
-  made_only : (left : ℕ) (s : Session) → IsTurn total z weight left s → version_after (room_made z len left s).past ≤ 2 ^ 32 → OnlyCopies s.past (room_made z len left s).past
+  made_only : (left : ℕ) (s : GcState) → IsTurn total z weight left s → version_after (room_made z len left s).past ≤ 2 ^ 32 → OnlyCopies s.past (room_made z len left s).past
   made_only zero s w few = none_made s.past
   made_only (suc left) s w few = ⊎_elim
       (λ has. subst (λ t. OnlyCopies s.past (cond t s (room_made z len left (cleaned z s))).past) (sym has) (none_made s.past))

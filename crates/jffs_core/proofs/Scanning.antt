@@ -10,7 +10,7 @@ use Rattle.jffs_log.specs.Volume.{split, sectors_in}
 use Rattle.jffs_log.specs.Scan.{Scanned, scan}
 use Rattle.jffs_log.specs.Live.{live_log}
 use Rattle.jffs_log.proofs.Histories.{histories_are_scanned}
-use Rattle.jffs_core.specs.Standing.{Standing}
+use Rattle.jffs_core.specs.CoreState.{CoreState}
 use Rattle.jffs_core.specs.History.{IsOwnCopy, Grows, contents}
 use Rattle.jffs_core.specs.Step.{IsNodeFor}
 use Rattle.jffs_core.specs.Past.{ScansFindContents, FailedScansFind, HasFailed}
@@ -24,8 +24,8 @@ scans_find mounted past c h works =
     let k = h.stands.working works in
     let g = h.grown in
     record {
-      scanned = record { log = live_log c.book.sectors c.book.sector_size c.image; tree = tree_of past; clean = is_clean (sectors_in c.book.sectors c.book.sector_size c.image) };
-      found = histories_are_scanned c.book.sectors c.book.sector_size c.image past k.history;
+      scanned = record { log = live_log c.index.sectors c.index.sector_size c.image; tree = tree_of past; clean = is_clean (sectors_in c.index.sectors c.index.sector_size c.image) };
+      found = histories_are_scanned c.index.sectors c.index.sector_size c.image past k.history;
       tree_is = sym k.tree_is;
       clean_is = sym k.clean_is;
       added = g.added;
@@ -37,21 +37,21 @@ pub failed_scans_find : FailedScansFind
 failed_scans_find mounted past c h fails intact =
     let b = h.stands.broken fails in
     elim (b.left intact) [
-      | inl same ↦ inl (_, histories_are_scanned c.book.sectors c.book.sector_size c.image past same, refl)
-      | inr more ↦ inr (more.0, more.1, (_, histories_are_scanned c.book.sectors c.book.sector_size c.image (more.0 ∷ past) more.2, refl))
+      | inl same ↦ inl (_, histories_are_scanned c.index.sectors c.index.sector_size c.image past same, refl)
+      | inr more ↦ inr (more.0, more.1, (_, histories_are_scanned c.index.sectors c.index.sector_size c.image (more.0 ∷ past) more.2, refl))
     ]
 
 -- After a failure, by the node in hand.
-failed_found : (One : Node → Type 0) (past : List Node) (c : Standing) → HasFailed (λ n. IsOwnCopy past n ⊎ One n) past c → c.erase_failed ≡ false
-    → (scanned : Scanned) × (scan c.book.sector_size (split c.book.sectors c.book.sector_size c.image) ≡ Ok scanned)
+failed_found : (One : Node → Type 0) (past : List Node) (c : CoreState) → HasFailed (λ n. IsOwnCopy past n ⊎ One n) past c → c.erase_failed ≡ false
+    → (scanned : Scanned) × (scan c.index.sector_size (split c.index.sectors c.index.sector_size c.image) ≡ Ok scanned)
     × ((state_in scanned.tree ≡ state_of_past past) ⊎ ((n : Node) × One n × (state_in scanned.tree ≡ apply (state_of_past past) n)))
 failed_found One past c h intact = elim (h.left intact) [
-  | inl same ↦ (_, histories_are_scanned c.book.sectors c.book.sector_size c.image past same, inl (state_of_tree past (state_of_past past)))
+  | inl same ↦ (_, histories_are_scanned c.index.sectors c.index.sector_size c.image past same, inl (state_of_tree past (state_of_past past)))
   | inr more ↦
       let n = more.0 in
       let is = state_of_tree (n ∷ past) (state_of_past (n ∷ past)) in (
         _,
-        histories_are_scanned c.book.sectors c.book.sector_size c.image (n ∷ past) more.2,
+        histories_are_scanned c.index.sectors c.index.sector_size c.image (n ∷ past) more.2,
         elim more.1 [
           | inl copy ↦ inl (is ∙ true_copy_keeps_state past n copy.3.0 copy.3.1)
           | inr one ↦ inr (n, one, is)
@@ -60,8 +60,8 @@ failed_found One past c h intact = elim (h.left intact) [
 ]
 
 -- the same in words of the contents of a history with that state
-found_with : (One : Node → Type 0) (mounted past before : List Node) (c : Standing) → Grows mounted before → state_of_past past ≡ state_of_past before → HasFailed (λ n. IsOwnCopy past n ⊎ One n) past c → c.erase_failed ≡ false
-    → FindsWith One mounted before c.book.sectors c.book.sector_size c.image
+found_with : (One : Node → Type 0) (mounted past before : List Node) (c : CoreState) → Grows mounted before → state_of_past past ≡ state_of_past before → HasFailed (λ n. IsOwnCopy past n ⊎ One n) past c → c.erase_failed ≡ false
+    → FindsWith One mounted before c.index.sectors c.index.sector_size c.image
 found_with One mounted past before c g same h intact =
     let f = failed_found One past c h intact in
     let state : state_of_past past ≡ contents mounted g.added = same ∙ ap state_of_past g.joined ∙ sym (contents_are_state mounted g.added g.grown) in
@@ -73,8 +73,8 @@ found_with One mounted past before c g same h intact =
       state_is = subst (λ (s : State). (state_in f.0.tree ≡ s) ⊎ ((n : Node) × One n × (state_in f.0.tree ≡ apply s n))) state f.2;
     }
 
-pub failed_finds_with : (One : Node → Type 0) (mounted past : List Node) (c : Standing) → Grows mounted past → HasFailed (λ n. IsOwnCopy past n ⊎ One n) past c → c.erase_failed ≡ false
-    → FindsWith One mounted past c.book.sectors c.book.sector_size c.image
+pub failed_finds_with : (One : Node → Type 0) (mounted past : List Node) (c : CoreState) → Grows mounted past → HasFailed (λ n. IsOwnCopy past n ⊎ One n) past c → c.erase_failed ≡ false
+    → FindsWith One mounted past c.index.sectors c.index.sector_size c.image
 failed_finds_with One mounted past c g h intact = found_with One mounted past past c g refl h intact
 
 pub device_scans_find : DeviceScansFind

@@ -15,15 +15,15 @@ use Rattle.jffs_line.specs.declared.request.Request.{Request}
 use Rattle.jffs_log.specs.declared.room.Room.{Room}
 use Rattle.jffs_log.specs.declared.room.Room.TheVariants as rooms
 use Rattle.jffs_log.specs.Room.{next_version, heavy, weight, has_room}
-use Rattle.jffs_log.specs.Book.{layout_in}
+use Rattle.jffs_log.specs.LogIndex.{layout_in}
 use Rattle.jffs_core.specs.declared.answer.Answered.{Answered}
-use Rattle.jffs_core.specs.Standing.{Standing}
+use Rattle.jffs_core.specs.CoreState.{CoreState}
 use Rattle.jffs_core.specs.History.{AreOwnCopies, MayFollow, Grows}
 use Rattle.jffs_core.specs.Run.{OnlyCopies, is_failure}
 use Rattle.jffs_core.specs.Step.{Turn, IsStep, IsInHand, OutcomeIs, ends_with_unmount, RefusedBy, HadNoRoom, MakesRoom, decision, takes_no_node, had_room, room_of}
 use Rattle.jffs_core.specs.Nodes.{listed}
 use Rattle.jffs_core.specs.RoomSteps.{UnmountsHaveRoom}
-use Rattle.jffs_core.specs.Past.{Knows, HasPast, HasFailed, has_room_for}
+use Rattle.jffs_core.specs.Past.{RepresentsWorking, RepresentsPast, HasFailed, has_room_for}
 use Rattle.jffs_core.specs.Calls.{RefusedWith, KeepsTwo}
 use Rattle.jffs_core.specs.Appending.{MayPut, HasPut, PutRefused}
 use Rattle.jffs_core.specs.Answering.{IsNodeOf, HasAnswered, AnswersWith, KeepsAnswer, keeps_two, turn_of}
@@ -56,10 +56,10 @@ no_failure causes.Failed h = cc
 no_failure _ h = refl
 
 -- Two sectors stay erased.
-pub fresh_put_keeps : (node : Node) (old new : Standing) → HasPut rooms.Fresh node old new → KeepsTwo old new
-fresh_put_keeps node old new h two = subst (λ (l : Layout). 2 ≤ l.erased) (sym h.log) (fresh_keeps_two old.book.sector_size node (layout_in old.image old.book) h.had_room two)
+pub fresh_put_keeps : (node : Node) (old new : CoreState) → HasPut rooms.Fresh node old new → KeepsTwo old new
+fresh_put_keeps node old new h two = subst (λ (l : Layout). 2 ≤ l.erased) (sym h.log) (fresh_keeps_two old.index.sector_size node (layout_in old.image old.index) h.had_room two)
 
-pub later_put_keeps : (node : Node) (old middle new : Standing) → KeepsTwo old middle → HasPut rooms.Fresh node middle new → KeepsTwo old new
+pub later_put_keeps : (node : Node) (old middle new : CoreState) → KeepsTwo old middle → HasPut rooms.Fresh node middle new → KeepsTwo old new
 later_put_keeps node old middle new before h two = fresh_put_keeps node middle new h (before two)
 
 -- Memory, or the decision's cause
@@ -68,9 +68,9 @@ which_refusal causes.Memory r = inr refl
 which_refusal _ r = inl (λ e. cc)
 
 -- Steps of a core that works.
-module _ (past : List Node) (old new : Standing) (q : Request) (works : old.failed ≡ false) (known : Knows past old) where
+module _ (past : List Node) (old new : CoreState) (q : Request) (works : old.failed ≡ false) (known : RepresentsWorking past old) where
   clean_so : old.clean ≡ true → ends_with_unmount past ≡ true
-  clean_so is = clean_ends past old.image old.book old.tree old.limits old.clean known is
+  clean_so is = clean_ends past old.image old.index old.tree old.limits old.clean known is
 
   -- an answer that isn't Failed, after own copies and an own node, which lead to this history
   abbrev step_to : (o : Outcome) (copies own after : List Node) → after ≡ own ++ copies ++ past → (◌≡◌ {A = Outcome} o (Refused causes.Failed) → ⊥) → AreOwnCopies past copies → (copies ≡ []) ⊎ MakesRoom (turn_of past old new) q
@@ -94,11 +94,11 @@ module _ (past : List Node) (old new : Standing) (q : Request) (works : old.fail
   pub already_closed : new ≡ old → is_unmount_wish q.wish ≡ true → old.clean ≡ true → HasAnswered past old new q Closed None
   already_closed same unmounts clean = record {
     after = past;
-    stands = subst (HasPast past) (sym same) (works_past past old works known);
+    stands = subst (RepresentsPast past) (sym same) (works_past past old works known);
     step = step_of Closed [] [] (λ e. cc) tt (inl refl) (unmounts, refl, inl (clean, refl));
     own = refl;
-    fails = ap (λ (c : Standing). c.failed) same ∙ works;
-    faults = λ w. ap (λ (c : Standing). c.faults) same;
+    fails = ap (λ (c : CoreState). c.failed) same ∙ works;
+    faults = λ w. ap (λ (c : CoreState). c.faults) same;
     in_hand = λ e. cc;
     two = λ k. absurd (both_ways (keeps_two Closed) refl k);
   }
@@ -112,23 +112,23 @@ module _ (past : List Node) (old new : Standing) (q : Request) (works : old.fail
       ] in
       record {
         after = past;
-        stands = subst (HasPast past) (sym same) (works_past past old works known);
+        stands = subst (RepresentsPast past) (sym same) (works_past past old works known);
         step = step;
         own = step.outcome.1;
-        fails = ap (λ (c : Standing). c.failed) same ∙ works ∙ sym (elim why [ inl memory ↦ ap (λ c. is_failure (Refused c)) memory | inr tree ↦ no_failure cause tree.0 ]);
-        faults = λ w. ap (λ (c : Standing). c.faults) same;
+        fails = ap (λ (c : CoreState). c.failed) same ∙ works ∙ sym (elim why [ inl memory ↦ ap (λ c. is_failure (Refused c)) memory | inr tree ↦ no_failure cause tree.0 ]);
+        faults = λ w. ap (λ (c : CoreState). c.faults) same;
         in_hand = λ e. absurd (elim why [ inl memory ↦ memory_only (ap (λ c. Refused c) (sym memory) ∙ e) | inr tree ↦ not_device cause tree.0 e ]);
-        two = λ k e. subst (λ (c : Standing). 2 ≤ (layout_in c.image c.book).erased) (sym same) e;
+        two = λ k e. subst (λ (c : CoreState). 2 ≤ (layout_in c.image c.index).erased) (sym same) e;
       }
     where
       memory_only : ◌≡◌ {A = Outcome} (Refused causes.Memory) (Refused causes.Device) → ⊥
       memory_only e = cc
 
   -- a record was put at once
-  pub put_copy : (node : Node) → IsNodeOf old q node → is_copy_wish q.wish ≡ true → MayPut past old.book.sector_size rooms.Fresh node → HasPut rooms.Fresh node old new → HasAnswered past old new q (Copied node.version) (Some node)
+  pub put_copy : (node : Node) → IsNodeOf old q node → is_copy_wish q.wish ≡ true → MayPut past old.index.sector_size rooms.Fresh node → HasPut rooms.Fresh node old new → HasAnswered past old new q (Copied node.version) (Some node)
   put_copy node of copies may h = record {
     after = node ∷ past;
-    stands = works_past (node ∷ past) new h.works (h.knows past known may);
+    stands = works_past (node ∷ past) new h.works (h.represents past known may);
     step = step_of (Copied node.version) [] (node ∷ []) (λ e. cc) tt (inl refl)
         (of.new, copies, decision_is past old q known ∙ of.decided, refl, next_of node of, ap (λ (m : Node). m ∷ []) of.is);
     own = refl;
@@ -141,10 +141,10 @@ module _ (past : List Node) (old new : Standing) (q : Request) (works : old.fail
       next_of : (node : Node) → IsNodeOf old q node → next_version past ≡ Some node.version
       next_of node of = ap (λ (l : Limits). l.next_version) (sym known.limits_are) ∙ of.next
 
-  pub put_unmount : (node : Node) → IsNodeOf old q node → is_unmount_wish q.wish ≡ true → MayPut past old.book.sector_size rooms.Unmount node → HasPut rooms.Unmount node old new → HasAnswered past old new q Closed (Some node)
+  pub put_unmount : (node : Node) → IsNodeOf old q node → is_unmount_wish q.wish ≡ true → MayPut past old.index.sector_size rooms.Unmount node → HasPut rooms.Unmount node old new → HasAnswered past old new q Closed (Some node)
   put_unmount node of unmounts may h = record {
     after = node ∷ past;
-    stands = works_past (node ∷ past) new h.works (h.knows past known may);
+    stands = works_past (node ∷ past) new h.works (h.represents past known may);
     step = step_of Closed [] (node ∷ []) (λ e. cc) tt (inl refl)
         (unmounts, refl, inr (dirty, (of.new, node.version, decision_is past old q known ∙ of.decided, next, ap (λ (m : Node). m ∷ []) of.is)));
     own = refl;
@@ -164,8 +164,8 @@ module _ (past : List Node) (old new : Standing) (q : Request) (works : old.fail
           by_wish true b h k = k
           by_wish false b h k = cc
 
-  -- a record wasn't put, and nothing was made beside it
-  pub put_stopped : (room : Room) (node : Node) (cause : Cause) (of : IsNodeOf old q node) → room ≡ room_of of.new → MayPut past old.book.sector_size room node → PutRefused room node cause old new → (cause ≡ causes.NoSpace → is_fresh (with of.new 0 0 0) ≡ true → ⊥)
+  -- a record wasn't put, and nothing was made besides it
+  pub put_stopped : (room : Room) (node : Node) (cause : Cause) (of : IsNodeOf old q node) → room ≡ room_of of.new → MayPut past old.index.sector_size room node → PutRefused room node cause old new → (cause ≡ causes.NoSpace → is_fresh (with of.new 0 0 0) ≡ true → ⊥)
       → HasAnswered past old new q (Refused cause) None
   put_stopped room node cause of is may h none =
       let stands = h.stands past known may in
@@ -192,7 +192,7 @@ module _ (past : List Node) (old new : Standing) (q : Request) (works : old.fail
 
       full : has_room_for old room (record_len node) ≡ false → had_room (turn_of past old new) of.new ≡ false
       full e =
-          let log = layout_in old.image old.book in
+          let log = layout_in old.image old.index in
           ap (λ r. has_room r (record_len (with of.new 0 0 0)) log.free log.erased) (sym is)
           ∙ ap (λ k. has_room room k log.free log.erased) (ap record_len (sym of.is))
           ∙ e
@@ -208,7 +208,7 @@ module _ (past : List Node) (old new : Standing) (q : Request) (works : old.fail
           c r h none
 
   -- a fresh record was put at once
-  pub put_now : (node : Node) (of : IsNodeOf old q node) → is_fresh (with of.new 0 0 0) ≡ true → new.failed ≡ false → new.faults ≡ old.faults → KeepsTwo old new → HasPast (node ∷ past) new → HasAnswered past old new q (Appended node.inode node.version) (Some node)
+  pub put_now : (node : Node) (of : IsNodeOf old q node) → is_fresh (with of.new 0 0 0) ≡ true → new.failed ≡ false → new.faults ≡ old.faults → KeepsTwo old new → RepresentsPast (node ∷ past) new → HasAnswered past old new q (Appended node.inode node.version) (Some node)
   put_now node of fresh now_works no_fault two stands = record {
     after = node ∷ past;
     stands = stands;
@@ -223,7 +223,7 @@ module _ (past : List Node) (old new : Standing) (q : Request) (works : old.fail
 
   -- a fresh record was put, after own copies
   pub put_fresh : (node next : Node) (after : List Node) (of : IsNodeOf old q node) → is_fresh (with of.new 0 0 0) ≡ true → (copies : OnlyCopies past after) → (copies.copies ≡ []) ⊎ MakesRoom (turn_of past old new) q
-      → next ≡ with of.new next.version q.writer q.seq → next_version after ≡ Some next.version → new.failed ≡ false → new.faults ≡ old.faults → KeepsTwo old new → HasPast (next ∷ after) new → HasAnswered past old new q (Appended next.inode next.version) (Some next)
+      → next ≡ with of.new next.version q.writer q.seq → next_version after ≡ Some next.version → new.failed ≡ false → new.faults ≡ old.faults → KeepsTwo old new → RepresentsPast (next ∷ after) new → HasAnswered past old new q (Appended next.inode next.version) (Some next)
   put_fresh node next after of fresh copies room is version now_works no_fault two stands = record {
     after = next ∷ after;
     stands = stands;
@@ -239,7 +239,7 @@ module _ (past : List Node) (old new : Standing) (q : Request) (works : old.fail
   -- room couldn't be made
   pub make_stopped : (P : Node → Type 0) (node : Node) (cause : Cause) (after : List Node) (of : IsNodeOf old q node) → ((m : Node) → P m → IsInHand (turn_of past old new) q after m × MayFollow after m)
       → is_fresh (with of.new 0 0 0) ≡ true → had_room (turn_of past old new) of.new ≡ false → OnlyCopies past after → RefusedWith P cause after old new
-      → (cause ≡ causes.NoSpace → 2 ≤ (layout_in old.image old.book).erased → heavy old.book.sectors old.book.sector_size ≤ weight past) → (cause ≡ causes.NoSpace → KeepsTwo old new) → HasAnswered past old new q (Refused cause) None
+      → (cause ≡ causes.NoSpace → 2 ≤ (layout_in old.image old.index).erased → heavy old.index.sectors old.index.sector_size ≤ weight past) → (cause ≡ causes.NoSpace → KeepsTwo old new) → HasAnswered past old new q (Refused cause) None
   make_stopped P node cause after of in_hand fresh none copies r bound two =
       let step : IsStep (turn_of past old new) q (Refused cause) after = subst (IsStep (turn_of past old new) q (Refused cause)) (sym copies.joined) (by_cause cause r bound) in
       record {
@@ -259,11 +259,11 @@ module _ (past : List Node) (old new : Standing) (q : Request) (works : old.fail
       made : MakesRoom (turn_of past old new) q
       made = (of.new, no_room, fresh)
 
-      by_cause : (c : Cause) → RefusedWith P c after old new → (c ≡ causes.NoSpace → 2 ≤ (layout_in old.image old.book).erased → heavy old.book.sectors old.book.sector_size ≤ weight past)
+      by_cause : (c : Cause) → RefusedWith P c after old new → (c ≡ causes.NoSpace → 2 ≤ (layout_in old.image old.index).erased → heavy old.index.sectors old.index.sector_size ≤ weight past)
           → IsStep (turn_of past old new) q (Refused c) (copies.copies ++ past)
       by_cause c r bound =
           by_refusal P after old new
-          (λ c. (c ≡ causes.NoSpace → 2 ≤ (layout_in old.image old.book).erased → heavy old.book.sectors old.book.sector_size ≤ weight past) → IsStep (turn_of past old new) q (Refused c) (copies.copies ++ past))
+          (λ c. (c ≡ causes.NoSpace → 2 ≤ (layout_in old.image old.index).erased → heavy old.index.sectors old.index.sector_size ≤ weight past) → IsStep (turn_of past old new) q (Refused c) (copies.copies ++ past))
           (λ w spent bound. step_of (Refused causes.VersionsSpent) copies.copies [] (λ e. cc) copies.true_copies (inr made) ((of.takes_node, inr (made, ap next_version (sym copies.joined) ∙ spent)), refl))
           (λ w bound. step_of (Refused causes.Memory) copies.copies [] (λ e. cc) copies.true_copies (inr made) (tt, refl))
           (λ w bound. step_of (Refused causes.NoSpace) copies.copies [] (λ e. cc) copies.true_copies (inr made) ((of.takes_node, (of.new, no_room, (λ f two. bound refl two))), refl))
@@ -271,7 +271,7 @@ module _ (past : List Node) (old new : Standing) (q : Request) (works : old.fail
           c r bound
 
 -- the answer in other words
-pub answers_same : (past : List Node) (old new : Standing) (q : Request) (a b : Answered) → a ≡ b → HasAnswered past old new q b.outcome b.node → HasAnswered past old new q a.outcome a.node
+pub answers_same : (past : List Node) (old new : CoreState) (q : Request) (a b : Answered) → a ≡ b → HasAnswered past old new q b.outcome b.node → HasAnswered past old new q a.outcome a.node
 answers_same past old new q a b same h = subst (λ (x : Answered). HasAnswered past old new q x.outcome x.node) (sym same) h
 
 -- no version is left
@@ -280,7 +280,7 @@ none_left None h = refl
 none_left (Some k) h = absurd (h k refl)
 
 -- A core that failed answers nothing else.
-pub failed_answer : (past : List Node) (c : Standing) (q : Request) → c.failed ≡ true → HasPast past c → HasAnswered past c c q (Refused causes.Failed) None
+pub failed_answer : (past : List Node) (c : CoreState) (q : Request) → c.failed ≡ true → RepresentsPast past c → HasAnswered past c c q (Refused causes.Failed) None
 failed_answer past c q fails h = record {
   after = past;
   stands = h;
@@ -302,15 +302,15 @@ failed_answer past c q fails h = record {
 }
 
 -- An answer is kept, and nothing else is changed.
-kept_past : (writer seq : ℕ) (o : Outcome) (after : List Node) (middle new : Standing) → KeepsAnswer writer seq o middle new → HasPast after middle → HasPast after new
-kept_past writer seq o after middle new kept h = subst (HasPast after) (sym kept) (record {
+kept_past : (writer seq : ℕ) (o : Outcome) (after : List Node) (middle new : CoreState) → KeepsAnswer writer seq o middle new → RepresentsPast after middle → RepresentsPast after new
+kept_past writer seq o after middle new kept h = subst (RepresentsPast after) (sym kept) (record {
   working = h.working;
   broken = λ f. let b = h.broken f in record { clean = b.clean; tree = b.tree; left = b.left };
 })
 
-pub answered : (writer seq : ℕ) (o : Outcome) (node : Option Node) (mounted past : List Node) (old middle new : Standing) (q : Request) → Grows mounted past → HasAnswered past old middle q o node → KeepsAnswer writer seq o middle new → AnswersWith mounted past old new q o node
+pub answered : (writer seq : ℕ) (o : Outcome) (node : Option Node) (mounted past : List Node) (old middle new : CoreState) (q : Request) → Grows mounted past → HasAnswered past old middle q o node → KeepsAnswer writer seq o middle new → AnswersWith mounted past old new q o node
 answered writer seq o node mounted past old middle new q grown h kept =
-    let faults : middle.faults ≡ new.faults = ap (λ (c : Standing). c.faults) (sym kept) in
+    let faults : middle.faults ≡ new.faults = ap (λ (c : CoreState). c.faults) (sym kept) in
     let same : turn_of past old middle ≡ turn_of past old new = ap (λ k. record (turn_of past old middle) { device_faulted = ltb old.faults k }) faults in
     let step : (s : IsStep (turn_of past old new) q o h.after) × (s.own ≡ listed node) = subst (λ t. (s : IsStep t q o h.after) × (s.own ≡ listed node)) same (h.step, h.own) in
     record {
@@ -321,13 +321,13 @@ answered writer seq o node mounted past old middle new q grown h kept =
           stands = kept_past writer seq o h.after middle new kept h.stands;
         };
         step = step.0;
-        fails = ap (λ (c : Standing). c.failed) kept ∙ h.fails;
-        faults = λ w. sym faults ∙ h.faults (sym (ap (λ (c : Standing). c.failed) kept) ∙ w);
+        fails = ap (λ (c : CoreState). c.failed) kept ∙ h.fails;
+        faults = λ w. sym faults ∙ h.faults (sym (ap (λ (c : CoreState). c.failed) kept) ∙ w);
         in_hand = λ device.
             let b = h.in_hand device in
             subst (λ t. HasFailed (IsInHand t q h.after) h.after new) same
             (subst (HasFailed (IsInHand (turn_of past old middle) q h.after) h.after) (sym kept) (record { clean = b.clean; tree = b.tree; left = b.left }));
-        two = λ k e. subst (λ (c : Standing). 2 ≤ (layout_in c.image c.book).erased) (sym kept) (h.two k e);
+        two = λ k e. subst (λ (c : CoreState). 2 ≤ (layout_in c.image c.index).erased) (sym kept) (h.two k e);
       };
       own = step.1;
     }

@@ -9,7 +9,7 @@ use Rattle.jffs_node.specs.Record.{dsize, kind_byte, is_lawful, is_unmount}
 use Rattle.jffs_tree.specs.State.{Entry, State, at, bytes_of, written, apply, state_of_past}
 use Rattle.jffs_tree.specs.Origin.{Held, Tree, state_in, tree_of}
 use Rattle.jffs_tree.specs.Check.{each_fits, check}
-use Rattle.jffs_tree.specs.After.{held_in, held_after, tree_after, can_apply, keeps_kind_in, keeps_places_in}
+use Rattle.jffs_tree.specs.After.{held_in, held_after, tree_after, can_apply, keeps_kind_in, keeps_offsets_in}
 use Rattle.jffs_tree.specs.declared.wish.Cause.{Cause}
 use Rattle.jffs_tree.specs.declared.wish.Cause.TheVariants as causes
 use Rattle.jffs_tree.specs.declared.wish.Outcome.{Outcome}
@@ -20,9 +20,9 @@ use Rattle.jffs_tree.proofs.Looked.{entry_in as held_entry, bytes_told}
 use Rattle.jffs_tree.proofs.Copies.{state_of_tree}
 use Rattle.jffs_line.specs.declared.request.Request.{Request}
 use Rattle.jffs_log.specs.History.{KeepsRules}
-use Rattle.jffs_core.specs.Standing.{Standing}
+use Rattle.jffs_core.specs.CoreState.{CoreState}
 use Rattle.jffs_core.specs.History.{AreOwnCopies}
-use Rattle.jffs_core.specs.Past.{Knows}
+use Rattle.jffs_core.specs.Past.{RepresentsWorking}
 use Rattle.jffs_core.specs.Run.{is_failure}
 use Rattle.jffs_core.specs.Calls.{RefusedAt}
 use Rattle.jffs_core.specs.Answering.{HasAnswered, KeepsAnswer}
@@ -30,7 +30,7 @@ use Rattle.jffs_core.specs.Cleaning.{HasErasedDead}
 use Rattle.jffs_core.specs.Nodes.{HasNode, listed}
 use Rattle.jffs_core.specs.Trees.{TakesNode, TellsNode, KeepsTree}
 use Rattle.jffs_core.proofs.Deciding.{copies_state}
-use Rattle.jffs_core.proofs.Putting.{places_kept}
+use Rattle.jffs_core.proofs.Putting.{offsets_kept}
 use Rattle.jffs_core.proofs.Told.{node_told}
 
 -- the entries of a tree
@@ -44,7 +44,7 @@ entry_test f d (Some h) = refl
 
 -- Trees of the same state test a node alike.
 pub test_by_state : (one other : Tree) (n : Node) → state_in one ≡ state_in other → can_apply one n ≡ can_apply other n
-test_by_state one other n same = λ j. is_lawful n && kinds j && places j
+test_by_state one other n same = λ j. is_lawful n && kinds j && offsets j
   where
     there : option_map (λ h. h.entry) (held_in one n.inode) ≡ option_map (λ h. h.entry) (held_in other n.inode)
     there = sym (held_entry one n.inode) ∙ ap (λ s. at s n.inode) same ∙ held_entry other n.inode
@@ -56,8 +56,8 @@ test_by_state one other n same = λ j. is_lawful n && kinds j && places j
     kinds = ap (λ b. n.deleted || b)
         (entry_test has_kind true (held_in one n.inode) ∙ (ap (λ o. option_map_or has_kind o true) there ∙ sym (entry_test has_kind true (held_in other n.inode))))
 
-    places : keeps_places_in one n ≡ keeps_places_in other n
-    places = ap (λ bytes. eqb (dsize n) n.rsize || leb (length bytes) (n.offset + n.rsize))
+    offsets : keeps_offsets_in one n ≡ keeps_offsets_in other n
+    offsets = ap (λ bytes. eqb (dsize n) n.rsize || leb (length bytes) (n.offset + n.rsize))
         (bytes_told one n.inode ∙ ap (λ s. bytes_of (at s n.inode)) same ∙ sym (bytes_told other n.inode))
 
 -- the state of a tree without an inode
@@ -111,11 +111,11 @@ state_after tree n =
 newest_fits : (past : List Node) (n : Node) → KeepsRules (n ∷ past) → can_apply (tree_of past) n ≡ true
 newest_fits past n h =
     let kind = (fits_parts n past (and_parts (each_fits (n ∷ past)) (check (tree_of (n ∷ past))) h.lawful.tree).0).1 in
-    and_from (is_lawful n && keeps_kind_in (tree_of past) n) (keeps_places_in (tree_of past) n)
+    and_from (is_lawful n && keeps_kind_in (tree_of past) n) (keeps_offsets_in (tree_of past) n)
     (and_from (is_lawful n) (keeps_kind_in (tree_of past) n) h.lawful.each.0 ((trees_test_as_nodes past n h.lawful.each.0).0 ∙ kind))
-    (places_kept past n (tree_of past) refl h)
+    (offsets_kept past n (tree_of past) refl h)
 
--- The tree of a history took in a node that came behind copies.
+-- The tree of a history took in a node that came after copies.
 took_node : (past after copies : List Node) (node : Option Node) → AreOwnCopies past copies → after ≡ listed node ++ copies ++ past → KeepsRules after → TakesNode (tree_of past) node (tree_of after)
 took_node past after copies None true_copies joined rules =
     state_of_tree after (state_of_past after)
@@ -137,24 +137,24 @@ no_node (Refused cause) made h f = h
 
 -- A core that worked answered.
 pub tells_node :
-    (past : List Node) (old middle new : Standing) (q : Request) (writer seq : ℕ) (o : Outcome) (node : Option Node)
-    → old.failed ≡ false → Knows past old → HasAnswered past old middle q o node → KeepsAnswer writer seq o middle new → TellsNode old new node
+    (past : List Node) (old middle new : CoreState) (q : Request) (writer seq : ℕ) (o : Outcome) (node : Option Node)
+    → old.failed ≡ false → RepresentsWorking past old → HasAnswered past old middle q o node → KeepsAnswer writer seq o middle new → TellsNode old new node
 tells_node past old middle new q writer seq o node works known h kept =
-    let failed : new.failed ≡ middle.failed = ap (λ (c : Standing). c.failed) kept in
-    let tree : new.tree ≡ middle.tree = ap (λ (c : Standing). c.tree) kept in
+    let failed : new.failed ≡ middle.failed = ap (λ (c : CoreState). c.failed) kept in
+    let tree : new.tree ≡ middle.tree = ap (λ (c : CoreState). c.tree) kept in
     record {
       none = λ f. no_node o node (node_told _ q o h.after node h.step h.own) (sym h.fails ∙ (sym failed ∙ f));
       worked = λ w. works;
       taken = λ w.
-          let knows = h.stands.working (sym failed ∙ w) in
-          let took = took_node past h.after h.step.copies node h.step.copies_are_true (h.step.joined ∙ ap (λ (own : List Node). own ++ h.step.copies ++ past) h.own) knows.history.rules in
-          subst (λ (t : Tree). TakesNode t node new.tree) (sym known.tree_is) (subst (λ (t : Tree). TakesNode (tree_of past) node t) (sym (tree ∙ knows.tree_is)) took);
+          let represents = h.stands.working (sym failed ∙ w) in
+          let took = took_node past h.after h.step.copies node h.step.copies_are_true (h.step.joined ∙ ap (λ (own : List Node). own ++ h.step.copies ++ past) h.own) represents.history.rules in
+          subst (λ (t : Tree). TakesNode t node new.tree) (sym known.tree_is) (subst (λ (t : Tree). TakesNode (tree_of past) node t) (sym (tree ∙ represents.tree_is)) took);
     }
 
 -- A core that had failed answered.
-pub tells_none : (old new : Standing) (writer seq : ℕ) (o : Outcome) → old.failed ≡ true → KeepsAnswer writer seq o old new → TellsNode old new None
+pub tells_none : (old new : CoreState) (writer seq : ℕ) (o : Outcome) → old.failed ≡ true → KeepsAnswer writer seq o old new → TellsNode old new None
 tells_none old new writer seq o fails kept =
-    let fails_still : new.failed ≡ true = ap (λ (c : Standing). c.failed) kept ∙ fails in
+    let fails_still : new.failed ≡ true = ap (λ (c : CoreState). c.failed) kept ∙ fails in
     record {
       none = λ f. refl;
       worked = λ w. absurd (both_ways new.failed w fails_still);
@@ -163,12 +163,12 @@ tells_none old new writer seq o fails kept =
 
 -- Dead sectors were erased, as far as that went.
 pub tree_kept :
-    (past : List Node) (old new : Standing) (result : Result ℕ Cause) → old.failed ≡ false → Knows past old
-    → IfOk result (λ count. (past : List Node) → Knows past old → HasErasedDead count past old new)
-    → IfErr result (λ cause. (past : List Node) → Knows past old → RefusedAt cause past old new)
+    (past : List Node) (old new : CoreState) (result : Result ℕ Cause) → old.failed ≡ false → RepresentsWorking past old
+    → IfOk result (λ count. (past : List Node) → RepresentsWorking past old → HasErasedDead count past old new)
+    → IfErr result (λ cause. (past : List Node) → RepresentsWorking past old → RefusedAt cause past old new)
     → IfErr result (λ cause. cause ≡ causes.Device)
     → KeepsTree old new
-tree_kept past old new (Ok count) works known erased stopped device = λ w. (works, (erased past known).stands.knows.tree_is ∙ sym known.tree_is)
+tree_kept past old new (Ok count) works known erased stopped device = λ w. (works, (erased past known).stands.represents.tree_is ∙ sym known.tree_is)
 tree_kept past old new (Err cause) works known erased stopped device = λ w.
     let failed = subst (λ (c : Cause). RefusedAt c past old new) device (stopped past known) in
     absurd (both_ways new.failed w failed.fails)

@@ -2,80 +2,80 @@
 use Rattle.std.proofs.Common.{◌≡◌, ◌⊎◌, inl, inr, ℕ, zero, suc, ◌+◌, ◌≤◌, true, false, cond, List, [], length, refl, sym, ap, ◌∙◌, arith}
 use Rattle.jffs_node.specs.declared.node.Node.{Node}
 use Rattle.jffs_tree.specs.declared.wish.Cause.{Cause}
-use Rattle.jffs_log.specs.Book.{HasSizes, layout_in}
-use Rattle.jffs_log.specs.Cleaning.{Session, cleaned, fresh_has_room, room_made}
+use Rattle.jffs_log.specs.LogIndex.{HasSizes, layout_in}
+use Rattle.jffs_log.specs.Cleaning.{GcState, cleaned, fresh_has_room, room_made}
 use Rattle.jffs_log.proofs.Copied.{copies_take_over, unmounts_are_dead}
 use Rattle.jffs_log.proofs.Bound.{cleaning_has_room, no_room}
-use Rattle.jffs_core.specs.Standing.{Standing, SameAnswers}
+use Rattle.jffs_core.specs.CoreState.{CoreState, SameAnswers}
 use Rattle.jffs_core.specs.Run.{OnlyCopies}
 use Rattle.jffs_core.specs.History.{IsOwnCopy}
-use Rattle.jffs_core.specs.Past.{Knows, session}
+use Rattle.jffs_core.specs.Past.{RepresentsWorking, gc_state}
 use Rattle.jffs_core.specs.Calls.{WorksOn}
 use Rattle.jffs_core.specs.Cleaning.{HasCleaned, HasMadeRoom, CleaningStopped}
 use Rattle.jffs_core.proofs.Lawful.{copies_along}
 use Rattle.jffs_core.proofs.Refusing.{refused_along}
 use Rattle.jffs_core.proofs.Full.{sizes_low}
 
--- Room is being made: so many cleanings are left.
-pub record HasTurned (len left : ℕ) (past after : List Node) (old now : Standing) : Type 0 where
+-- Room is being made, and `left` cleanings are left.
+pub record HasTurned (len left : ℕ) (past after : List Node) (old now : CoreState) : Type 0 where
   pub copies : OnlyCopies past after
   pub stands : WorksOn after old now
-  pub turn : room_made old.book.sector_size len left (session after now) ≡ room_made old.book.sector_size len (length (layout_in old.image old.book).sectors) (session past old)
-  pub two : 2 ≤ (layout_in old.image old.book).erased → 2 ≤ (layout_in now.image now.book).erased
+  pub turn : room_made old.index.sector_size len left (gc_state after now) ≡ room_made old.index.sector_size len (length (layout_in old.image old.index).sectors) (gc_state past old)
+  pub two : 2 ≤ (layout_in old.image old.index).erased → 2 ≤ (layout_in now.image now.index).erased
 
-pub record IsTurning (len left : ℕ) (old now : Standing) : Type 0 where
+pub record IsTurning (len left : ℕ) (old now : CoreState) : Type 0 where
   pub works : now.failed ≡ false
-  pub erases : now.book.erases + left ≤ old.book.erases + old.book.held
+  pub erases : now.index.erases + left ≤ old.index.erases + old.index.held
   pub same : SameAnswers old now
-  pub sizes : HasSizes old.book.sectors old.book.sector_size now.book
-  pub done : (past : List Node) → Knows past old → (after : List Node) × HasTurned len left past after old now
+  pub sizes : HasSizes old.index.sectors old.index.sector_size now.index
+  pub done : (past : List Node) → RepresentsWorking past old → (after : List Node) × HasTurned len left past after old now
 
-pub turning_begins : (len left : ℕ) (c : Standing) → c.failed ≡ false → left ≡ length (layout_in c.image c.book).sectors → left ≤ c.book.held → IsTurning len left c c
+pub turning_begins : (len left : ℕ) (c : CoreState) → c.failed ≡ false → left ≡ length (layout_in c.image c.index).sectors → left ≤ c.index.held → IsTurning len left c c
 turning_begins len left c works is few = record {
   works = works;
   erases = omega arith;
-  same = record { answers = refl; places = refl; closed = refl };
+  same = record { answers = refl; capacity = refl; closed = refl };
   sizes = (refl, refl);
   done = λ past known. (
     past,
     record {
       copies = record { copies = []; true_copies = tt; joined = refl };
-      stands = record { works = works; faults = refl; knows = known };
-      turn = ap (λ k. room_made c.book.sector_size len k (session past c)) is;
+      stands = record { works = works; faults = refl; represents = known };
+      turn = ap (λ k. room_made c.index.sector_size len k (gc_state past c)) is;
       two = λ e. e;
     },
   );
 }
 
 -- it stops where there is room, or after the last
-pub turning_ends : (len left : ℕ) (past after : List Node) (old now : Standing) → HasTurned len left past after old now → (left ≡ 0) ⊎ (fresh_has_room len (session after now) ≡ true) → HasMadeRoom len past after old now
+pub turning_ends : (len left : ℕ) (past after : List Node) (old now : CoreState) → HasTurned len left past after old now → (left ≡ 0) ⊎ (fresh_has_room len (gc_state after now) ≡ true) → HasMadeRoom len past after old now
 turning_ends len left past after old now h why = record { copies = h.copies; stands = h.stands; turn = sym (stopped left why) ∙ h.turn; two = h.two }
   where
-    stopped : (k : ℕ) → (k ≡ 0) ⊎ (fresh_has_room len (session after now) ≡ true) → room_made old.book.sector_size len k (session after now) ≡ session after now
+    stopped : (k : ℕ) → (k ≡ 0) ⊎ (fresh_has_room len (gc_state after now) ≡ true) → room_made old.index.sector_size len k (gc_state after now) ≡ gc_state after now
     stopped zero w = refl
     stopped (suc k) (inl e) = absurd (omega arith)
-    stopped (suc k) (inr e) = ap (λ t. cond t (session after now) (room_made old.book.sector_size len k (cleaned old.book.sector_size (session after now)))) e
+    stopped (suc k) (inr e) = ap (λ t. cond t (gc_state after now) (room_made old.index.sector_size len k (cleaned old.index.sector_size (gc_state after now)))) e
 
-pub turning_goes_on : (len left copies : ℕ) (past after later : List Node) (old middle new : Standing) → HasSizes old.book.sectors old.book.sector_size middle.book → HasTurned len (suc left) past after old middle → fresh_has_room len (session after middle) ≡ false
-    → 2 ≤ length (layout_in middle.image middle.book).sectors → HasCleaned after later copies middle new → HasTurned len left past later old new
+pub turning_goes_on : (len left copies : ℕ) (past after later : List Node) (old middle new : CoreState) → HasSizes old.index.sectors old.index.sector_size middle.index → HasTurned len (suc left) past after old middle → fresh_has_room len (gc_state after middle) ≡ false
+    → 2 ≤ length (layout_in middle.image middle.index).sectors → HasCleaned after later copies middle new → HasTurned len left past later old new
 turning_goes_on len left copies past after later old middle new sizes h none several c =
-    let z = old.book.sector_size in
-    let s = session after middle in
-    let same : session later new ≡ cleaned z s = c.turn ∙ ap (λ y. cleaned y s) (sym sizes.1) in
+    let z = old.index.sector_size in
+    let s = gc_state after middle in
+    let same : gc_state later new ≡ cleaned z s = c.turn ∙ ap (λ y. cleaned y s) (sym sizes.1) in
     record {
       copies = copies_along past after later h.copies c.added;
-      stands = record { works = c.stands.works; faults = c.stands.faults ∙ h.stands.faults; knows = c.stands.knows };
+      stands = record { works = c.stands.works; faults = c.stands.faults ∙ h.stands.faults; represents = c.stands.represents };
       turn = ap (room_made z len left) same ∙ sym (ap (λ t. cond t s (room_made z len left (cleaned z s))) none) ∙ h.turn;
       two = λ e.
-          let k = h.stands.knows in
-          let low = sizes_low middle.book.sectors middle.book.sector_size k.history.sizes in
-          let more = (cleaning_has_room copies_take_over unmounts_are_dead middle.book.sectors middle.book.sector_size s low.1 k.sound (h.two e) several).2 in
+          let k = h.stands.represents in
+          let low = sizes_low middle.index.sectors middle.index.sector_size k.history.sizes in
+          let more = (cleaning_has_room copies_take_over unmounts_are_dead middle.index.sectors middle.index.sector_size s low.1 k.sound (h.two e) several).2 in
           let before = h.two e in
-          let at : (layout_in new.image new.book).erased ≡ (cleaned middle.book.sector_size s).log.erased = ap (λ (x : Session). x.log.erased) c.turn in
+          let at : (layout_in new.image new.index).erased ≡ (cleaned middle.index.sector_size s).log.erased = ap (λ (x : GcState). x.log.erased) c.turn in
           omega arith;
     }
 
-pub turning_stopped : (len left : ℕ) (past after later : List Node) (cause : Cause) (old middle new : Standing) → HasTurned len left past after old middle → CleaningStopped cause after later middle new → CleaningStopped cause past later old new
+pub turning_stopped : (len left : ℕ) (past after later : List Node) (cause : Cause) (old middle new : CoreState) → HasTurned len left past after old middle → CleaningStopped cause after later middle new → CleaningStopped cause past later old new
 turning_stopped len left past after later cause old middle new h c = record {
   copies = copies_along past after later h.copies c.copies;
   stands = refused_along (IsOwnCopy later) cause later old middle new h.stands.faults c.stands;
@@ -83,10 +83,10 @@ turning_stopped len left past after later cause old middle new h c = record {
 }
 
 -- a log without room for a fresh record has several sectors
-pub full_has_several : (len : ℕ) (after : List Node) (c : Standing) → Knows after c → fresh_has_room len (session after c) ≡ false → 2 ≤ length (layout_in c.image c.book).sectors
+pub full_has_several : (len : ℕ) (after : List Node) (c : CoreState) → RepresentsWorking after c → fresh_has_room len (gc_state after c) ≡ false → 2 ≤ length (layout_in c.image c.index).sectors
 full_has_several len after c known none =
-    let low = sizes_low c.book.sectors c.book.sector_size known.history.sizes in
-    let n = no_room copies_take_over unmounts_are_dead c.book.sectors c.book.sector_size 0 len low.1 low.0 (session after c) none in
+    let low = sizes_low c.index.sectors c.index.sector_size known.history.sizes in
+    let n = no_room copies_take_over unmounts_are_dead c.index.sectors c.index.sector_size 0 len low.1 low.0 (gc_state after c) none in
     let few = n.1 in
     let six = low.0 in
     let all = known.sound.counted in

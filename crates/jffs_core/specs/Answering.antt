@@ -9,19 +9,19 @@ use Rattle.jffs_tree.specs.declared.wish.Outcome.TheVariants.{Closed, Refused}
 use Rattle.jffs_tree.specs.Decide.{decide_on, with, is_unmount_wish}
 use Rattle.jffs_tree.specs.Deciding.{IsWish}
 use Rattle.jffs_line.specs.declared.request.Request.{Request}
-use Rattle.jffs_log.specs.Book.{layout_in}
+use Rattle.jffs_log.specs.LogIndex.{layout_in}
 use Rattle.jffs_core.specs.declared.answer.Answered.{Answered}
-use Rattle.jffs_core.specs.Standing.{Standing}
+use Rattle.jffs_core.specs.CoreState.{CoreState}
 use Rattle.jffs_core.specs.Run.{is_failure}
-use Rattle.jffs_core.specs.Past.{Knows, HasFailed, HasPast, StandsFor}
+use Rattle.jffs_core.specs.Past.{RepresentsWorking, HasFailed, RepresentsPast, Represents}
 use Rattle.jffs_core.specs.Step.{Turn, IsStep, IsInHand}
 use Rattle.jffs_core.specs.Nodes.{listed}
 use Rattle.jffs_core.specs.Calls.{KeepsTwo}
 
--- the node that was decided on for the request, with the next version, by a core that knows some history
-pub record IsNodeOf (c : Standing) (q : Request) (node : Node) : Type 0 where
+-- the node that was decided on for the request, with the next version, by a core that represents some history
+pub record IsNodeOf (c : CoreState) (q : Request) (node : Node) : Type 0 where
   pub past : List Node
-  pub known : Knows past c
+  pub known : RepresentsWorking past c
   pub new : NewNode
   pub decided : decide_on c.tree c.limits q.wish ≡ Ok new
   pub is : node ≡ with new node.version q.writer q.seq
@@ -40,21 +40,21 @@ keeps_two (Refused Device) = false
 keeps_two _ = true
 
 -- what stands when a request is taken, and whether the device failed while it was answered
-abbrev pub turn_of : List Node → Standing → Standing → Turn
+abbrev pub turn_of : List Node → CoreState → CoreState → Turn
 turn_of past old new = record {
-  volume = record { sectors = old.book.sectors; sector_size = old.book.sector_size };
+  volume = record { sectors = old.index.sectors; sector_size = old.index.sector_size };
   past = past;
-  free = (layout_in old.image old.book).free;
-  erased = (layout_in old.image old.book).erased;
+  free = (layout_in old.image old.index).free;
+  erased = (layout_in old.image old.index).erased;
   clean = old.clean;
   failed = old.failed;
   device_faulted = nat_lt old.faults new.faults;
 }
 
--- The answer is a lawful step from this history to another, which the core has then, and this node is what it appended for the request itself. The core has failed exactly where the answer is Device or Failed, and while it works the device failed no call. After Device only the node in hand may stand beside that history.
-pub record HasAnswered (past : List Node) (old new : Standing) (q : Request) (o : Outcome) (node : Option Node) : Type 0 where
+-- The answer is a lawful step from this history to another, which the core has then, and this node is what it appended for the request itself. The core has failed exactly where the answer is Device or Failed, and while it works the device failed no call. After Device only the node in hand may stand besides that history.
+pub record HasAnswered (past : List Node) (old new : CoreState) (q : Request) (o : Outcome) (node : Option Node) : Type 0 where
   pub after : List Node
-  pub stands : HasPast after new
+  pub stands : RepresentsPast after new
   pub step : IsStep (turn_of past old new) q o after
   pub own : step.own ≡ listed node
   pub fails : new.failed ≡ is_failure o
@@ -63,14 +63,14 @@ pub record HasAnswered (past : List Node) (old new : Standing) (q : Request) (o 
   pub two : keeps_two o ≡ true → KeepsTwo old new
 
 -- so is what was carried out, or why nothing was
-abbrev pub HasActed : List Node → Standing → Standing → Request → Result Answered Cause → Type 0
+abbrev pub HasActed : List Node → CoreState → CoreState → Request → Result Answered Cause → Type 0
 HasActed past old new q (Ok a) = HasAnswered past old new q a.outcome a.node
 HasActed past old new q (Err cause) = HasAnswered past old new q (Refused cause) None
 
 -- the same of the history since a mount, but for the node
-pub record Answers (mounted past : List Node) (old new : Standing) (q : Request) (o : Outcome) : Type 0 where
+pub record Answers (mounted past : List Node) (old new : CoreState) (q : Request) (o : Outcome) : Type 0 where
   pub after : List Node
-  pub stands : StandsFor mounted after new
+  pub stands : Represents mounted after new
   pub step : IsStep (turn_of past old new) q o after
   pub fails : new.failed ≡ is_failure o
   pub faults : new.failed ≡ false → new.faults ≡ old.faults
@@ -78,7 +78,7 @@ pub record Answers (mounted past : List Node) (old new : Standing) (q : Request)
   pub two : keeps_two o ≡ true → KeepsTwo old new
 
 -- the answer with the node that was appended for the request itself
-pub record AnswersWith (mounted past : List Node) (old new : Standing) (q : Request) (o : Outcome) (node : Option Node) : Type 0 where
+pub record AnswersWith (mounted past : List Node) (old new : CoreState) (q : Request) (o : Outcome) (node : Option Node) : Type 0 where
   pub answers : Answers mounted past old new q o
   pub own : answers.step.own ≡ listed node
 
@@ -88,6 +88,6 @@ is_closed Closed = true
 is_closed _ = false
 
 -- one answer more, and nothing else
-abbrev pub KeepsAnswer : ℕ → ℕ → Outcome → Standing → Standing → Type 0
+abbrev pub KeepsAnswer : ℕ → ℕ → Outcome → CoreState → CoreState → Type 0
 KeepsAnswer writer seq o old new =
     new ≡ record old { answers = old.answers ++ record { writer = writer; seq = seq; outcome = o } ∷ []; closed = old.closed || is_closed o }

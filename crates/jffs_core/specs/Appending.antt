@@ -5,13 +5,13 @@ use Rattle.jffs_node.specs.Record.{record_len}
 use Rattle.jffs_tree.specs.declared.wish.Cause.{Cause}
 use Rattle.jffs_tree.specs.declared.wish.Cause.TheVariants.{NoSpace}
 use Rattle.jffs_log.specs.declared.room.Room.{Room}
-use Rattle.jffs_log.specs.Book.{layout_in}
+use Rattle.jffs_log.specs.LogIndex.{layout_in}
 use Rattle.jffs_log.specs.History.{KeepsRules}
 use Rattle.jffs_log.specs.Cleaning.{put}
 use Rattle.jffs_log.specs.RoomLaws.{suits_room}
-use Rattle.jffs_core.specs.Standing.{Standing}
+use Rattle.jffs_core.specs.CoreState.{CoreState}
 use Rattle.jffs_core.specs.History.{HasNextVersion, MayFollow}
-use Rattle.jffs_core.specs.Past.{Knows, has_room_for}
+use Rattle.jffs_core.specs.Past.{RepresentsWorking, has_room_for}
 use Rattle.jffs_core.specs.Calls.{RefusedWith}
 
 -- the node may be the next of the history, and its record may stand where that room is
@@ -23,15 +23,15 @@ pub record MayPut (past : List Node) (sector_size : ℕ) (room : Room) (n : Node
   pub next : HasNextVersion past n
 
 -- the node is the newest of the history, and its record the last of the log
-pub record HasPut (room : Room) (n : Node) (old new : Standing) : Type 0 where
+pub record HasPut (room : Room) (n : Node) (old new : CoreState) : Type 0 where
   pub works : new.failed ≡ false
   pub faults : new.faults ≡ old.faults
   pub had_room : has_room_for old room (record_len n) ≡ true
-  pub log : layout_in new.image new.book ≡ put old.book.sector_size room n (layout_in old.image old.book)
-  pub knows : (past : List Node) → Knows past old → MayPut past old.book.sector_size room n → Knows (n ∷ past) new
+  pub log : layout_in new.image new.index ≡ put old.index.sector_size room n (layout_in old.image old.index)
+  pub represents : (past : List Node) → RepresentsWorking past old → MayPut past old.index.sector_size room n → RepresentsWorking (n ∷ past) new
 
 -- why a node wasn't put
-pub record PutRefused (room : Room) (n : Node) (cause : Cause) (old new : Standing) : Type 0 where
-  pub stands : (past : List Node) → Knows past old → MayPut past old.book.sector_size room n → RefusedWith (λ m. m ≡ n) cause past old new
+pub record PutRefused (room : Room) (n : Node) (cause : Cause) (old new : CoreState) : Type 0 where
+  pub stands : (past : List Node) → RepresentsWorking past old → MayPut past old.index.sector_size room n → RefusedWith (λ m. m ≡ n) cause past old new
   pub no_room : cause ≡ NoSpace → has_room_for old room (record_len n) ≡ false
-  pub kept : cause ≡ NoSpace → layout_in new.image new.book ≡ layout_in old.image old.book
+  pub kept : cause ≡ NoSpace → layout_in new.image new.index ≡ layout_in old.image old.index

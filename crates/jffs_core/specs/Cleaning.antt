@@ -6,107 +6,107 @@ use Rattle.jffs_tree.specs.declared.wish.Cause.{Cause}
 use Rattle.jffs_tree.specs.declared.wish.Cause.TheVariants.{VersionsSpent, NoSpace, Failed}
 use Rattle.jffs_tree.specs.Origin.{is_live}
 use Rattle.jffs_tree.specs.Laws.{NoneLive}
-use Rattle.jffs_log.specs.Book.{layout_in, lives_in, oldest_in}
+use Rattle.jffs_log.specs.LogIndex.{layout_in, lives_in, oldest_in}
 use Rattle.jffs_log.specs.Cleaning.{Layout, handled, handled_each, copy_has_room, copies_have_room, oldest_records, cleaned, erase_oldest, room_made}
 use Rattle.jffs_log.specs.RoomLaws.{Among}
 use Rattle.jffs_core.specs.declared.cleaning.Cleaned.{Cleaned}
 use Rattle.jffs_core.specs.declared.cleaning.Cleaned.TheVariants.{Erased, OneSector}
-use Rattle.jffs_core.specs.Standing.{Standing}
+use Rattle.jffs_core.specs.CoreState.{CoreState}
 use Rattle.jffs_core.specs.Run.{OnlyCopies}
-use Rattle.jffs_core.specs.Past.{session, StandsFor}
+use Rattle.jffs_core.specs.Past.{gc_state, Represents}
 use Rattle.jffs_core.specs.Calls.{WorksOn, RefusedAt, KeepsTwo}
 
 -- A record was handled at its turn: copied where it is live, else skipped.
-pub record HasHandled (past : List Node) (source : Node) (copied : Bool) (old new : Standing) : Type 0 where
+pub record HasHandled (past : List Node) (source : Node) (copied : Bool) (old new : CoreState) : Type 0 where
   pub after : List Node
   pub added : OnlyCopies past after
   pub stands : WorksOn after old new
-  pub turn : session after new ≡ handled old.book.sector_size source (session past old)
+  pub turn : gc_state after new ≡ handled old.index.sector_size source (gc_state past old)
   pub counted : length after ≡ (if copied then 1 else 0) + length past
 
 -- A live record wasn't copied.
-pub record CopyStopped (cause : Cause) (past : List Node) (source : Node) (old new : Standing) : Type 0 where
+pub record CopyStopped (cause : Cause) (past : List Node) (source : Node) (old new : CoreState) : Type 0 where
   pub live : is_live past source.version ≡ true
   pub stands : RefusedAt cause past old new
-  pub no_room : cause ≡ NoSpace → copy_has_room source (session past old) ≡ false
+  pub no_room : cause ≡ NoSpace → copy_has_room source (gc_state past old) ≡ false
 
 -- Several records were handled, and `copies` copies were made.
-pub record HasCopied (nodes past after : List Node) (copies : ℕ) (old new : Standing) : Type 0 where
+pub record HasCopied (nodes past after : List Node) (copies : ℕ) (old new : CoreState) : Type 0 where
   pub added : OnlyCopies past after
   pub stands : WorksOn after old new
-  pub turn : session after new ≡ handled_each old.book.sector_size nodes (session past old)
+  pub turn : gc_state after new ≡ handled_each old.index.sector_size nodes (gc_state past old)
   pub counted : length after ≡ copies + length past
 
 -- The oldest sector was cleaned: one copy was made for each of its records that was live at its turn, and it was erased.
-pub record HasCleaned (past after : List Node) (copies : ℕ) (old new : Standing) : Type 0 where
+pub record HasCleaned (past after : List Node) (copies : ℕ) (old new : CoreState) : Type 0 where
   pub added : OnlyCopies past after
   pub stands : WorksOn after old new
-  pub turn : session after new ≡ cleaned old.book.sector_size (session past old)
+  pub turn : gc_state after new ≡ cleaned old.index.sector_size (gc_state past old)
   pub counted : length after ≡ copies + length past
 
 -- The oldest sector was erased, and the history is the same.
-pub record HasErased (past : List Node) (old new : Standing) : Type 0 where
+pub record HasErased (past : List Node) (old new : CoreState) : Type 0 where
   pub stands : WorksOn past old new
-  pub log : layout_in new.image new.book ≡ erase_oldest (layout_in old.image old.book)
+  pub log : layout_in new.image new.index ≡ erase_oldest (layout_in old.image old.index)
 
 -- Room was made for a fresh record of `len` bytes: copies were added, and the log is as after some cleanings.
-pub record HasMadeRoom (len : ℕ) (past after : List Node) (old new : Standing) : Type 0 where
+pub record HasMadeRoom (len : ℕ) (past after : List Node) (old new : CoreState) : Type 0 where
   pub copies : OnlyCopies past after
   pub stands : WorksOn after old new
-  pub turn : session after new ≡ room_made old.book.sector_size len (length (layout_in old.image old.book).sectors) (session past old)
+  pub turn : gc_state after new ≡ room_made old.index.sector_size len (length (layout_in old.image old.index).sectors) (gc_state past old)
   pub two : KeepsTwo old new
 
 -- Cleaning stopped with this cause. It had no room for a copy only where fewer than two sectors were erased.
-pub record CleaningStopped (cause : Cause) (past after : List Node) (old new : Standing) : Type 0 where
+pub record CleaningStopped (cause : Cause) (past after : List Node) (old new : CoreState) : Type 0 where
   pub copies : OnlyCopies past after
   pub stands : RefusedAt cause after old new
-  pub no_room : cause ≡ NoSpace → 2 ≤ (layout_in old.image old.book).erased → ⊥
+  pub no_room : cause ≡ NoSpace → 2 ≤ (layout_in old.image old.index).erased → ⊥
 
 -- whether each copy that cleaning makes of the oldest sector has room at its turn
-abbrev pub copies_would_fit : List Node → Standing → Bool
-copies_would_fit past c = copies_have_room c.book.sector_size (oldest_records (layout_in c.image c.book).sectors) (session past c)
+abbrev pub copies_would_fit : List Node → CoreState → Bool
+copies_would_fit past c = copies_have_room c.index.sector_size (oldest_records (layout_in c.image c.index).sectors) (gc_state past c)
 
 -- one of these records is live
 abbrev pub OneLives : List Node → List Node → Type 0
 OneLives past nodes = (n : Node) × Among n nodes × (is_live past n.version ≡ true)
 
 -- The cleaning of a sector stops for want of room only where a copy had none at its turn, and for want of a version only where a record has still to be copied.
-pub record WantsCopy (cause : Cause) (past after : List Node) (c : Standing) : Type 0 where
+pub record WantsCopy (cause : Cause) (past after : List Node) (c : CoreState) : Type 0 where
   pub at_turn : cause ≡ NoSpace → copies_would_fit past c ≡ false
-  pub to_copy : cause ≡ VersionsSpent → OneLives after (oldest_records (layout_in c.image c.book).sectors)
+  pub to_copy : cause ≡ VersionsSpent → OneLives after (oldest_records (layout_in c.image c.index).sectors)
 
 -- The cleaning of one sector stopped, which isn't the log's only one.
-pub record SectorStopped (cause : Cause) (past after : List Node) (old new : Standing) : Type 0 where
-  pub several : 2 ≤ length (layout_in old.image old.book).sectors
+pub record SectorStopped (cause : Cause) (past after : List Node) (old new : CoreState) : Type 0 where
+  pub several : 2 ≤ length (layout_in old.image old.index).sectors
   pub stopped : CleaningStopped cause past after old new
   pub wants : WantsCopy cause past after old
 
 -- What a cleaning answers: the sector that was cleaned, or that the log has at most one, and nothing was changed.
-abbrev pub DidClean : Cleaned → List Node → Standing → Standing → Type 0
+abbrev pub DidClean : Cleaned → List Node → CoreState → CoreState → Type 0
 DidClean (Erased sector copies) past old new =
-    (sector ≡ old.book.first) × (2 ≤ length (layout_in old.image old.book).sectors) × ((after : List Node) × HasCleaned past after copies old new)
-DidClean OneSector past old new = (new ≡ old) × (length (layout_in old.image old.book).sectors < 2)
+    (sector ≡ old.index.first) × (2 ≤ length (layout_in old.image old.index).sectors) × ((after : List Node) × HasCleaned past after copies old new)
+DidClean OneSector past old new = (new ≡ old) × (length (layout_in old.image old.index).sectors < 2)
 
--- A cleaning that came to its end, of a core that stood for this history.
-pub record Cleans (mounted past : List Node) (done : Cleaned) (old new : Standing) : Type 0 where
+-- A cleaning that came to its end, of a core that represented this history.
+pub record Cleans (mounted past : List Node) (done : Cleaned) (old new : CoreState) : Type 0 where
   pub after : List Node
   pub added : OnlyCopies past after
-  pub stands : StandsFor mounted after new
+  pub stands : Represents mounted after new
   pub did : DidClean done past old new
   pub two : KeepsTwo old new
 
 -- why a call that cleans or erases stopped
-abbrev pub StopIs : Cause → List Node → Standing → Standing → Type 0
+abbrev pub StopIs : Cause → List Node → CoreState → CoreState → Type 0
 StopIs Failed after old new = (old.failed ≡ true) × (new ≡ old)
-StopIs NoSpace after old new = RefusedAt NoSpace after old new × (2 ≤ (layout_in old.image old.book).erased → ⊥)
+StopIs NoSpace after old new = RefusedAt NoSpace after old new × (2 ≤ (layout_in old.image old.index).erased → ⊥)
 StopIs cause after old new = (old.failed ≡ false) × RefusedAt cause after old new
 
--- A cleaning that stopped, of a core that stood for this history, and unless the core had failed, of a log of several sectors. The copies that were made stay.
-pub record Stops (mounted past : List Node) (cause : Cause) (old new : Standing) : Type 0 where
+-- A cleaning that stopped, of a core that represented this history, and unless the core had failed, of a log of several sectors. The copies that were made stay.
+pub record Stops (mounted past : List Node) (cause : Cause) (old new : CoreState) : Type 0 where
   pub after : List Node
   pub added : OnlyCopies past after
-  pub stands : StandsFor mounted after new
-  pub several : old.failed ≡ false → 2 ≤ length (layout_in old.image old.book).sectors
+  pub stands : Represents mounted after new
+  pub several : old.failed ≡ false → 2 ≤ length (layout_in old.image old.index).sectors
   pub why : StopIs cause after old new
   pub wants : WantsCopy cause past after old
 
@@ -116,28 +116,28 @@ erased_times zero log = log
 erased_times (suc k) log = erase_oldest (erased_times k log)
 
 -- The oldest sector may be erased: none of its records is live, and it is another one than the tail.
-pub record IsDeadOldest (c : Standing) : Type 0 where
-  pub several : 2 ≤ length (layout_in c.image c.book).sectors
-  pub dead : AllByRecursion (λ p. lives_in c.tree p ≡ false) (oldest_in c.image c.book)
+pub record IsDeadOldest (c : CoreState) : Type 0 where
+  pub several : 2 ≤ length (layout_in c.image c.index).sectors
+  pub dead : AllByRecursion (λ p. lives_in c.tree p ≡ false) (oldest_in c.image c.index)
 
 -- none of the records of these sectors is live
 abbrev pub AreDead : List Node → List (List Node) → Type 0
 AreDead past sectors = AllByRecursion (NoneLive past) sectors
 
--- So many of the oldest sectors were erased, none of which held a live record; the history is the same, and the oldest sector that is left may not be erased.
-pub record ErasesDead (mounted past : List Node) (count : ℕ) (old new : Standing) : Type 0 where
+-- The `count` oldest sectors were erased, none of which held a live record; the history is the same, and the oldest sector that is left may not be erased.
+pub record ErasesDead (mounted past : List Node) (count : ℕ) (old new : CoreState) : Type 0 where
   pub works : old.failed ≡ false
   pub still_works : new.failed ≡ false
   pub faults : new.faults ≡ old.faults
-  pub stands : StandsFor mounted past new
-  pub log : layout_in new.image new.book ≡ erased_times count (layout_in old.image old.book)
-  pub dead : AreDead past (take count (layout_in old.image old.book).sectors)
+  pub stands : Represents mounted past new
+  pub log : layout_in new.image new.index ≡ erased_times count (layout_in old.image old.index)
+  pub dead : AreDead past (take count (layout_in old.image old.index).sectors)
   pub last : IsDeadOldest new → ⊥
   pub two : KeepsTwo old new
 
 -- the same of a core that works
-pub record HasErasedDead (count : ℕ) (past : List Node) (old new : Standing) : Type 0 where
+pub record HasErasedDead (count : ℕ) (past : List Node) (old new : CoreState) : Type 0 where
   pub stands : WorksOn past old new
-  pub log : layout_in new.image new.book ≡ erased_times count (layout_in old.image old.book)
-  pub dead : AreDead past (take count (layout_in old.image old.book).sectors)
+  pub log : layout_in new.image new.index ≡ erased_times count (layout_in old.image old.index)
+  pub dead : AreDead past (take count (layout_in old.image old.index).sectors)
   pub last : IsDeadOldest new → ⊥

@@ -8,10 +8,10 @@ use Rattle.jffs_tree.specs.declared.wish.Cause.TheVariants.{Device}
 use Rattle.jffs_line.specs.declared.request.Request.{Request}
 use Rattle.jffs_log.specs.Volume.{split}
 use Rattle.jffs_log.specs.Scan.{Scanned, scan}
-use Rattle.jffs_core.specs.Standing.{Standing}
+use Rattle.jffs_core.specs.CoreState.{CoreState}
 use Rattle.jffs_core.specs.History.{contents}
 use Rattle.jffs_core.specs.Step.{IsNodeFor}
-use Rattle.jffs_core.specs.Past.{StandsFor}
+use Rattle.jffs_core.specs.Past.{Represents}
 use Rattle.jffs_core.specs.Answering.{Answers, turn_of}
 
 -- A scan finds what the fresh nodes since the mount made of the mounted state, or what one node of this kind makes of that.
@@ -24,5 +24,5 @@ pub record FindsWith (One : Node → Type 0) (mounted past : List Node) (count l
 
 -- After the answer Device, but for a failed erase, a scan finds the state before the request, or that which the request's own node makes of it.
 abbrev pub DeviceScansFind : Type 0
-DeviceScansFind = (mounted past : List Node) (old new : Standing) (q : Request) → StandsFor mounted past old → (answered : Answers mounted past old new q (Refused Device)) → new.erase_failed ≡ false
-    → FindsWith (IsNodeFor (turn_of past old new) q answered.after) mounted past new.book.sectors new.book.sector_size new.image
+DeviceScansFind = (mounted past : List Node) (old new : CoreState) (q : Request) → Represents mounted past old → (answered : Answers mounted past old new q (Refused Device)) → new.erase_failed ≡ false
+    → FindsWith (IsNodeFor (turn_of past old new) q answered.after) mounted past new.index.sectors new.index.sector_size new.image

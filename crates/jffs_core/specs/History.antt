@@ -19,7 +19,7 @@ contents mounted added = apply_all (state_of_past mounted) (filter is_fresh adde
 abbrev pub HasNextVersion : List Node → Node → Type 0
 HasNextVersion past n = next_version past ≡ Some n.version
 
--- a copy that the log side made beside a request: true where it stands
+-- a copy that the log side made besides a request's node: true where it stands
 abbrev pub IsOwnCopy : List Node → Node → Type 0
 IsOwnCopy past c = (c.writer ≡ 0) × (c.seq ≡ 0) × HasNextVersion past c × ((e : Entry) × IsTrueCopy past c e)
 

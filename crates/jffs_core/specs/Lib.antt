@@ -1,4 +1,4 @@
-pub mod Standing
+pub mod CoreState
 pub mod History
 pub mod Step
 pub mod Run

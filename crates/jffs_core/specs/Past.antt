@@ -1,9 +1,9 @@
--- What a core stands for: the log that was mounted, and the history since.
+-- What a core represents: the log that was mounted, and the history since.
 use Rattle.std.specs.Prelude.{◌≡◌, ◌⊎◌, ℕ, Bool, true, false, List, [], ◌∷◌, ◌++◌, Ok}
 use Rattle.jffs_node.specs.declared.node.Node.{Node}
 use Rattle.jffs_tree.specs.Origin.{Tree, state_in, tree_of}
 use Rattle.jffs_tree.specs.declared.wish.Limits.{Limits}
-use Rattle.jffs_log.specs.declared.book.Book.{Book}
+use Rattle.jffs_log.specs.declared.log_index.LogIndex.{LogIndex}
 use Rattle.jffs_log.specs.declared.room.Room.{Room}
 use Rattle.jffs_log.specs.Image.{is_clean, past_of}
 use Rattle.jffs_log.specs.Volume.{split, sectors_in}
@@ -11,86 +11,86 @@ use Rattle.jffs_flash.specs.Device.{Device}
 use Rattle.jffs_log.specs.Scan.{Scanned, scan}
 use Rattle.jffs_log.specs.ScanFound.{scan_of}
 use Rattle.jffs_log.specs.Room.{limits as limits_of, has_room}
-use Rattle.jffs_log.specs.Book.{IsBook, HasSizes, layout_in}
+use Rattle.jffs_log.specs.LogIndex.{IsLogIndex, HasSizes, layout_in}
 use Rattle.jffs_log.specs.History.{IsHistory}
-use Rattle.jffs_log.specs.Cleaning.{Session}
+use Rattle.jffs_log.specs.Cleaning.{GcState}
 use Rattle.jffs_log.specs.RoomLaws.{IsSound}
 use Rattle.jffs_core.specs.History.{MayFollow, Grows, contents}
-use Rattle.jffs_core.specs.Standing.{Standing}
+use Rattle.jffs_core.specs.CoreState.{CoreState}
 use Rattle.jffs_core.specs.Step.{ends_with_unmount}
 
 -- the log ends with an unmount node, and nothing was programmed after it
-abbrev pub is_clean_in : List ℕ → Book → Bool
+abbrev pub is_clean_in : List ℕ → LogIndex → Bool
 is_clean_in image b = is_clean (sectors_in b.sectors b.sector_size image)
 
--- What a core that works knows is what this history makes, of which the image holds the newest part.
-pub record IsPast (past : List Node) (image : List ℕ) (b : Book) (tree : Tree) (limits : Limits) (clean : Bool) : Type 0 where
+-- What a core that works has is what this history makes, of which the image holds the newest part.
+pub record IsPast (past : List Node) (image : List ℕ) (b : LogIndex) (tree : Tree) (limits : Limits) (clean : Bool) : Type 0 where
   pub history : IsHistory image b past
   pub sound : IsSound b.sectors b.sector_size (record { past = past; log = layout_in image b })
   pub tree_is : tree ≡ tree_of past
   pub limits_are : limits ≡ limits_of b.sector_size past
   pub clean_is : clean ≡ is_clean_in image b
 
--- the same of all that stands in a core
-abbrev pub Knows : List Node → Standing → Type 0
-Knows past c = IsPast past c.image c.book c.tree c.limits c.clean
+-- The core works, and represents this history: the same of all that is in it.
+abbrev pub RepresentsWorking : List Node → CoreState → Type 0
+RepresentsWorking past c = IsPast past c.image c.index c.tree c.limits c.clean
 
--- The book has the sizes of the device. Unless the device failed, it describes the image, and the core knows some history.
-pub record HasBook (failed : Bool) (count len : ℕ) (image : List ℕ) (b : Book) (tree : Tree) (limits : Limits) (clean : Bool) : Type 0 where
+-- The index has the sizes of the device. Unless the device failed, it describes the image, and the core represents some history.
+pub record HasLogIndex (failed : Bool) (count len : ℕ) (image : List ℕ) (b : LogIndex) (tree : Tree) (limits : Limits) (clean : Bool) : Type 0 where
   pub sizes : HasSizes count len b
-  pub book : failed ≡ false → IsBook image b
+  pub index : failed ≡ false → IsLogIndex image b
   pub past : failed ≡ false → (past : List Node) × IsPast past image b tree limits clean
 
 -- the history with the log that holds the newest part of it
-abbrev pub session : List Node → Standing → Session
-session past c = record { past = past; log = layout_in c.image c.book }
+abbrev pub gc_state : List Node → CoreState → GcState
+gc_state past c = record { past = past; log = layout_in c.image c.index }
 
 -- a record of `len` bytes has room in the log
-abbrev pub has_room_for : Standing → Room → ℕ → Bool
-has_room_for c room len = has_room room len (layout_in c.image c.book).free (layout_in c.image c.book).erased
+abbrev pub has_room_for : CoreState → Room → ℕ → Bool
+has_room_for c room len = has_room room len (layout_in c.image c.index).free (layout_in c.image c.index).erased
 
 -- of the history, or of it and one node more of this kind
 abbrev pub OrOneMore : (Node → Type 0) → List Node → (List Node → Type 0) → Type 0
 OrOneMore More past P = P past ⊎ ((n : Node) × More n × P (n ∷ past))
 
 -- What stands of a core whose device failed. Tree and image may each have one node more, of this kind, and of an image nothing is known once an erase failed.
-pub record HasFailed (More : Node → Type 0) (past : List Node) (c : Standing) : Type 0 where
+pub record HasFailed (More : Node → Type 0) (past : List Node) (c : CoreState) : Type 0 where
   pub clean : c.clean ≡ true → ends_with_unmount past ≡ true
   pub tree : OrOneMore More past (λ found. c.tree ≡ tree_of found)
-  pub left : c.erase_failed ≡ false → OrOneMore More past (λ found. IsHistory c.image c.book found)
+  pub left : c.erase_failed ≡ false → OrOneMore More past (λ found. IsHistory c.image c.index found)
 
--- what stands of a core with this history, whether or not its device failed
-pub record HasPast (past : List Node) (c : Standing) : Type 0 where
-  pub working : c.failed ≡ false → Knows past c
+-- the core represents this history, whether or not its device failed
+pub record RepresentsPast (past : List Node) (c : CoreState) : Type 0 where
+  pub working : c.failed ≡ false → RepresentsWorking past c
   pub broken : c.failed ≡ true → HasFailed (MayFollow past) past c
 
--- A core stands for the log that was mounted and the history since.
-pub record StandsFor (mounted past : List Node) (c : Standing) : Type 0 where
+-- The abstraction relation: a core represents the log that was mounted and the history since.
+pub record Represents (mounted past : List Node) (c : CoreState) : Type 0 where
   pub grown : Grows mounted past
-  pub stands : HasPast past c
+  pub stands : RepresentsPast past c
 
 -- The device is as a core has it: of the same sizes, with its image and its count of faults, and an erase failed where one did.
-pub record IsLeftBy (c : Standing) (device : Device) : Type 0 where
-  pub sizes : HasSizes device.sectors device.sector_size c.book
+pub record IsLeftBy (c : CoreState) (device : Device) : Type 0 where
+  pub sizes : HasSizes device.sectors device.sector_size c.index
   pub image_is : device.image ≡ c.image
   pub faults_are : device.faults ≡ c.faults
   pub erases_are : device.erase_failed ≡ c.erase_failed
 
--- What a mount of the device gives: a core that stands for the log that a scan finds, and has answered nothing.
-pub record IsFresh (device : Device) (c : Standing) : Type 0 where
+-- What a mount of the device gives: a core that represents the log that a scan finds, and has answered nothing.
+pub record IsFresh (device : Device) (c : CoreState) : Type 0 where
   pub scanned : Scanned
   pub found : scan_of device ≡ Ok scanned
-  pub stands : StandsFor (past_of scanned.log) (past_of scanned.log) c
+  pub stands : Represents (past_of scanned.log) (past_of scanned.log) c
   pub device_is : IsLeftBy c device
-  pub erases : c.book.erases ≡ 0
+  pub erases : c.index.erases ≡ 0
   pub works : c.failed ≡ false
   pub not_closed : c.closed ≡ false
   pub no_answers : c.answers ≡ []
 
 -- What a scan of a core's image finds: the tree of the history, whose state is what the fresh nodes since the mount made.
-pub record FindsContents (mounted past : List Node) (c : Standing) : Type 0 where
+pub record FindsContents (mounted past : List Node) (c : CoreState) : Type 0 where
   pub scanned : Scanned
-  pub found : scan c.book.sector_size (split c.book.sectors c.book.sector_size c.image) ≡ Ok scanned
+  pub found : scan c.index.sector_size (split c.index.sectors c.index.sector_size c.image) ≡ Ok scanned
   pub tree_is : scanned.tree ≡ c.tree
   pub clean_is : scanned.clean ≡ c.clean
   pub added : List Node
@@ -99,9 +99,9 @@ pub record FindsContents (mounted past : List Node) (c : Standing) : Type 0 wher
 
 -- A scan of the image of a core that works finds the contents.
 abbrev pub ScansFindContents : Type 0
-ScansFindContents = (mounted past : List Node) (c : Standing) → StandsFor mounted past c → c.failed ≡ false → FindsContents mounted past c
+ScansFindContents = (mounted past : List Node) (c : CoreState) → Represents mounted past c → c.failed ≡ false → FindsContents mounted past c
 
 -- After a failure, but for that of an erase, a scan finds the history, or it and one node more that may follow.
 abbrev pub FailedScansFind : Type 0
-FailedScansFind = (mounted past : List Node) (c : Standing) → StandsFor mounted past c → c.failed ≡ true → c.erase_failed ≡ false
-    → OrOneMore (MayFollow past) past (λ found. (scanned : Scanned) × (scan c.book.sector_size (split c.book.sectors c.book.sector_size c.image) ≡ Ok scanned) × (scanned.tree ≡ tree_of found))
+FailedScansFind = (mounted past : List Node) (c : CoreState) → Represents mounted past c → c.failed ≡ true → c.erase_failed ≡ false
+    → OrOneMore (MayFollow past) past (λ found. (scanned : Scanned) × (scan c.index.sector_size (split c.index.sectors c.index.sector_size c.image) ≡ Ok scanned) × (scanned.tree ≡ tree_of found))

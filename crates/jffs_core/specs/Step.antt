@@ -42,7 +42,7 @@ pub record IsNodeFor (t : Turn) (q : Request) (after : List Node) (n : Node) : T
   pub is : n ≡ node_of new q n.version
   pub next : HasNextVersion after n
 
--- the node that is written while the request is answered: a copy made beside it, or its own
+-- the node that is written while the request is answered: a copy made besides, or its own
 abbrev pub IsInHand : Turn → Request → List Node → Node → Type 0
 IsInHand t q after n = IsOwnCopy after n ⊎ IsNodeFor t q after n
 
@@ -65,7 +65,7 @@ pub record HadNoRoom (t : Turn) (q : Request) (n : NewNode) : Type 0 where
 abbrev pub MakesRoom : Turn → Request → Type 0
 MakesRoom t q = (n : NewNode) × HadNoRoom t q n × (is_fresh (with n 0 0 0) ≡ true)
 
--- The outcome comes only here. `copies` were made beside the request, `own` is what it added.
+-- The outcome comes only here. `copies` were made besides, `own` is what it added.
 abbrev pub RefusedBy : Cause → Turn → Request → List Node → Type 0
 RefusedBy causes.Failed t q copies = IsTrue t.failed × (copies ≡ [])
 RefusedBy causes.VersionsSpent t q copies =

@@ -2,7 +2,7 @@
 
 ghost use Rattle.std.specs.Prelude.{◌≡◌, ◌<◌, ◌≤◌, ◌+◌, ◌++◌, ◌∷◌, ◌||◌, ◌&&◌, [], List, length, true, false, OnOk, IfErr, Ok, Some, None};
 ghost use Rattle.jffs_node.specs.Record.{record_len as length_of};
-ghost use Rattle.jffs_core.specs.Standing.{IsSameButPlaces};
+ghost use Rattle.jffs_core.specs.CoreState.{IsSameButCapacity};
 ghost use Rattle.jffs_tree.specs.Decide.{is_copy_wish, is_unmount_wish};
 ghost use Rattle.jffs_core.specs.Answering.{is_closed};
 ghost use Rattle.jffs_core.specs.Nodes.{HasNode};
@@ -17,9 +17,9 @@ use jffs_tree::{Cause, Outcome};
 
 impl<F: Flash> Core<F> {
     ghost use Rattle.jffs_node.specs.declared.node.Node.{Node};
-    ghost use Rattle.jffs_log.specs.Book.{HasSizes};
-    ghost use Rattle.jffs_core.specs.Standing.{SameAnswers};
-    ghost use Rattle.jffs_core.specs.Past.{Knows, StandsFor, has_room_for};
+    ghost use Rattle.jffs_log.specs.LogIndex.{HasSizes};
+    ghost use Rattle.jffs_core.specs.CoreState.{SameAnswers};
+    ghost use Rattle.jffs_core.specs.Past.{RepresentsWorking, Represents, has_room_for};
     ghost use Rattle.jffs_core.specs.Answering.{Answers, AnswersWith, HasAnswered, HasActed, IsNodeOf, KeepsAnswer};
     ghost use Rattle.jffs_core.specs.Erases.{ErasesAtMost};
     ghost use Rattle.jffs_core.specs.Trees.{TellsNode};
@@ -28,8 +28,8 @@ impl<F: Flash> Core<F> {
     ///
     /// `Memory` if allocation failed: nothing is changed.
     pub fn reserve_answer(&mut self) -> Result<(), Cause>
-        ensures same { IsSameButPlaces self.old self.new }
-        ensures reserved { OnOk result (length self.new.answers < self.new.places) }
+        ensures same { IsSameButCapacity self.old self.new }
+        ensures reserved { OnOk result (length self.new.answers < self.new.capacity) }
         ensures memory { IfErr result (λ cause. cause ≡ Cause.Memory) }
     {
         self.answers.reserve(1)?;
@@ -46,14 +46,14 @@ impl<F: Flash> Core<F> {
     /// A core that had failed answers Failed: no call of the device is made, and nothing but the
     /// answers is changed.
     pub fn answer(&mut self, request: Request) -> Outcome
-        requires reserved { length self.old.answers < self.old.places }
+        requires reserved { length self.old.answers < self.old.capacity }
         ensures kept { self.new.answers ≡ self.old.answers ++ record { writer = request.writer; seq = request.seq; outcome = result } ∷ [] }
-        ensures step { (mounted past : List Node) → StandsFor mounted past self.old → Answers mounted past self.old self.new request result }
+        ensures step { (mounted past : List Node) → Represents mounted past self.old → Answers mounted past self.old self.new request result }
         ensures closed { self.new.closed ≡ self.old.closed || is_closed result }
         ensures failed { self.old.failed ≡ true → KeepsAnswer request.writer request.seq result self.old self.new }
-        ensures sizes { HasSizes self.old.book.sectors self.old.book.sector_size self.new.book }
-        ensures erases { ErasesAtMost self.old.book.sectors self.old self.new }
-        ensures few { self.new.book.erases ≤ self.old.book.erases + self.old.book.sectors }
+        ensures sizes { HasSizes self.old.index.sectors self.old.index.sector_size self.new.index }
+        ensures erases { ErasesAtMost self.old.index.sectors self.old self.new }
+        ensures few { self.new.index.erases ≤ self.old.index.erases + self.old.index.sectors }
     {
         self.answer_with_node(request).outcome
     }
@@ -62,16 +62,16 @@ impl<F: Flash> Core<F> {
     /// appended for it. That node may be applied to the tree that the core had, or to any of the
     /// same state, and makes the state of the tree that it has then.
     pub fn answer_with_node(&mut self, request: Request) -> Answered
-        requires reserved { length self.old.answers < self.old.places }
+        requires reserved { length self.old.answers < self.old.capacity }
         ensures kept { self.new.answers ≡ self.old.answers ++ record { writer = request.writer; seq = request.seq; outcome = result.outcome } ∷ [] }
-        ensures step { (mounted past : List Node) → StandsFor mounted past self.old → AnswersWith mounted past self.old self.new request result.outcome result.node }
+        ensures step { (mounted past : List Node) → Represents mounted past self.old → AnswersWith mounted past self.old self.new request result.outcome result.node }
         ensures node { HasNode result.outcome result.node }
         ensures tree { TellsNode self.old self.new result.node }
         ensures closed { self.new.closed ≡ self.old.closed || is_closed result.outcome }
         ensures failed { self.old.failed ≡ true → KeepsAnswer request.writer request.seq result.outcome self.old self.new }
-        ensures sizes { HasSizes self.old.book.sectors self.old.book.sector_size self.new.book }
-        ensures erases { ErasesAtMost self.old.book.sectors self.old self.new }
-        ensures few { self.new.book.erases ≤ self.old.book.erases + self.old.book.sectors }
+        ensures sizes { HasSizes self.old.index.sectors self.old.index.sector_size self.new.index }
+        ensures erases { ErasesAtMost self.old.index.sectors self.old self.new }
+        ensures few { self.new.index.erases ≤ self.old.index.erases + self.old.index.sectors }
     {
         let answered = if self.log.failed() {
             Answered {
@@ -85,11 +85,11 @@ impl<F: Flash> Core<F> {
         answered
     }
 
-    /// Keeps an answer in its place.
+    /// Keeps an answer, for which capacity is reserved.
     fn keep_answer(&mut self, writer: u16, seq: u32, outcome: Outcome)
-        requires reserved { length self.old.answers < self.old.places }
+        requires reserved { length self.old.answers < self.old.capacity }
         ensures kept { KeepsAnswer writer seq outcome self.old self.new }
-        ensures held { self.new.failed ≡ false → self.new.book.held ≤ self.new.book.sectors }
+        ensures held { self.new.failed ≡ false → self.new.index.held ≤ self.new.index.sectors }
     {
         self.closed = self.closed || closes(outcome);
         self.answers.push_reserved(Answer {
@@ -102,10 +102,10 @@ impl<F: Flash> Core<F> {
     /// Answers a request on a core whose device works.
     fn act(&mut self, request: &Request) -> Answered
         requires working { self.old.failed ≡ false }
-        ensures acted { (past : List Node) → Knows past self.old → HasAnswered past self.old self.new request.now result.outcome result.node }
+        ensures acted { (past : List Node) → RepresentsWorking past self.old → HasAnswered past self.old self.new request.now result.outcome result.node }
         ensures same { SameAnswers self.old self.new }
-        ensures sizes { HasSizes self.old.book.sectors self.old.book.sector_size self.new.book }
-        ensures erases { self.new.book.erases ≤ self.old.book.erases + self.old.book.held }
+        ensures sizes { HasSizes self.old.index.sectors self.old.index.sector_size self.new.index }
+        ensures erases { self.new.index.erases ≤ self.old.index.erases + self.old.index.held }
     {
         match self.carry_out(request) {
             Ok(answered) => answered,
@@ -119,10 +119,10 @@ impl<F: Flash> Core<F> {
     /// Appends what a request wants, or returns why nothing is appended.
     fn carry_out(&mut self, request: &Request) -> Result<Answered, Cause>
         requires working { self.old.failed ≡ false }
-        ensures acted { (past : List Node) → Knows past self.old → HasActed past self.old self.new request.now result }
+        ensures acted { (past : List Node) → RepresentsWorking past self.old → HasActed past self.old self.new request.now result }
         ensures same { SameAnswers self.old self.new }
-        ensures sizes { HasSizes self.old.book.sectors self.old.book.sector_size self.new.book }
-        ensures erases { self.new.book.erases ≤ self.old.book.erases + self.old.book.held }
+        ensures sizes { HasSizes self.old.index.sectors self.old.index.sector_size self.new.index }
+        ensures erases { self.new.index.erases ≤ self.old.index.erases + self.old.index.held }
     {
         if request.wish.is_unmount() && self.clean {
             return Ok(Answered {
@@ -142,10 +142,10 @@ impl<F: Flash> Core<F> {
     fn take(&mut self, request: &Request, node: Node) -> Result<Answered, Cause>
         requires working { self.old.failed ≡ false }
         requires decided { IsNodeOf self.old request.now node }
-        ensures acted { (past : List Node) → Knows past self.old → HasActed past self.old self.new request.now result }
+        ensures acted { (past : List Node) → RepresentsWorking past self.old → HasActed past self.old self.new request.now result }
         ensures same { SameAnswers self.old self.new }
-        ensures sizes { HasSizes self.old.book.sectors self.old.book.sector_size self.new.book }
-        ensures erases { self.new.book.erases ≤ self.old.book.erases + self.old.book.held }
+        ensures sizes { HasSizes self.old.index.sectors self.old.index.sector_size self.new.index }
+        ensures erases { self.new.index.erases ≤ self.old.index.erases + self.old.index.held }
     {
         if request.wish.is_unmount() {
             return self.end(request, node);
@@ -164,10 +164,10 @@ impl<F: Flash> Core<F> {
         requires working { self.old.failed ≡ false }
         requires decided { IsNodeOf self.old request.now node }
         requires unmounts { is_unmount_wish request.now.wish ≡ true }
-        ensures acted { (past : List Node) → Knows past self.old → HasActed past self.old self.new request.now result }
+        ensures acted { (past : List Node) → RepresentsWorking past self.old → HasActed past self.old self.new request.now result }
         ensures same { SameAnswers self.old self.new }
-        ensures sizes { HasSizes self.old.book.sectors self.old.book.sector_size self.new.book }
-        ensures erases { self.new.book.erases ≤ self.old.book.erases + self.old.book.held }
+        ensures sizes { HasSizes self.old.index.sectors self.old.index.sector_size self.new.index }
+        ensures erases { self.new.index.erases ≤ self.old.index.erases + self.old.index.held }
     {
         self.append(Room::Unmount, &node)?;
         Ok(Answered {
@@ -181,10 +181,10 @@ impl<F: Flash> Core<F> {
         requires working { self.old.failed ≡ false }
         requires decided { IsNodeOf self.old request.now node }
         requires copies { is_copy_wish request.now.wish ≡ true }
-        ensures acted { (past : List Node) → Knows past self.old → HasActed past self.old self.new request.now result }
+        ensures acted { (past : List Node) → RepresentsWorking past self.old → HasActed past self.old self.new request.now result }
         ensures same { SameAnswers self.old self.new }
-        ensures sizes { HasSizes self.old.book.sectors self.old.book.sector_size self.new.book }
-        ensures erases { self.new.book.erases ≤ self.old.book.erases + self.old.book.held }
+        ensures sizes { HasSizes self.old.index.sectors self.old.index.sector_size self.new.index }
+        ensures erases { self.new.index.erases ≤ self.old.index.erases + self.old.index.held }
     {
         self.append(Room::Fresh, &node)?;
         Ok(Answered {
@@ -202,10 +202,10 @@ impl<F: Flash> Core<F> {
         requires no_copy { is_copy_wish request.now.wish ≡ false }
         requires no_unmount { is_unmount_wish request.now.wish ≡ false }
         requires room { has_room_for self.old Room.Fresh (length_of node) ≡ true }
-        ensures acted { (past : List Node) → Knows past self.old → HasActed past self.old self.new request.now result }
+        ensures acted { (past : List Node) → RepresentsWorking past self.old → HasActed past self.old self.new request.now result }
         ensures same { SameAnswers self.old self.new }
-        ensures sizes { HasSizes self.old.book.sectors self.old.book.sector_size self.new.book }
-        ensures erases { self.new.book.erases ≤ self.old.book.erases + self.old.book.held }
+        ensures sizes { HasSizes self.old.index.sectors self.old.index.sector_size self.new.index }
+        ensures erases { self.new.index.erases ≤ self.old.index.erases + self.old.index.held }
     {
         self.append(Room::Fresh, &node)?;
         Ok(appended(node))
@@ -218,10 +218,10 @@ impl<F: Flash> Core<F> {
         requires no_copy { is_copy_wish request.now.wish ≡ false }
         requires no_unmount { is_unmount_wish request.now.wish ≡ false }
         requires no_room { has_room_for self.old Room.Fresh (length_of node) ≡ false }
-        ensures acted { (past : List Node) → Knows past self.old → HasActed past self.old self.new request.now result }
+        ensures acted { (past : List Node) → RepresentsWorking past self.old → HasActed past self.old self.new request.now result }
         ensures same { SameAnswers self.old self.new }
-        ensures sizes { HasSizes self.old.book.sectors self.old.book.sector_size self.new.book }
-        ensures erases { self.new.book.erases ≤ self.old.book.erases + self.old.book.held }
+        ensures sizes { HasSizes self.old.index.sectors self.old.index.sector_size self.new.index }
+        ensures erases { self.new.index.erases ≤ self.old.index.erases + self.old.index.held }
     {
         self.make_room(record_len(&node))?;
         let Some(version) = self.limits.next_version else {

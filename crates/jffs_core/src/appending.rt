@@ -11,9 +11,9 @@ use jffs_tree::{Cause, Limits};
 
 impl<F: Flash> Core<F> {
     ghost use Rattle.jffs_node.specs.declared.node.Node.{Node};
-    ghost use Rattle.jffs_log.specs.Book.{HasSizes};
-    ghost use Rattle.jffs_core.specs.Standing.{SameAnswers};
-    ghost use Rattle.jffs_core.specs.Past.{Knows, has_room_for};
+    ghost use Rattle.jffs_log.specs.LogIndex.{HasSizes};
+    ghost use Rattle.jffs_core.specs.CoreState.{SameAnswers};
+    ghost use Rattle.jffs_core.specs.Past.{RepresentsWorking, has_room_for};
     ghost use Rattle.jffs_core.specs.Appending.{MayPut, HasPut, PutRefused};
 
     /// Whether a record of this length has room. Takes no memory.
@@ -24,19 +24,19 @@ impl<F: Flash> Core<F> {
         self.log.room(room, len)
     }
 
-    /// Puts a node at the end of the history: the log's place is made, the tree is changed, and the
+    /// Puts a node at the end of the history: the log's capacity is reserved, the tree is changed, and the
     /// record is programmed. Precondition: it may follow all nodes before it.
     ///
     /// NoSpace and Memory: nothing is changed. Device: the tree has the node, and the log has it or
     /// has it not.
     pub(crate) fn append(&mut self, room: Room, node: &Node) -> Result<(), Cause>
         requires working { self.old.failed ≡ false }
-        requires follows { (past : List Node) × Knows past self.old × MayPut past self.old.book.sector_size room node.now }
+        requires follows { (past : List Node) × RepresentsWorking past self.old × MayPut past self.old.index.sector_size room node.now }
         ensures done { OnOk result (HasPut room node.now self.old self.new) }
         ensures refused { IfErr result (λ cause. PutRefused room node.now cause self.old self.new) }
         ensures same { SameAnswers self.old self.new }
-        ensures sizes { HasSizes self.old.book.sectors self.old.book.sector_size self.new.book }
-        ensures erases { self.new.book.erases ≡ self.old.book.erases }
+        ensures sizes { HasSizes self.old.index.sectors self.old.index.sector_size self.new.index }
+        ensures erases { self.new.index.erases ≡ self.old.index.erases }
     {
         if !self.log.room(room, record_len(node)) {
             return Err(Cause::NoSpace);

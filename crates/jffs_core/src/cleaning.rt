@@ -22,11 +22,11 @@ pub enum Cleaned {
 
 impl<F: Flash> Core<F> {
     ghost use Rattle.jffs_node.specs.declared.node.Node.{Node};
-    ghost use Rattle.jffs_log.specs.Book.{HasSizes, layout_in, lives_in, oldest_in};
+    ghost use Rattle.jffs_log.specs.LogIndex.{HasSizes, layout_in, lives_in, oldest_in};
     ghost use Rattle.jffs_log.specs.Cleaning.{oldest_records, erase_oldest as erase_layout};
     ghost use Rattle.jffs_log.specs.RoomLaws.{Among};
-    ghost use Rattle.jffs_core.specs.Standing.{SameAnswers};
-    ghost use Rattle.jffs_core.specs.Past.{Knows, StandsFor};
+    ghost use Rattle.jffs_core.specs.CoreState.{SameAnswers};
+    ghost use Rattle.jffs_core.specs.Past.{RepresentsWorking, Represents};
     ghost use Rattle.jffs_core.specs.Calls.{RefusedAt};
     ghost use Rattle.jffs_core.specs.Cleaning.{Cleans, Stops, StopIs, ErasesDead, HasErasedDead, IsDeadOldest, DidClean, HasHandled, CopyStopped, HasCopied, HasErased, HasMadeRoom, CleaningStopped, SectorStopped};
     ghost use Rattle.jffs_core.specs.Erases.{ErasesAtMost};
@@ -40,12 +40,12 @@ impl<F: Flash> Core<F> {
     /// the flash failed, and the core is failed from then on. The copies that were made stay.
     /// `Failed` on a core that had failed: nothing is changed.
     pub fn clean_oldest(&mut self) -> Result<Cleaned, Cause>
-        ensures cleaned { IfOk result (λ done. (mounted past : List Node) → StandsFor mounted past self.old → Cleans mounted past done self.old self.new) }
-        ensures stopped { IfErr result (λ cause. (mounted past : List Node) → StandsFor mounted past self.old → Stops mounted past cause self.old self.new) }
+        ensures cleaned { IfOk result (λ done. (mounted past : List Node) → Represents mounted past self.old → Cleans mounted past done self.old self.new) }
+        ensures stopped { IfErr result (λ cause. (mounted past : List Node) → Represents mounted past self.old → Stops mounted past cause self.old self.new) }
         ensures failed { self.old.failed ≡ true → (result ≡ Err Cause.Failed) × (self.new ≡ self.old) }
         ensures same { SameAnswers self.old self.new }
-        ensures sizes { HasSizes self.old.book.sectors self.old.book.sector_size self.new.book }
-        ensures erases { self.new.book.erases ≤ self.old.book.erases + 1 }
+        ensures sizes { HasSizes self.old.index.sectors self.old.index.sector_size self.new.index }
+        ensures erases { self.new.index.erases ≤ self.old.index.erases + 1 }
     {
         if self.log.failed() {
             return Err(Cause::Failed);
@@ -59,12 +59,12 @@ impl<F: Flash> Core<F> {
     /// `Device` if the flash failed, and the core is failed from then on; `Failed` on a core that
     /// had failed: nothing is changed.
     pub fn erase_dead(&mut self) -> Result<u32, Cause>
-        ensures erased { IfOk result (λ count. (mounted past : List Node) → StandsFor mounted past self.old → ErasesDead mounted past count self.old self.new) }
-        ensures stopped { IfErr result (λ cause. (mounted past : List Node) → StandsFor mounted past self.old → StandsFor mounted past self.new × StopIs cause past self.old self.new) }
+        ensures erased { IfOk result (λ count. (mounted past : List Node) → Represents mounted past self.old → ErasesDead mounted past count self.old self.new) }
+        ensures stopped { IfErr result (λ cause. (mounted past : List Node) → Represents mounted past self.old → Represents mounted past self.new × StopIs cause past self.old self.new) }
         ensures causes { IfErr result (λ cause. (cause ≡ Cause.Device) ⊎ (cause ≡ Cause.Failed)) }
         ensures failed { self.old.failed ≡ true → (result ≡ Err Cause.Failed) × (self.new ≡ self.old) }
         ensures same { SameAnswers self.old self.new }
-        ensures sizes { HasSizes self.old.book.sectors self.old.book.sector_size self.new.book }
+        ensures sizes { HasSizes self.old.index.sectors self.old.index.sector_size self.new.index }
         ensures erases { ErasesAtMost 0 self.old self.new }
         ensures tree { KeepsTree self.old self.new }
     {
@@ -77,12 +77,12 @@ impl<F: Flash> Core<F> {
     /// Erases the oldest sector of a core whose device works, while that may be.
     fn erase_while_dead(&mut self) -> Result<u32, Cause>
         requires working { self.old.failed ≡ false }
-        requires few { length (layout_in self.old.image self.old.book).sectors < 2 ^ 32 }
-        ensures erased { IfOk result (λ count. (past : List Node) → Knows past self.old → HasErasedDead count past self.old self.new) }
-        ensures stopped { IfErr result (λ cause. (past : List Node) → Knows past self.old → RefusedAt cause past self.old self.new) }
+        requires few { length (layout_in self.old.image self.old.index).sectors < 2 ^ 32 }
+        ensures erased { IfOk result (λ count. (past : List Node) → RepresentsWorking past self.old → HasErasedDead count past self.old self.new) }
+        ensures stopped { IfErr result (λ cause. (past : List Node) → RepresentsWorking past self.old → RefusedAt cause past self.old self.new) }
         ensures device { IfErr result (λ cause. cause ≡ Cause.Device) }
         ensures same { SameAnswers self.old self.new }
-        ensures sizes { HasSizes self.old.book.sectors self.old.book.sector_size self.new.book }
+        ensures sizes { HasSizes self.old.index.sectors self.old.index.sector_size self.new.index }
         ensures erases { ErasesAtMost 0 self.old self.new }
     {
         let mut erased = 0u32;
@@ -106,12 +106,12 @@ impl<F: Flash> Core<F> {
     /// room, or each sector that held the log was cleaned.
     pub(crate) fn make_room(&mut self, len: u32) -> Result<(), Cause>
         requires working { self.old.failed ≡ false }
-        ensures made { OnOk result ((past : List Node) → Knows past self.old → (after : List Node) × HasMadeRoom len past after self.old self.new) }
-        ensures refused { IfErr result (λ cause. (past : List Node) → Knows past self.old → (after : List Node) × CleaningStopped cause past after self.old self.new) }
+        ensures made { OnOk result ((past : List Node) → RepresentsWorking past self.old → (after : List Node) × HasMadeRoom len past after self.old self.new) }
+        ensures refused { IfErr result (λ cause. (past : List Node) → RepresentsWorking past self.old → (after : List Node) × CleaningStopped cause past after self.old self.new) }
         ensures works { OnOk result (self.new.failed ≡ false) }
         ensures same { SameAnswers self.old self.new }
-        ensures sizes { HasSizes self.old.book.sectors self.old.book.sector_size self.new.book }
-        ensures erases { self.new.book.erases ≤ self.old.book.erases + self.old.book.held }
+        ensures sizes { HasSizes self.old.index.sectors self.old.index.sector_size self.new.index }
+        ensures erases { self.new.index.erases ≤ self.old.index.erases + self.old.index.held }
     {
         for turn in 0..self.log.held() {
             if self.has_room(Room::Fresh, len) {
@@ -128,12 +128,12 @@ impl<F: Flash> Core<F> {
     /// Cleans the oldest sector of a core whose device works.
     fn clean_one(&mut self) -> Result<Cleaned, Cause>
         requires working { self.old.failed ≡ false }
-        ensures cleaned { IfOk result (λ done. (past : List Node) → Knows past self.old → DidClean done past self.old self.new) }
-        ensures stopped { IfErr result (λ cause. (past : List Node) → Knows past self.old → (after : List Node) × SectorStopped cause past after self.old self.new) }
+        ensures cleaned { IfOk result (λ done. (past : List Node) → RepresentsWorking past self.old → DidClean done past self.old self.new) }
+        ensures stopped { IfErr result (λ cause. (past : List Node) → RepresentsWorking past self.old → (after : List Node) × SectorStopped cause past after self.old self.new) }
         ensures works { OnOk result (self.new.failed ≡ false) }
         ensures same { SameAnswers self.old self.new }
-        ensures sizes { HasSizes self.old.book.sectors self.old.book.sector_size self.new.book }
-        ensures erases { self.new.book.erases ≤ self.old.book.erases + 1 }
+        ensures sizes { HasSizes self.old.index.sectors self.old.index.sector_size self.new.index }
+        ensures erases { self.new.index.erases ≤ self.old.index.erases + 1 }
     {
         if self.log.held() < 2 {
             return Ok(Cleaned::OneSector);
@@ -145,15 +145,15 @@ impl<F: Flash> Core<F> {
     /// Copies what lives of these nodes, which are those of the oldest sector, and erases it.
     fn clean_sector(&mut self, nodes: &[Node]) -> Result<Cleaned, Cause>
         requires working { self.old.failed ≡ false }
-        requires known { (past : List Node) × Knows past self.old }
-        requires several { 2 ≤ length (layout_in self.old.image self.old.book).sectors }
-        requires oldest { nodes.now ≡ map (λ p. p.node) (oldest_in self.old.image self.old.book) }
-        ensures cleaned { IfOk result (λ done. (past : List Node) → Knows past self.old → DidClean done past self.old self.new) }
-        ensures stopped { IfErr result (λ cause. (past : List Node) → Knows past self.old → (after : List Node) × SectorStopped cause past after self.old self.new) }
+        requires known { (past : List Node) × RepresentsWorking past self.old }
+        requires several { 2 ≤ length (layout_in self.old.image self.old.index).sectors }
+        requires oldest { nodes.now ≡ map (λ p. p.node) (oldest_in self.old.image self.old.index) }
+        ensures cleaned { IfOk result (λ done. (past : List Node) → RepresentsWorking past self.old → DidClean done past self.old self.new) }
+        ensures stopped { IfErr result (λ cause. (past : List Node) → RepresentsWorking past self.old → (after : List Node) × SectorStopped cause past after self.old self.new) }
         ensures works { OnOk result (self.new.failed ≡ false) }
         ensures same { SameAnswers self.old self.new }
-        ensures sizes { HasSizes self.old.book.sectors self.old.book.sector_size self.new.book }
-        ensures erases { self.new.book.erases ≤ self.old.book.erases + 1 }
+        ensures sizes { HasSizes self.old.index.sectors self.old.index.sector_size self.new.index }
+        ensures erases { self.new.index.erases ≤ self.old.index.erases + 1 }
     {
         let sector = self.log.oldest();
         let copies = self.copy_each(nodes)?;
@@ -165,15 +165,15 @@ impl<F: Flash> Core<F> {
     /// copied.
     fn copy_each(&mut self, nodes: &[Node]) -> Result<u32, Cause>
         requires working { self.old.failed ≡ false }
-        requires known { (past : List Node) × Knows past self.old }
-        requires oldest { nodes.now ≡ oldest_records (layout_in self.old.image self.old.book).sectors }
-        requires several { 2 ≤ length (layout_in self.old.image self.old.book).sectors }
-        ensures copied { IfOk result (λ copies. (past : List Node) → Knows past self.old → (after : List Node) × HasCopied nodes.now past after copies self.old self.new) }
-        ensures stopped { IfErr result (λ cause. (past : List Node) → Knows past self.old → (after : List Node) × SectorStopped cause past after self.old self.new) }
+        requires known { (past : List Node) × RepresentsWorking past self.old }
+        requires oldest { nodes.now ≡ oldest_records (layout_in self.old.image self.old.index).sectors }
+        requires several { 2 ≤ length (layout_in self.old.image self.old.index).sectors }
+        ensures copied { IfOk result (λ copies. (past : List Node) → RepresentsWorking past self.old → (after : List Node) × HasCopied nodes.now past after copies self.old self.new) }
+        ensures stopped { IfErr result (λ cause. (past : List Node) → RepresentsWorking past self.old → (after : List Node) × SectorStopped cause past after self.old self.new) }
         ensures works { OnOk result (self.new.failed ≡ false) }
         ensures same { SameAnswers self.old self.new }
-        ensures sizes { HasSizes self.old.book.sectors self.old.book.sector_size self.new.book }
-        ensures erases { self.new.book.erases ≡ self.old.book.erases }
+        ensures sizes { HasSizes self.old.index.sectors self.old.index.sector_size self.new.index }
+        ensures erases { self.new.index.erases ≡ self.old.index.erases }
     {
         let mut copies = 0u32;
         for node in nodes {
@@ -185,14 +185,14 @@ impl<F: Flash> Core<F> {
     /// Copies a record of the log where it is live; answers whether it is.
     fn handle(&mut self, source: &Node) -> Result<bool, Cause>
         requires working { self.old.failed ≡ false }
-        requires known { (past : List Node) × Knows past self.old × Among source.now past }
-        requires short { length_of source.now ≤ self.old.book.sector_size / 4 }
-        ensures handled { IfOk result (λ copied. (past : List Node) → Knows past self.old → Among source.now past → HasHandled past source.now copied self.old self.new) }
-        ensures stopped { IfErr result (λ cause. (past : List Node) → Knows past self.old → Among source.now past → CopyStopped cause past source.now self.old self.new) }
+        requires known { (past : List Node) × RepresentsWorking past self.old × Among source.now past }
+        requires short { length_of source.now ≤ self.old.index.sector_size / 4 }
+        ensures handled { IfOk result (λ copied. (past : List Node) → RepresentsWorking past self.old → Among source.now past → HasHandled past source.now copied self.old self.new) }
+        ensures stopped { IfErr result (λ cause. (past : List Node) → RepresentsWorking past self.old → Among source.now past → CopyStopped cause past source.now self.old self.new) }
         ensures works { OnOk result (self.new.failed ≡ false) }
         ensures same { SameAnswers self.old self.new }
-        ensures sizes { HasSizes self.old.book.sectors self.old.book.sector_size self.new.book }
-        ensures erases { self.new.book.erases ≡ self.old.book.erases }
+        ensures sizes { HasSizes self.old.index.sectors self.old.index.sector_size self.new.index }
+        ensures erases { self.new.index.erases ≡ self.old.index.erases }
     {
         if !self.tree.live(source.inode, source.version) {
             return Ok(false);
@@ -204,15 +204,15 @@ impl<F: Flash> Core<F> {
     /// Appends the copy of a live record.
     fn copy(&mut self, source: &Node) -> Result<(), Cause>
         requires working { self.old.failed ≡ false }
-        requires known { (past : List Node) × Knows past self.old × Among source.now past }
+        requires known { (past : List Node) × RepresentsWorking past self.old × Among source.now past }
         requires live { holds_version self.old.tree source.now.inode source.now.version ≡ true }
-        requires short { length_of source.now ≤ self.old.book.sector_size / 4 }
-        ensures copied { OnOk result ((past : List Node) → Knows past self.old → Among source.now past → HasHandled past source.now true self.old self.new) }
-        ensures stopped { IfErr result (λ cause. (past : List Node) → Knows past self.old → Among source.now past → CopyStopped cause past source.now self.old self.new) }
+        requires short { length_of source.now ≤ self.old.index.sector_size / 4 }
+        ensures copied { OnOk result ((past : List Node) → RepresentsWorking past self.old → Among source.now past → HasHandled past source.now true self.old self.new) }
+        ensures stopped { IfErr result (λ cause. (past : List Node) → RepresentsWorking past self.old → Among source.now past → CopyStopped cause past source.now self.old self.new) }
         ensures works { OnOk result (self.new.failed ≡ false) }
         ensures same { SameAnswers self.old self.new }
-        ensures sizes { HasSizes self.old.book.sectors self.old.book.sector_size self.new.book }
-        ensures erases { self.new.book.erases ≡ self.old.book.erases }
+        ensures sizes { HasSizes self.old.index.sectors self.old.index.sector_size self.new.index }
+        ensures erases { self.new.index.erases ≡ self.old.index.erases }
     {
         let Some(version) = self.limits.next_version else {
             return Err(Cause::VersionsSpent);
@@ -224,14 +224,14 @@ impl<F: Flash> Core<F> {
     /// The nodes of the oldest sector, read from the device. Memory: nothing is changed.
     fn oldest_nodes(&mut self) -> Result<Vec<Node>, Cause>
         requires working { self.old.failed ≡ false }
-        requires some { 1 ≤ self.old.book.held }
-        ensures nodes { IfOk result (λ nodes. nodes.items ≡ map (λ p. p.node) (oldest_in self.old.image self.old.book)) }
+        requires some { 1 ≤ self.old.index.held }
+        ensures nodes { IfOk result (λ nodes. nodes.items ≡ map (λ p. p.node) (oldest_in self.old.image self.old.index)) }
         ensures kept { OnOk result (self.new ≡ self.old) }
-        ensures refused { IfErr result (λ cause. (past : List Node) → Knows past self.old → RefusedAt cause past self.old self.new) }
+        ensures refused { IfErr result (λ cause. (past : List Node) → RepresentsWorking past self.old → RefusedAt cause past self.old self.new) }
         ensures causes { IfErr result (λ cause. (cause ≡ Cause.Memory) ⊎ (cause ≡ Cause.Device)) }
         ensures same { SameAnswers self.old self.new }
-        ensures sizes { HasSizes self.old.book.sectors self.old.book.sector_size self.new.book }
-        ensures erases { self.new.book.erases ≡ self.old.book.erases }
+        ensures sizes { HasSizes self.old.index.sectors self.old.index.sector_size self.new.index }
+        ensures erases { self.new.index.erases ≡ self.old.index.erases }
     {
         self.log.oldest_nodes(self.alloc)
     }
@@ -239,17 +239,17 @@ impl<F: Flash> Core<F> {
     /// Erases the oldest sector. Precondition: it is dead, and not the tail.
     fn erase_oldest(&mut self) -> Result<(), Cause>
         requires working { self.old.failed ≡ false }
-        requires several { 2 ≤ length (layout_in self.old.image self.old.book).sectors }
-        requires dead { AllByRecursion (λ p. lives_in self.old.tree p ≡ false) (oldest_in self.old.image self.old.book) }
-        ensures erased { OnOk result ((past : List Node) → Knows past self.old → HasErased past self.old self.new) }
-        ensures refused { IfErr result (λ cause. (past : List Node) → Knows past self.old → RefusedAt cause past self.old self.new) }
-        ensures log { OnOk result (layout_in self.new.image self.new.book ≡ erase_layout (layout_in self.old.image self.old.book)) }
+        requires several { 2 ≤ length (layout_in self.old.image self.old.index).sectors }
+        requires dead { AllByRecursion (λ p. lives_in self.old.tree p ≡ false) (oldest_in self.old.image self.old.index) }
+        ensures erased { OnOk result ((past : List Node) → RepresentsWorking past self.old → HasErased past self.old self.new) }
+        ensures refused { IfErr result (λ cause. (past : List Node) → RepresentsWorking past self.old → RefusedAt cause past self.old self.new) }
+        ensures log { OnOk result (layout_in self.new.image self.new.index ≡ erase_layout (layout_in self.old.image self.old.index)) }
         ensures device { IfErr result (λ cause. cause ≡ Cause.Device) }
         ensures works { OnOk result (self.new.failed ≡ false) }
         ensures same { SameAnswers self.old self.new }
-        ensures sizes { HasSizes self.old.book.sectors self.old.book.sector_size self.new.book }
+        ensures sizes { HasSizes self.old.index.sectors self.old.index.sector_size self.new.index }
         ensures erases { ErasesAtMost 0 self.old self.new }
-        ensures few { self.new.book.erases ≤ self.old.book.erases + 1 }
+        ensures few { self.new.index.erases ≤ self.old.index.erases + 1 }
     {
         self.log.erase_oldest(&self.tree)
     }

@@ -7,7 +7,7 @@ ghost use Rattle.jffs_core.specs.Finding.{DeviceScansFind};
 ghost use Rattle.jffs_core.specs.Rows.{Cleaning, LastOfHundred, Numbers, Growing, Spent, Filled};
 ghost use Rattle.jffs_core.specs.Run.{RunsGoOn, LawfulRunsGrow};
 
-/// Copies, places, numbers and weight are as on these examples.
+/// Copies, offsets, numbers and weight are as on these examples.
 pub fn examples_are_stepped()
     ensures cleaning { Cleaning }
     ensures last { LastOfHundred }

@@ -24,33 +24,33 @@ pub struct Core<F: Flash> {
 }
 
 impl<F: Flash> Model for Core<F> {
-    ghost use Rattle.jffs_core.specs.Standing.{Standing};
-    ghost use Rattle.jffs_core.specs.Past.{HasBook};
+    ghost use Rattle.jffs_core.specs.CoreState.{CoreState};
+    ghost use Rattle.jffs_core.specs.Past.{HasLogIndex};
     ghost use Rattle.std.specs.Prelude.{vec_capacity};
 
-    ghost Value = { Standing };
+    ghost Value = { CoreState };
 
     ghost view = { λ c. record {
       image = c.log.device.image;
       faults = c.log.device.faults;
       erase_failed = c.log.device.erase_failed;
-      book = c.log.book;
+      index = c.log.index;
       tree = c.tree;
       limits = c.limits;
       clean = c.clean;
       failed = c.log.failed;
       closed = c.closed;
       answers = c.answers.items;
-      places = vec_capacity c.answers;
+      capacity = vec_capacity c.answers;
     } };
 
-    ghost invariant = { λ c. HasBook c.log.failed c.log.device.sectors c.log.device.sector_size c.log.device.image c.log.book c.tree c.limits c.clean };
+    ghost invariant = { λ c. HasLogIndex c.log.failed c.log.device.sectors c.log.device.sector_size c.log.device.image c.log.index c.tree c.limits c.clean };
 }
 
 impl<F: Flash> Core<F> {
     ghost use Rattle.jffs_core.specs.Past.{IsFresh, IsLeftBy};
 
-    /// Mounts a device: scans it, whatever it holds, and never writes to it. The core stands for
+    /// Mounts a device: scans it, whatever it holds, and never writes to it. The core represents
     /// the log that was found, without answers.
     ///
     /// A refusal has the scan's reason, and hands the device back.
@@ -120,7 +120,7 @@ impl<F: Flash> Core<F> {
     /// The log, to be looked at.
     pub fn log(&self) -> &Log<F>
         ensures image { result.now.device.image ≡ self.now.image }
-        ensures book { result.now.book ≡ self.now.book }
+        ensures index { result.now.index ≡ self.now.index }
         ensures failed { result.now.failed ≡ self.now.failed }
     {
         &self.log

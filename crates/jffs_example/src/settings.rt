@@ -75,7 +75,7 @@ impl Settings {
         })
     }
 
-    /// Hands a wish to the core, which has a place for its answer.
+    /// Hands a wish to the core, which has capacity for its answer.
     fn ask(&mut self, wish: Wish) -> Result<(), SettingFault> {
         self.core.reserve_answer()?;
         self.seq = self.seq.saturating_add(1);

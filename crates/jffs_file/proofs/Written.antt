@@ -69,19 +69,19 @@ PutsPart at bytes old new =
     (image : List ℕ) → old ≡ Some image → at + length bytes ≤ length image
     → (count : ℕ) × (new ≡ Some (replaced at (first_part count bytes (window at (length bytes) image)) image))
 
--- what is read from memory at the place of these bytes
+-- what is read from memory at the offset of these bytes
 put_there : (at n : ℕ) (part image : List ℕ) → length part ≡ n → at + n ≤ length image
     → window at n (replaced at part image) ≡ part
 put_there at n part image long inside =
     ap (λ k. window at k (replaced at part image)) (sym long) ∙ window-replaced at part image (omega arith)
 
 -- after a write that passed the store holds what stands in memory
-pub kept_written : (place at len n : ℕ) (part image now : List ℕ) (old new : Option (List ℕ))
-    → place ≡ at → len ≡ n → length part ≡ n → at + n ≤ length image → now ≡ replaced at part image
-    → PutsAll place (window place len now) old new
+pub kept_written : (offset at len n : ℕ) (part image now : List ℕ) (old new : Option (List ℕ))
+    → offset ≡ at → len ≡ n → length part ≡ n → at + n ≤ length image → now ≡ replaced at part image
+    → PutsAll offset (window offset len now) old new
     → old ≡ Some image
     → new ≡ Some now
-kept_written place at len n part image now old new there many long inside is over same =
+kept_written offset at len n part image now old new there many long inside is over same =
     let P : ℕ → Type 0 = λ p. PutsAll p (window p len now) old new in
     let N : ℕ → Type 0 = λ k. PutsAll at (window at k now) old new in
     let Q : List ℕ → Type 0 = λ xs. PutsAll at (window at n xs) old new in
@@ -90,12 +90,12 @@ kept_written place at len n part image now old new there many long inside is ove
     puts image same (omega arith) ∙ ap (λ (xs : List ℕ). Some xs) (sym is)
 
 -- after one that failed it holds a first part of that
-pub left_written : (place at len n : ℕ) (part image now : List ℕ) (old new : Option (List ℕ))
-    → place ≡ at → len ≡ n → length part ≡ n → at + n ≤ length image → now ≡ replaced at part image
-    → PutsPart place (window place len now) old new
+pub left_written : (offset at len n : ℕ) (part image now : List ℕ) (old new : Option (List ℕ))
+    → offset ≡ at → len ≡ n → length part ≡ n → at + n ≤ length image → now ≡ replaced at part image
+    → PutsPart offset (window offset len now) old new
     → old ≡ Some image
     → (count : ℕ) × (new ≡ Some (replaced at (first_part count part (window at n image)) image))
-left_written place at len n part image now old new there many long inside is over same =
+left_written offset at len n part image now old new there many long inside is over same =
     let P : ℕ → Type 0 = λ p. PutsPart p (window p len now) old new in
     let N : ℕ → Type 0 = λ k. PutsPart at (window at k now) old new in
     let Q : List ℕ → Type 0 = λ xs. PutsPart at (window at n xs) old new in

@@ -2,11 +2,11 @@
 use Rattle.std.specs.Prelude.{◌≡◌, ℕ, ◌+◌, ◌≤◌, List, ◌++◌, length, take, drop, Option, Some, Result, MatchResult}
 use Rattle.jffs_flash.specs.Image.{window, replaced}
 
--- so many of these bytes, and then the old ones
+-- the first `count` of these bytes, and then the old ones
 abbrev pub first_part : ℕ → List ℕ → List ℕ → List ℕ
 first_part count bytes old = take count bytes ++ drop count old
 
--- bytes were written over those from a place on, or a first part of them; of a store that doesn't say what it holds, nothing is claimed
+-- bytes were written over those from an offset on, or a first part of them; of a store that doesn't say what it holds, nothing is claimed
 abbrev pub Overwrites : {A E : Type 0} → ℕ → List ℕ → Result A E → Option (List ℕ) → Option (List ℕ) → Type 0
 Overwrites at bytes result old new =
     (image : List ℕ) → old ≡ Some image → at + length bytes ≤ length image

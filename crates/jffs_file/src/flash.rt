@@ -26,8 +26,10 @@ pub struct FileFlash<S: Store> {
 }
 
 impl<S: Store> FileFlash<S> {
-    /// A device with the bytes of `held`. The store has the same bytes, from its first one on: the caller's condition,
-    /// without which the device works as well, but the store isn't what it shows.
+    /// A device with the bytes of `held`.
+    ///
+    /// *Precondition:* the store has the same bytes, from its first one on. Without it the device works as well, but the
+    /// store isn't what it shows.
     pub fn new(held: MemoryFlash, store: S) -> FileFlash<S>
         ensures held { result.held ≡ held }
         ensures store { result.store ≡ store }

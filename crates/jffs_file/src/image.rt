@@ -93,7 +93,7 @@ pub fn open_image<R: Files + AllocGlobal>(
     Ok(FileImage { bytes, file })
 }
 
-/// Makes a file of erased bytes, as many as so many sectors of so many bytes have together.
+/// Makes a file of erased bytes, as many as `sectors` sectors of `sector_size` bytes have.
 ///
 /// It is made under the name `PATH.new`, of which any file is overwritten, and renamed when it is whole: so there is a
 /// whole file under its name, or none. `Geometry` where a volume may not have these sizes, which is tried first,
@@ -125,7 +125,7 @@ pub fn create_image<R: Files + AllocGlobal>(
     }
 }
 
-/// A file with these bytes, in place of any of that name.
+/// A file with these bytes, instead of any of that name.
 fn write_new<R: Files>(rt: &R, path: &str, bytes: &[u8]) -> io::Result<R::File> {
     let mut file = OpenOptions::new()
         .read(true)
@@ -146,7 +146,7 @@ impl<F: Write + Seek + Drop> FileImage<F> {
         &self.bytes
     }
 
-    /// Flash of so many sectors of so many bytes in this file. `Length` where the file has another length.
+    /// Flash of `sectors` sectors of `sector_size` bytes in this file. `Length` where the file has another length.
     pub fn into_flash(
         self,
         sectors: u32,

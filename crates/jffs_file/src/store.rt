@@ -49,8 +49,8 @@ impl<F: Write + Seek + OpenFile + Drop> FileStore<F> {
 
 impl<F: Write + Seek + Drop> Store for FileStore<F> {
     fn overwrite(&mut self, at: u64, bytes: &[u8]) -> Result<(), StoreFault> {
-        let place = SeekFrom::Start(at);
-        if self.file.seek(place).is_err() || self.file.write_all(bytes).is_err() {
+        let offset = SeekFrom::Start(at);
+        if self.file.seek(offset).is_err() || self.file.write_all(bytes).is_err() {
             return Err(StoreFault);
         }
         match self.file.flush() {

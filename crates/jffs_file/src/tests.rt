@@ -8,7 +8,7 @@ use std::fs;
 use std::process::Abort;
 use std::test::Fail;
 
-/// A store in memory that passes so many writes, and then does the first half of each and fails.
+/// A store in memory that passes `passes` writes, and then does the first half of each and fails.
 #[derive(Drop)]
 struct Failing {
     bytes: Vec<u8>,
@@ -30,7 +30,7 @@ impl Store for Failing {
     }
 }
 
-/// Whether the device has so many bytes from `at` on.
+/// Whether the device has `len` bytes from `at` on.
 fn reaches<F: Flash>(flash: &F, at: u32, len: usize) -> bool
     ensures { IsTrue result ↔ (at + len ≤ length (F.device flash.now).image) }
 {

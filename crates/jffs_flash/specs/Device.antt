@@ -48,7 +48,7 @@ Unchanged old new = new ≡ old
 abbrev pub Reads : {A E : Type 0} → Result A E → Device → Device → Type 0
 Reads result old new = MatchResult result (λ _. Unchanged old new) (λ _. Fails (λ image. image ≡ old.image) old new)
 
--- these bytes are programmed from a place on, or some of their bits
+-- these bytes are programmed from an offset on, or some of their bits
 abbrev pub Programs : {A E : Type 0} → ℕ → List ℕ → Result A E → Device → Device → Type 0
 Programs at bytes result old new = MatchResult result
     (λ _. new ≡ with_image old (programmed at bytes old.image))

@@ -10,7 +10,7 @@ erased_byte = 255
 abbrev pub window : ℕ → ℕ → List ℕ → List ℕ
 window at len image = take len (drop at image)
 
--- the image with other bytes from a place on
+-- the image with other bytes from an offset on
 abbrev pub replaced : ℕ → List ℕ → List ℕ → List ℕ
 replaced at part image = take at image ++ part ++ drop (at + length part) image
 
@@ -20,7 +20,7 @@ both_bits [] bytes = []
 both_bits (o ∷ old) [] = []
 both_bits (o ∷ old) (b ∷ bytes) = bit_and o b ∷ both_bits old bytes
 
--- the image after these bytes were programmed from a place on
+-- the image after these bytes were programmed from an offset on
 abbrev pub programmed : ℕ → List ℕ → List ℕ → List ℕ
 programmed at bytes image = replaced at (both_bits (window at (length bytes) image) bytes) image
 

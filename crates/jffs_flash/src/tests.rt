@@ -6,7 +6,7 @@ use super::*;
 use std::process::Abort;
 use std::test::Fail as TestFail;
 
-/// Whether the device has so many bytes from `at` on.
+/// Whether the device has `len` bytes from `at` on.
 fn has_range<F: Flash>(flash: &F, at: u32, len: usize) -> bool
     ensures { IsTrue result ↔ (at + len ≤ length (F.device flash.now).image) }
 {

@@ -11,7 +11,7 @@ use Rattle.std.proofs.lemmas.Bool.Decides.{nat_tests}
 use Rattle.jffs_tree.specs.declared.wish.Outcome.{Outcome}
 use Rattle.jffs_index.specs.Outcomes.{Outcomes, request_cmp, outcome_at, with_outcome, without_outcome}
 
--- two requests stand at one place where they are the same
+-- two requests tie only where they are the same
 same_request : (writer seq w s : ℕ) → is_at (request_cmp (writer, seq)) (w, s) ≡ (eqb writer w && eqb seq s)
 same_request writer seq w s =
     sym (both_tied (eqb writer w) (eqb seq s) (nat_cmp writer w) (nat_cmp seq s) (unsigned_ties writer w) (unsigned_ties seq s))
@@ -19,8 +19,8 @@ same_request writer seq w s =
 eqb-swap : (a b : ℕ) → eqb a b ≡ eqb b a
 eqb-swap a b = grind (arith, nat_tests)
 
-same_place : (k q : ℕ × ℕ) → is_eq (request_cmp k q) ≡ true → k ≡ q
-same_place k q at =
+tied_same : (k q : ℕ × ℕ) → is_eq (request_cmp k q) ≡ true → k ≡ q
+tied_same k q at =
     let both = and_parts _ _ (sym (same_request k.0 k.1 q.0 q.1) ∙ at) in
     λ i. (eqb-true k.0 q.0 both.0 i, eqb-true k.1 q.1 both.1 i)
 
@@ -33,7 +33,7 @@ module _ (k q : ℕ × ℕ) (v : Outcome) where
       → lookup (is_at (request_cmp q)) (match_ordering o ((k, v) ∷ e ∷ es) ((e.0, v) ∷ es) (e ∷ more)) ≡ cond (is_eq (request_cmp q k)) (Some v) (lookup (is_at (request_cmp q)) (e ∷ es))
   found_step e es more rest Less is = refl
   found_step e es more rest Equal is =
-      let same : k ≡ e.0 = same_place k e.0 (ap is_eq is) in
+      let same : k ≡ e.0 = tied_same k e.0 (ap is_eq is) in
       subst (λ (j : ℕ × ℕ). cond (is_eq (request_cmp q j)) (Some v) (lookup (is_at (request_cmp q)) es) ≡ cond (is_eq (request_cmp q k)) (Some v) (cond (is_eq (request_cmp q j)) (Some e.1) (lookup (is_at (request_cmp q)) es))) same
       (shadowed (is_eq (request_cmp q k)))
     where
@@ -45,7 +45,7 @@ module _ (k q : ℕ × ℕ) (v : Outcome) where
     where
       apart : is_eq (request_cmp q e.0) ≡ true → is_eq (request_cmp q k) ≡ true → ⊥
       apart one two =
-          let same : k ≡ e.0 = sym (same_place q k two) ∙ same_place q e.0 one in
+          let same : k ≡ e.0 = sym (tied_same q k two) ∙ tied_same q e.0 one in
           let tied : is_eq (request_cmp k e.0) ≡ true = subst (λ (j : ℕ × ℕ). is_eq (request_cmp k j) ≡ true) same (at_itself k) in
           true≢false (sym tied ∙ ap is_eq is)
 

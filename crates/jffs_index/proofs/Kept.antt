@@ -167,7 +167,7 @@ reached p q next changes all faithful fit book log is to =
     ap (λ (z : Page). z.view) end ∙ (fold-tested p.view steps fit ∙ (ap (λ (z : Shown). fold after_step z steps) faithful ∙ sym (view-extended (history_of p) steps))) in
     ((λ i. record { head = head_of (head i); opening = tree i }), seen ∙ sym (ap view_of history), history, ap (λ (z : Page). z.seen.log) end)
 
--- what the book lacks of the steps put, behind what it has, is all of them
+-- what the book lacks of the steps put, after what it has, is all of them
 pub lacks : (page : Page) (changes : List Change) (logged batch : List Step) → IsPrefix logged (page.seen.log ++ steps_of changes) → batch ≡ drop (length logged) (page.seen.log ++ steps_of changes)
     → logged ++ batch ≡ page.seen.log ++ steps_of changes
 lacks page changes logged batch pre is = ap (λ (z : List Step). logged ++ z) is ∙ prefix_rest logged (page.seen.log ++ steps_of changes) pre

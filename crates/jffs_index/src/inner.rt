@@ -94,7 +94,7 @@ impl Inner {
 
     /// A reader that knows what is published.
     ///
-    /// `AllocError` if its place could not be had: nothing is changed.
+    /// `AllocError` if its slot could not be had: nothing is changed.
     pub fn reader(&mut self) -> Result<Reader, AllocError>
         ensures same { self.new ≡ self.old }
         ensures reader { IfOk result (λ r. (index_of r ≡ self.old.index) × (known r ≡ self.old.published)) }

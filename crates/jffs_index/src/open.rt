@@ -21,7 +21,7 @@ pub enum IndexFault {
     /// Allocation failed.
     #[error("no memory for an index")]
     Memory,
-    /// A reader's place could not be had.
+    /// A reader's slot could not be had.
     #[error("no place for a reader")]
     NoPlace,
 }
@@ -33,7 +33,7 @@ pub const READERS_MAX: usize = 17;
 /// no answers.
 ///
 /// `Places` for any other number of readers, `Memory` if allocation failed, `NoPlace` if a reader's
-/// place could not be had. After each of them the tree is gone.
+/// slot could not be had. After each of them the tree is gone.
 pub fn publish_index<R: Wait + Drop>(
     rt: R,
     alloc: Global,

@@ -203,7 +203,7 @@ fn a_view_answers_as_its_tree(rt: HostRuntime) -> Result<(), Fail> {
         Some(Some(Kind::Directory))
     );
     assert_eq!(rt; reader.look(|view| view.kind(2)), Some(None));
-    let parent = reader.look(|view| view.parent_name(3).map(|place| place.0));
+    let parent = reader.look(|view| view.parent_name(3).map(|entry| entry.0));
     assert_eq!(rt; parent, Some(Some(4)));
     assert_eq!(rt; reader.look(|view| view.live(3, 6)), Some(true));
     assert_eq!(rt; reader.look(|view| view.live(3, 5)), Some(false));

@@ -97,14 +97,14 @@ impl View {
     }
 
     /// Whether the inode is present and this version of it is live. A source that cleaning copied
-    /// beside a request may still count, since such a copy is no step.
+    /// while it answered a request may still count, since such a copy is no step.
     pub fn live(&self, inode: u32, version: u32) -> bool
         ensures { result ≡ holds_version self.now.tree inode version }
     {
         self.tree.live(inode, version)
     }
 
-    /// The copy that would take the place of a live node, with its inode's name and the bytes of
+    /// The copy that would replace a live node, with its inode's name and the bytes of
     /// its range as they are here. Precondition: the node's version is live in its inode
     /// ([`View::live`]).
     ///

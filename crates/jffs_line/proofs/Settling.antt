@@ -99,8 +99,8 @@ from_zero : (n w : ℕ) → Dec (1 ≤ w) → IsStranger w ⊎ (Contains (sender
 from_zero n w (yes low) = to_ten n w low (dec_le w 10)
 from_zero n w (no none) = let less : w < 1 = lt_of_not-le none in inl (inl (omega arith))
 
-place_of : (n w : ℕ) → IsStranger w ⊎ (Contains (senders n) w ⊎ ((n + 1 ≤ w) × (w < 9)))
-place_of n w = from_zero n w (dec_le 1 w)
+range_of : (n w : ℕ) → IsStranger w ⊎ (Contains (senders n) w ⊎ ((n + 1 ≤ w) × (w < 9)))
+range_of n w = from_zero n w (dec_le 1 w)
 
 module _ (taken waiting : List Request) (spare : List Sent) (hs : List SharedHand) (last : Learned (knows true (taken ++ waiting) (spare ++ map hand_sent hs)) []) where
   all_is : last.taken ++ [] ≡ taken ++ waiting
@@ -130,7 +130,7 @@ module _ (taken waiting : List Request) (spare : List Sent) (hs : List SharedHan
 
   pub others : (n : ℕ) → n ≤ 8 → spare ≡ silent (n + 1) (8 - n) → (w : ℕ) → ¬ (Contains (senders n) w) → of w taken ++ of w waiting ≡ []
   others n few is w none =
-      ⊎_elim (of_strangers w) (⊎_elim (λ there. absurd (none there)) (λ (at : (n + 1 ≤ w) × (w < 9)). of_silent n is w at.0 at.1)) (place_of n w)
+      ⊎_elim (of_strangers w) (⊎_elim (λ there. absurd (none there)) (λ (at : (n + 1 ≤ w) × (w < 9)). of_silent n is w at.0 at.1)) (range_of n w)
 
 -- all ends of one line, where r is the control's hand
 module _ (hands : Hands SharedHand) (taker : SharedTaker) (r : SharedHand) (is : r ≡ hands.control.hand) (ends : shared_ends taker ≡ map shared_end (all_hands hands)) where

@@ -14,7 +14,7 @@ use Rattle.jffs_line.specs.InOrder.{Learned, accepted_of, sent_by}
 use Rattle.jffs_line.specs.declared.knows.Sent.{Sent}
 use Rattle.jffs_line.specs.Line.{Line, Shared, End, senders}
 
--- a channel's name is that of its table, beside the one of its table of messages
+-- a channel's name is that of its table, besides the one of its table of messages
 abbrev pub channel_line : {D Q M K L A : Type 0} → Rows (Badge (Key Request)) D Q M K L A → Line
 channel_line c = Shared c.stamps.shared.table_id c.stamps.shared.key
 
@@ -38,7 +38,7 @@ WasFull capacity w accepted =
 abbrev pub shared_ends : SharedTaker → List End
 shared_ends t = map (λ w. (w, channel_line (receives_on t.receives))) (senders t.writers)
 
--- what a hand's sender handed in, beside the sender
+-- what a hand's sender handed in, besides the sender
 abbrev pub hand_sent : SharedHand → Sent
 hand_sent h = sent_by h.number (shared_accepted h)
 

@@ -35,14 +35,14 @@ pub trait Hand: Drop {
     /// nothing is changed.
     ///
     /// `Spent` if the sender's last number, 4,294,967,295, is used, which is tried first; `Full` if
-    /// no place was found.
+    /// no free slot was found.
     fn offer<R: Wait>(&mut self, rt: &R, wish: Wish) -> Result<u32, NotTaken>
         ensures end { (sender self.new ≡ sender self.old) × (line self.new ≡ line self.old) }
         ensures accepted { IfOk result (λ seq. (seq ≡ length (accepted self.old) + 1) × (accepted self.new ≡ accepted self.old ++ request (sender self.old) seq wish ∷ [])) }
         ensures refused { IfErr result (λ e. (e.wish ≡ wish) × (accepted self.new ≡ accepted self.old)) }
         ensures spent { IsErrAnd result (λ e. e.why ≡ Spent) ↔ (length (accepted self.old) ≡ u32.MAX) };
 
-    /// Hands in a wish, waits for a place, asleep where it takes long, and returns its number among
+    /// Hands in a wish, waits for a free slot, asleep where it takes long, and returns its number among
     /// its sender's, from 1.
     ///
     /// `Spent` alone, as for `offer`: the wish comes back, and nothing is changed.
@@ -99,7 +99,7 @@ impl<H: Hand> Control<H> {
         hand
     }
 
-    /// Hands in an Unmount, waits for a place, asleep where it takes long, and returns its number
+    /// Hands in an Unmount, waits for a free slot, asleep where it takes long, and returns its number
     /// among the control's, from 1.
     ///
     /// `Spent` alone: the control's last number is used, and nothing is changed.

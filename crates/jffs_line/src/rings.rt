@@ -58,7 +58,7 @@ impl RingHand {
     ghost use Rattle.jffs_line.specs.Rings.{ring_line, ring_accepted};
     ghost use Rattle.jffs_line.specs.declared.request.Why.TheVariants.{Spent, Full};
 
-    /// Hands in a wish, or gives it back. `Full` where the ring has no free place.
+    /// Hands in a wish, or gives it back. `Full` where the ring has no free slot.
     pub fn try_hand_in(&mut self, wish: Wish) -> Result<u32, NotTaken>
         ensures end { (self.new.number ≡ self.old.number) × (ring_line self.new ≡ ring_line self.old) }
         ensures accepted { IfOk result (λ seq. (seq ≡ length (ring_accepted self.old) + 1) × (ring_accepted self.new ≡ ring_accepted self.old ++ request self.old.number seq wish ∷ [])) }
@@ -85,7 +85,7 @@ impl RingHand {
         }
     }
 
-    /// Hands in a wish, and waits for a place, asleep where it takes long. Its one refusal is `Spent`.
+    /// Hands in a wish, and waits for a free slot, asleep where it takes long. Its one refusal is `Spent`.
     pub fn hand_in<R: Wait>(&mut self, rt: &R, wish: Wish) -> Result<u32, NotTaken>
         ensures end { (self.new.number ≡ self.old.number) × (ring_line self.new ≡ ring_line self.old) }
         ensures accepted { IfOk result (λ seq. (seq ≡ length (ring_accepted self.old) + 1) × (ring_accepted self.new ≡ ring_accepted self.old ++ request self.old.number seq wish ∷ [])) }

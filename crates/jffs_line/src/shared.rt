@@ -83,7 +83,7 @@ type Sends = RuledSender<Request, Knows, EachInOrder>;
 
 type Receives = RuledReceiver<Request, Knows, EachInOrder>;
 
-type Place = Pass<Request, Knows>;
+type SharedPass = Pass<Request, Knows>;
 
 /// The shared line, with all its ends.
 pub type SharedLine = Ends<SharedHand, SharedTaker>;
@@ -92,9 +92,9 @@ pub type SharedLine = Ends<SharedHand, SharedTaker>;
 #[derive(Drop)]
 pub struct SharedHand {
     sends: Sends,
-    // Keeps the line open, so that a send which finds no place says that it is full.
+    // Keeps the line open, so that a send which finds no free slot says that it is full.
     open: Receives,
-    pass: Place,
+    pass: SharedPass,
     number: u16,
     last: u32,
     ghost seat: { IsSeatAt (sends_on sends) pass },
@@ -114,7 +114,7 @@ impl SharedHand {
     /// nothing is changed.
     ///
     /// `Spent` if the sender's last number, 4,294,967,295, is used, which is tried first; `Full` if
-    /// all places were taken when it tried.
+    /// all slots were taken when it tried.
     pub fn try_hand_in<R: Wait>(&mut self, rt: &R, wish: Wish) -> Result<u32, NotTaken>
         ensures end { (self.new.number ≡ self.old.number) × (shared_line self.new ≡ shared_line self.old) }
         ensures accepted { IfOk result (λ seq. (seq ≡ length (shared_accepted self.old) + 1) × (shared_accepted self.new ≡ shared_accepted self.old ++ request self.old.number seq wish ∷ [])) }
@@ -154,7 +154,7 @@ impl SharedHand {
         }
         unreachable!()
     }
-    /// Hands in a wish, waits for a place, and returns its number among its sender's, from 1.
+    /// Hands in a wish, waits for a free slot, and returns its number among its sender's, from 1.
     ///
     /// `Spent` alone, as for `try_hand_in`: the wish comes back, and nothing is changed.
     pub fn hand_in<R: Wait>(&mut self, rt: &R, wish: Wish) -> Result<u32, NotTaken>
@@ -227,7 +227,7 @@ const TRIES: u32 = 16;
 #[derive(Drop)]
 pub struct SharedTaker {
     receives: Receives,
-    pass: Place,
+    pass: SharedPass,
     writers: u16,
     ghost seat: { IsSeatAt (receives_on receives) pass },
     ghost few: { writers ≤ 8 },

@@ -54,7 +54,7 @@ fn offered_twice<T: Settle, R: Wait>(rt: &R, alloc: Global, line: Ends<T::Of, T>
     })
 }
 
-fn check_one_place(rt: &impl Abort, offered: Offered) {
+fn check_capacity_one(rt: &impl Abort, offered: Offered) {
     let Offered {
         first,
         second,
@@ -74,13 +74,13 @@ fn check_one_place(rt: &impl Abort, offered: Offered) {
 }
 
 #[test]
-fn line_of_one_place(rt: HostRuntime) -> Result<(), Fail> {
+fn line_of_capacity_one(rt: HostRuntime) -> Result<(), Fail> {
     let alloc = rt.alloc();
-    check_one_place(
+    check_capacity_one(
         &rt,
         offered_twice(&rt, alloc, shared_line(&rt, alloc, 1, 1)?).ok_or("memory")?,
     );
-    check_one_place(
+    check_capacity_one(
         &rt,
         offered_twice(&rt, alloc, ring_line(alloc, 1, 1)?).ok_or("memory")?,
     );

@@ -5,7 +5,7 @@ use Rattle.std.proofs.lemmas.Grind.{flat_map-append}
 use Rattle.std.proofs.lemmas.List.{append-nil}
 use Rattle.std.proofs.lemmas.List.Sums.{sum_by-cons}
 use Rattle.jffs_node.specs.declared.node.Node.{Node}
-use Rattle.jffs_node.specs.Record.{spelling, record_len, dsize, is_lawful, has_place}
+use Rattle.jffs_node.specs.Record.{spelling, record_len, dsize, is_lawful, fits_rest}
 use Rattle.jffs_node.specs.Reading.{Reading, is_erased}
 use Rattle.jffs_node.proofs.Found.{length_spelled}
 use Rattle.jffs_node.proofs.Each.{each_front}
@@ -18,29 +18,29 @@ use Rattle.jffs_log.proofs.SectorSpellings.{reading_open, erased_open}
 use Rattle.jffs_log.proofs.Ring.{Numbered, ring_tail, ring_next, ring_stays, ring_reads}
 use Rattle.jffs_log.proofs.Open.{length-sectors_in, get_or-sectors_in, sector_after, image_after, sectors_after, sector_long, record_short, whole_reads, part_reads, part_used}
 
-placed_more : (sector at : ℕ) (nodes : List Node) (n : Node) → placed_from sector at (nodes ++ n ∷ []) ≡ placed_from sector at nodes ++ record { sector = sector; place = at + sum_by record_len nodes; node = n } ∷ []
-placed_more sector at [] n = let same : at ≡ at + 0 = omega arith in ap (λ k. record { sector = sector; place = k; node = n } ∷ []) same
+placed_more : (sector at : ℕ) (nodes : List Node) (n : Node) → placed_from sector at (nodes ++ n ∷ []) ≡ placed_from sector at nodes ++ record { sector = sector; offset = at + sum_by record_len nodes; node = n } ∷ []
+placed_more sector at [] n = let same : at ≡ at + 0 = omega arith in ap (λ k. record { sector = sector; offset = k; node = n } ∷ []) same
 placed_more sector at (m ∷ nodes) n =
     let e = sum_by-cons record_len m nodes in
     let same : at + record_len m + sum_by record_len nodes ≡ at + sum_by record_len (m ∷ nodes) = omega arith in
-    ap (λ (xs : List Placed). record { sector = sector; place = at; node = m } ∷ xs)
-    (placed_more sector (at + record_len m) nodes n ∙ ap (λ k. placed_from sector (at + record_len m) nodes ++ record { sector = sector; place = k; node = n } ∷ []) same)
+    ap (λ (xs : List Placed). record { sector = sector; offset = at; node = m } ∷ xs)
+    (placed_more sector (at + record_len m) nodes n ∙ ap (λ k. placed_from sector (at + record_len m) nodes ++ record { sector = sector; offset = k; node = n } ∷ []) same)
 
 records_end : (older : List Numbered) (t : Numbered) → flat_map records_in (older ++ t ∷ []) ≡ flat_map records_in older ++ records_in t
 records_end older t = flat_map-append records_in older (t ∷ []) ∙ ap (λ (xs : List Placed). flat_map records_in older ++ xs) (append-nil (records_in t))
 
 -- the tail's records with one more
 end_more : (older : List Numbered) (k : ℕ) (s t : Sector) (nodes : List Node) (n : Node) → s.reading.nodes ≡ nodes → t.reading.nodes ≡ nodes ++ n ∷ []
-    → flat_map records_in (older ++ (k, t) ∷ []) ≡ flat_map records_in (older ++ (k, s) ∷ []) ++ record { sector = k; place = sum_by record_len nodes; node = n } ∷ []
+    → flat_map records_in (older ++ (k, t) ∷ []) ≡ flat_map records_in (older ++ (k, s) ∷ []) ++ record { sector = k; offset = sum_by record_len nodes; node = n } ∷ []
 end_more older k s t nodes n e f =
     let front = flat_map records_in older in
     let zero_first : 0 + sum_by record_len nodes ≡ sum_by record_len nodes = omega arith in
     records_end older (k, t)
     ∙ ap (λ (ns : List Node). front ++ placed_from k 0 ns) f
-    ∙ ap (λ (xs : List Placed). front ++ xs) (placed_more k 0 nodes n ∙ ap (λ j. placed_from k 0 nodes ++ record { sector = k; place = j; node = n } ∷ []) zero_first)
-    ∙ sym (append_assoc front (placed_from k 0 nodes) (record { sector = k; place = sum_by record_len nodes; node = n } ∷ []))
-    ∙ ap (λ (ns : List Node). front ++ placed_from k 0 ns ++ record { sector = k; place = sum_by record_len nodes; node = n } ∷ []) (sym e)
-    ∙ ap (λ (xs : List Placed). xs ++ record { sector = k; place = sum_by record_len nodes; node = n } ∷ []) (sym (records_end older (k, s)))
+    ∙ ap (λ (xs : List Placed). front ++ xs) (placed_more k 0 nodes n ∙ ap (λ j. placed_from k 0 nodes ++ record { sector = k; offset = j; node = n } ∷ []) zero_first)
+    ∙ sym (append_assoc front (placed_from k 0 nodes) (record { sector = k; offset = sum_by record_len nodes; node = n } ∷ []))
+    ∙ ap (λ (ns : List Node). front ++ placed_from k 0 ns ++ record { sector = k; offset = sum_by record_len nodes; node = n } ∷ []) (sym e)
+    ∙ ap (λ (xs : List Placed). xs ++ record { sector = k; offset = sum_by record_len nodes; node = n } ∷ []) (sym (records_end older (k, s)))
 
 end_same : (older : List Numbered) (k : ℕ) (s t : Sector) → s.reading.nodes ≡ t.reading.nodes → flat_map records_in (older ++ (k, t) ∷ []) ≡ flat_map records_in (older ++ (k, s) ∷ [])
 end_same older k s t e = records_end older (k, t) ∙ ap (λ (ns : List Node). flat_map records_in older ++ placed_from k 0 ns) (sym e) ∙ sym (records_end older (k, s))
@@ -66,7 +66,7 @@ blank_open first count len image held blank b whole h =
     let bytes = sector_bytes len b.0 image in
     let erased : is_erased bytes ≡ true = ap (λ (s : Sector). s.erased) (sym there.1) ∙ h.unused.0 in
     let filled = only 255 bytes erased in
-    let any : IsOpenSector count len image b.0 [] (length bytes) = record { whole = whole; below = there.0; holds = record { spelled = filled; in_place = tt } } in
+    let any : IsOpenSector count len image b.0 [] (length bytes) = record { whole = whole; below = there.0; holds = record { spelled = filled; fit = tt } } in
     subst (IsOpenSector count len image b.0 []) (sector_long count len image b.0 [] (length bytes) any) any
 
 -- What is written into the tail.
@@ -86,9 +86,9 @@ module _ (first count len : ℕ) (image : List ℕ) (older blank : List Numbered
   abbrev pub tail_after : List ℕ → Numbered
   tail_after part = (t.0, sector_of (sector_after count len image t.0 nodes free h part))
 
-  pub tail_whole : (n : Node) → is_lawful n ≡ true → has_place n.kind (dsize n) (len / 4) free ≡ true
+  pub tail_whole : (n : Node) → is_lawful n ≡ true → fits_rest n.kind (dsize n) (len / 4) free ≡ true
       → IsRing first (sectors_in count len (image_after count len image t.0 nodes free h (spelling n))) (older ++ tail_after (spelling n) ∷ []) blank
-      × (flat_map records_in (older ++ tail_after (spelling n) ∷ []) ≡ flat_map records_in (older ++ t ∷ []) ++ record { sector = t.0; place = sum_by record_len nodes; node = n } ∷ [])
+      × (flat_map records_in (older ++ tail_after (spelling n) ∷ []) ≡ flat_map records_in (older ++ t ∷ []) ++ record { sector = t.0; offset = sum_by record_len nodes; node = n } ∷ [])
   tail_whole n lawful fits =
       let reads = whole_reads count len image t.0 nodes free h n lawful fits in
       let short = record_short count len image t.0 nodes free h n lawful fits in
@@ -123,9 +123,9 @@ module _ (first count len : ℕ) (image : List ℕ) (held blank : List Numbered)
   abbrev pub next_after : List ℕ → Numbered
   next_after part = (b.0, sector_of (sector_after count len image b.0 [] len next_open part))
 
-  pub next_whole : (n : Node) → is_lawful n ≡ true → has_place n.kind (dsize n) (len / 4) len ≡ true
+  pub next_whole : (n : Node) → is_lawful n ≡ true → fits_rest n.kind (dsize n) (len / 4) len ≡ true
       → IsRing first (sectors_in count len (image_after count len image b.0 [] len next_open (spelling n))) (held ++ next_after (spelling n) ∷ []) blank
-      × (flat_map records_in (held ++ next_after (spelling n) ∷ []) ≡ flat_map records_in held ++ record { sector = b.0; place = 0; node = n } ∷ [])
+      × (flat_map records_in (held ++ next_after (spelling n) ∷ []) ≡ flat_map records_in held ++ record { sector = b.0; offset = 0; node = n } ∷ [])
   next_whole n lawful fits =
       let reads = whole_reads count len image b.0 [] len next_open n lawful fits in
       let short = record_short count len image b.0 [] len next_open n lawful fits in

@@ -1,4 +1,4 @@
--- What the book of a log owes where a record is appended.
+-- What the index of a log owes where a record is appended.
 use Rattle.std.proofs.Common.{◌≡◌, ◌≢◌, ◌⊎◌, inl, inr, ℕ, ◌+◌, ◌-◌, ◌*◌, ◌/◌, ◌<◌, ◌≤◌, Bool, true, false, ◌&&◌, ◌||◌, leb, eqb, List, [], ◌∷◌, ◌++◌, length, take, drop, map, flat_map, replicate, get_or, sum_by, refl, sym, ap, subst, ◌∙◌, arith, length-append, None}
 use Rattle.std.specs.List.{last_or, AllByRecursion}
 use Rattle.std.proofs.Math.Bool.{and-true}
@@ -9,11 +9,11 @@ use Rattle.std.proofs.lemmas.Bool.{and_parts, leb-true, eqb-true}
 use Rattle.std.proofs.lemmas.List.Sums.{sum_by-cons, sum_by-append}
 use Rattle.std.proofs.lemmas.List.{take-take, drop-take, drop-drop, take-replicate, map-append}
 use Rattle.jffs_node.specs.declared.node.Node.{Node}
-use Rattle.jffs_node.specs.Record.{spelling, record_len, dsize, is_lawful, is_unmount, has_place}
+use Rattle.jffs_node.specs.Record.{spelling, record_len, dsize, is_lawful, is_unmount, fits_rest}
 use Rattle.jffs_node.proofs.Found.{length_spelled}
 use Rattle.jffs_flash.specs.Image.{window, replaced}
 use Rattle.jffs_flash.specs.Sizes.{is_sector_size, is_geometry}
-use Rattle.jffs_log.specs.declared.book.Kept.{Kept}
+use Rattle.jffs_log.specs.declared.log_index.RecordRef.{RecordRef}
 use Rattle.jffs_log.specs.Image.{Sector, Placed, sector_of, records_in, log_sectors, free_in, free_of_tail, ends_with_unmount, is_free, is_clean, is_clean_tail}
 use Rattle.jffs_log.specs.Cleaning.{in_last}
 use Rattle.jffs_log.specs.Sector.{spellings}
@@ -21,9 +21,9 @@ use Rattle.jffs_log.specs.Volume.{sector_bytes, sectors_in}
 use Rattle.jffs_log.specs.Ring.{IsRing, IsAt}
 use Rattle.jffs_log.specs.Live.{IsSound, IsReadable, IsOpenSector, live_log}
 use Rattle.jffs_log.specs.Gate.{IsWritten}
-use Rattle.jffs_log.specs.Book.{kept, HasTail, IsKept, placed_at}
-use Rattle.jffs_log.proofs.SectorSpellings.{length_spellings, in_place_fits, record_long}
-use Rattle.jffs_log.proofs.Ring.{Numbered, nodes_by_sector, last_end, ring_log, ring_lengths, at_once, place_in_ring}
+use Rattle.jffs_log.specs.LogIndex.{ref_of, HasTail, Describes, placed_at}
+use Rattle.jffs_log.proofs.SectorSpellings.{length_spellings, rest_fits, record_long}
+use Rattle.jffs_log.proofs.Ring.{Numbered, nodes_by_sector, last_end, ring_log, ring_lengths, at_once, number_in_ring}
 use Rattle.jffs_log.proofs.Volume.{length-replaced}
 use Rattle.jffs_log.proofs.Open.{length-sectors_in, sector_after, sectors_after, room_is, inside, record_short, whole_reads, whole_open, part_sound}
 use Rattle.jffs_log.proofs.Append.{tail_nodes, tail_after, tail_whole, tail_part, next_open, next_after, next_whole, next_part}
@@ -63,14 +63,14 @@ module _ (count len : ℕ) (image : List ℕ) (k : ℕ) (nodes : List Node) (fre
 
   pub open_erased : (amount : ℕ) → amount ≤ free → window (k * len + sum_by record_len nodes) amount image ≡ replicate amount 255
   open_erased amount short =
-      let place = sum_by record_len nodes in
+      let offset = sum_by record_len nodes in
       let bytes = sector_bytes len k image in
       let r = room_is count len image k nodes free h in
-      let front : length (spellings nodes) ≡ place = length_spellings (length bytes / 4) (length bytes) nodes h.holds.in_place in
-      let rest : drop place bytes ≡ replicate free 255 = ap (λ j. drop j bytes) (sym front) ∙ ap (λ (xs : List ℕ). drop (length (spellings nodes)) xs) h.holds.spelled ∙ drop-append_seam (spellings nodes) (replicate free 255) in
-      let cut : drop place bytes ≡ take free (drop (k * len + place) image) =
-      ap (λ j. drop place (take j (drop (k * len) image))) (sym r) ∙ drop-take place free (drop (k * len) image) ∙ ap (take free) (drop-drop place (k * len) image) in
-      sym (take-take amount free (drop (k * len + place) image) short)
+      let front : length (spellings nodes) ≡ offset = length_spellings (length bytes / 4) (length bytes) nodes h.holds.fit in
+      let rest : drop offset bytes ≡ replicate free 255 = ap (λ j. drop j bytes) (sym front) ∙ ap (λ (xs : List ℕ). drop (length (spellings nodes)) xs) h.holds.spelled ∙ drop-append_seam (spellings nodes) (replicate free 255) in
+      let cut : drop offset bytes ≡ take free (drop (k * len + offset) image) =
+      ap (λ j. drop offset (take j (drop (k * len) image))) (sym r) ∙ drop-take offset free (drop (k * len) image) ∙ ap (take free) (drop-drop offset (k * len) image) in
+      sym (take-take amount free (drop (k * len + offset) image) short)
       ∙ ap (take amount) (sym cut ∙ rest)
       ∙ take-replicate amount free 255 short
 
@@ -78,16 +78,16 @@ abbrev pub Tail : ℕ → ℕ → List ℕ → List Numbered → ℕ → ℕ →
 Tail count len image held tail used free = HasTail count len image held tail used free
 
 -- Where a record fits the tail, the tail is open.
-pub tail_of : (count len : ℕ) (image : List ℕ) (held : List Numbered) (tail used free : ℕ) (n : Node) → (free ≡ 0) ⊎ HasTail count len image held tail used free → has_place n.kind (dsize n) (len / 4) free ≡ true
+pub tail_of : (count len : ℕ) (image : List ℕ) (held : List Numbered) (tail used free : ℕ) (n : Node) → (free ≡ 0) ⊎ HasTail count len image held tail used free → fits_rest n.kind (dsize n) (len / 4) free ≡ true
     → HasTail count len image held tail used free
 tail_of count len image held tail used free n (inl none) fits =
-    let short = in_place_fits n.kind (dsize n) (len / 4) free fits in
+    let short = rest_fits n.kind (dsize n) (len / 4) free fits in
     let long = record_long n in
     absurd (omega arith)
 tail_of count len image held tail used free n (inr t) fits = t
 
-kept_more : (held more : List Placed) (p : Placed) → more ≡ held ++ p ∷ [] → map kept more ≡ map kept held ++ kept p ∷ []
-kept_more held more p e = ap (map kept) e ∙ map-append kept held (p ∷ [])
+refs_more : (held more : List Placed) (p : Placed) → more ≡ held ++ p ∷ [] → map ref_of more ≡ map ref_of held ++ ref_of p ∷ []
+refs_more held more p e = ap (map ref_of) e ∙ map-append ref_of held (p ∷ [])
 
 sum_more : (nodes : List Node) (n : Node) → sum_by record_len nodes + record_len n ≡ sum_by record_len (nodes ++ n ∷ [])
 sum_more nodes n =
@@ -116,14 +116,14 @@ clean_at_end older last nodes n reads =
     ∙ and-true (ends_with_unmount (nodes ++ n ∷ []))
     ∙ unmount_last nodes n
 
-pub kept_readable : (count len : ℕ) (image : List ℕ) (first many tail used free : ℕ) (records : List Kept) → IsKept count len image first many tail used free records → IsReadable (sectors_in count len image)
-kept_readable count len image first many tail used free records h = ring_readable first (sectors_in count len image) h.held h.blank h.ring h.sound
+pub described_readable : (count len : ℕ) (image : List ℕ) (first many tail used free : ℕ) (records : List RecordRef) → Describes count len image first many tail used free records → IsReadable (sectors_in count len image)
+described_readable count len image first many tail used free records h = ring_readable first (sectors_in count len image) h.held h.blank h.ring h.sound
 
-pub kept_live : (count len : ℕ) (image : List ℕ) (first many tail used free : ℕ) (records : List Kept) (h : IsKept count len image first many tail used free records) → live_log count len image ≡ flat_map records_in h.held
-kept_live count len image first many tail used free records h = ring_live first (sectors_in count len image) h.held h.blank h.ring
+pub described_live : (count len : ℕ) (image : List ℕ) (first many tail used free : ℕ) (records : List RecordRef) (h : Describes count len image first many tail used free records) → live_log count len image ≡ flat_map records_in h.held
+described_live count len image first many tail used free records h = ring_live first (sectors_in count len image) h.held h.blank h.ring
 
 -- the sectors stay sound
-sound_whole : (count len : ℕ) (image : List ℕ) (k : ℕ) (nodes : List Node) (free : ℕ) (o : IsOpenSector count len image k nodes free) (n : Node) (lawful : is_lawful n ≡ true) (fits : has_place n.kind (dsize n) (len / 4) free ≡ true)
+sound_whole : (count len : ℕ) (image : List ℕ) (k : ℕ) (nodes : List Node) (free : ℕ) (o : IsOpenSector count len image k nodes free) (n : Node) (lawful : is_lawful n ≡ true) (fits : fits_rest n.kind (dsize n) (len / 4) free ≡ true)
     → AllByRecursion (λ s. IsSound s.reading.ending) (sectors_in count len image) → AllByRecursion (λ s. IsSound s.reading.ending) (sectors_in count len (replaced (k * len + sum_by record_len nodes) (spelling n) image))
 sound_whole count len image k nodes free o n lawful fits sound =
     let short = record_short count len image k nodes free o n lawful fits in
@@ -138,12 +138,12 @@ sound_part count len image k nodes free o part short long gate sound =
     subst (AllByRecursion (λ s. IsSound s.reading.ending)) (sym (sectors_after count len image k nodes free o part short))
     (sound_set (sectors_in count len image) k (sector_of (sector_after count len image k nodes free o part)) sound (part_sound count len image k nodes free o part short long gate))
 
-abbrev pub Appended : (count len : ℕ) (image : List ℕ) (first many left : ℕ) (records : List Kept) (n : Node) (by_sector : List (List Node)) (k place : ℕ) → Type 0
-Appended count len image first many left records n by_sector k place =
-    IsKept count len (replaced (k * len + place) (spelling n) image) first many k (place + record_len n) left (records ++ kept (placed_at k place n) ∷ [])
-    × (live_log count len (replaced (k * len + place) (spelling n) image) ≡ live_log count len image ++ placed_at k place n ∷ [])
-    × (nodes_by_sector (log_sectors (sectors_in count len (replaced (k * len + place) (spelling n) image))) ≡ by_sector)
-    × (is_clean (sectors_in count len (replaced (k * len + place) (spelling n) image)) ≡ is_unmount n.kind)
+abbrev pub Appended : (count len : ℕ) (image : List ℕ) (first many left : ℕ) (records : List RecordRef) (n : Node) (by_sector : List (List Node)) (k offset : ℕ) → Type 0
+Appended count len image first many left records n by_sector k offset =
+    Describes count len (replaced (k * len + offset) (spelling n) image) first many k (offset + record_len n) left (records ++ ref_of (placed_at k offset n) ∷ [])
+    × (live_log count len (replaced (k * len + offset) (spelling n) image) ≡ live_log count len image ++ placed_at k offset n ∷ [])
+    × (nodes_by_sector (log_sectors (sectors_in count len (replaced (k * len + offset) (spelling n) image))) ≡ by_sector)
+    × (is_clean (sectors_in count len (replaced (k * len + offset) (spelling n) image)) ≡ is_unmount n.kind)
 
 -- the nodes of the log by sectors
 abbrev pub logged : ℕ → ℕ → List ℕ → List (List Node)
@@ -154,13 +154,13 @@ by_sector_more [] t last n e = ap (λ (ns : List Node). ns ∷ []) e
 by_sector_more (x ∷ []) t last n e = ap (λ (ns : List Node). x.1.reading.nodes ∷ ns ∷ []) e
 by_sector_more (x ∷ y ∷ older) t last n e = ap (λ (xs : List (List Node)). x.1.reading.nodes ∷ xs) (by_sector_more (y ∷ older) t last n e)
 
-abbrev pub Cut : (count len : ℕ) (image new : List ℕ) (n : Node) (k place : ℕ) → Type 0
-Cut count len image new n k place =
-    IsReadable (sectors_in count len new) × ((live_log count len new ≡ live_log count len image) ⊎ (live_log count len new ≡ live_log count len image ++ placed_at k place n ∷ []))
+abbrev pub Cut : (count len : ℕ) (image new : List ℕ) (n : Node) (k offset : ℕ) → Type 0
+Cut count len image new n k offset =
+    IsReadable (sectors_in count len new) × ((live_log count len new ≡ live_log count len image) ⊎ (live_log count len new ≡ live_log count len image ++ placed_at k offset n ∷ []))
 
 -- A whole record stands in the tail.
-pub tail_appended : (count len : ℕ) (image : List ℕ) (first many tail used free : ℕ) (records : List Kept) (n : Node) → IsKept count len image first many tail used free records
-    → is_lawful n ≡ true → has_place n.kind (dsize n) (len / 4) free ≡ true → Appended count len image first many (free - record_len n) records n (in_last n (logged count len image)) tail used
+pub tail_appended : (count len : ℕ) (image : List ℕ) (first many tail used free : ℕ) (records : List RecordRef) (n : Node) → Describes count len image first many tail used free records
+    → is_lawful n ≡ true → fits_rest n.kind (dsize n) (len / 4) free ≡ true → Appended count len image first many (free - record_len n) records n (in_last n (logged count len image)) tail used
 tail_appended count len image first many tail used free records n h lawful fits =
     let t = tail_of count len image h.held tail used free n h.room fits in
     let k = t.last.0 in
@@ -198,9 +198,9 @@ tail_appended count len image first many tail used free records n h lawful fits 
             let sum = sum_more t.nodes n in
             let r = room_is count len image k t.nodes free o in
             omega arith));
-        listed = ap (λ (xs : List Kept). xs ++ kept (placed_at k (sum_by record_len t.nodes) n) ∷ []) h.listed ∙ sym (kept_more (flat_map records_in h.held) _ (placed_at k (sum_by record_len t.nodes) n) logs);
+        listed = ap (λ (xs : List RecordRef). xs ++ ref_of (placed_at k (sum_by record_len t.nodes) n) ∷ []) h.listed ∙ sym (refs_more (flat_map records_in h.held) _ (placed_at k (sum_by record_len t.nodes) n) logs);
       },
-      ring_live first _ (t.older ++ last ∷ []) h.blank new.0 ∙ logs ∙ ap (λ (xs : List Placed). xs ++ placed_at k (sum_by record_len t.nodes) n ∷ []) (sym (kept_live count len image first many tail used free records h)),
+      ring_live first _ (t.older ++ last ∷ []) h.blank new.0 ∙ logs ∙ ap (λ (xs : List Placed). xs ++ placed_at k (sum_by record_len t.nodes) n ∷ []) (sym (described_live count len image first many tail used free records h)),
       ap nodes_by_sector (ring_log first _ (t.older ++ last ∷ []) h.blank new.0).0
           ∙ by_sector_more t.older t.last last n (
           ap (λ (s : Sector). s.reading.nodes) (whole_reads count len image k t.nodes free o n lawful fits)
@@ -213,8 +213,8 @@ tail_appended count len image first many tail used free records n h lawful fits 
     (subst (λ j. Appended count len image first many (free - record_len n) records n (in_last n (logged count len image)) j (sum_by record_len t.nodes)) t.number at_end)
 
 -- What a failed write in the tail leaves.
-pub tail_cut : (count len : ℕ) (image new : List ℕ) (first many tail used free : ℕ) (records : List Kept) (n : Node) → IsKept count len image first many tail used free records
-    → is_lawful n ≡ true → has_place n.kind (dsize n) (len / 4) free ≡ true → IsWritten (tail * len + used) n image new → Cut count len image new n tail used
+pub tail_cut : (count len : ℕ) (image new : List ℕ) (first many tail used free : ℕ) (records : List RecordRef) (n : Node) → Describes count len image first many tail used free records
+    → is_lawful n ≡ true → fits_rest n.kind (dsize n) (len / 4) free ≡ true → IsWritten (tail * len + used) n image new → Cut count len image new n tail used
 tail_cut count len image new first many tail used free records n h lawful fits written =
     subst (λ (xs : List ℕ). Cut count len image xs n tail used) (sym written.rest) (by_state written.part written.state)
   where
@@ -222,7 +222,7 @@ tail_cut count len image new first many tail used free records n h lawful fits w
     by_state part (inl all) =
         let a = tail_appended count len image first many tail used free records n h lawful fits in
         subst (λ (xs : List ℕ). Cut count len image (replaced (tail * len + used) xs image) n tail used) (sym all)
-        (kept_readable count len _ first many tail (used + record_len n) (free - record_len n) _ a.0, inr a.1)
+        (described_readable count len _ first many tail (used + record_len n) (free - record_len n) _ a.0, inr a.1)
     by_state part (inr open_gate) =
         let t = tail_of count len image h.held tail used free n h.room fits in
         let k = t.last.0 in
@@ -235,22 +235,22 @@ tail_cut count len image new first many tail used free records n h lawful fits w
         let sound = sound_part count len image k t.nodes free t.opened part fits_part long_part open_gate.1 h.sound in
         let at_end : Cut count len image (replaced (k * len + sum_by record_len t.nodes) part image) n k (sum_by record_len t.nodes) = (
           ring_readable first _ _ h.blank new_ring.0 sound,
-          inl (ring_live first _ _ h.blank new_ring.0 ∙ new_ring.1 ∙ ap (flat_map records_in) (sym t.end) ∙ sym (kept_live count len image first many tail used free records h)),
+          inl (ring_live first _ _ h.blank new_ring.0 ∙ new_ring.1 ∙ ap (flat_map records_in) (sym t.end) ∙ sym (described_live count len image first many tail used free records h)),
         ) in
         subst (λ u. Cut count len image (replaced (tail * len + u) part image) n tail u) (sym t.filled)
         (subst (λ j. Cut count len image (replaced (j * len + sum_by record_len t.nodes) part image) n j (sum_by record_len t.nodes)) t.number at_end)
 
 -- What a write into the tail may rely on.
-pub record IsReady (count len : ℕ) (image : List ℕ) (k place amount : ℕ) : Type 0 where
-  pub inside : k * len + place + amount ≤ length image
-  pub erased : window (k * len + place) amount image ≡ replicate amount 255
+pub record IsReady (count len : ℕ) (image : List ℕ) (k offset amount : ℕ) : Type 0 where
+  pub inside : k * len + offset + amount ≤ length image
+  pub erased : window (k * len + offset) amount image ≡ replicate amount 255
   pub short : length image ≤ 1048576
 
-pub tail_ready : (count len : ℕ) (image : List ℕ) (first many tail used free : ℕ) (records : List Kept) (n : Node) → IsKept count len image first many tail used free records
-    → has_place n.kind (dsize n) (len / 4) free ≡ true → IsReady count len image tail used (record_len n)
+pub tail_ready : (count len : ℕ) (image : List ℕ) (first many tail used free : ℕ) (records : List RecordRef) (n : Node) → Describes count len image first many tail used free records
+    → fits_rest n.kind (dsize n) (len / 4) free ≡ true → IsReady count len image tail used (record_len n)
 tail_ready count len image first many tail used free records n h fits =
     let t = tail_of count len image h.held tail used free n h.room fits in
-    let short = in_place_fits n.kind (dsize n) (len / 4) free fits in
+    let short = rest_fits n.kind (dsize n) (len / 4) free fits in
     let at_end : IsReady count len image t.last.0 (sum_by record_len t.nodes) (record_len n) = record {
       inside = open_inside count len image t.last.0 t.nodes free t.opened (record_len n) short;
       erased = open_erased count len image t.last.0 t.nodes free t.opened (record_len n) short;
@@ -275,7 +275,7 @@ next_of first count len image held [] many next h counted room at =
 next_of first count len image held (b ∷ blank) many next h counted room at =
     let e = ring_lengths first (sectors_in count len image) held (b ∷ blank) h in
     let f = length-sectors_in count len image in
-    let there = place_in_ring first (sectors_in count len image) held blank b h.inside h.order in
+    let there = number_in_ring first (sectors_in count len image) held blank b h.inside h.order in
     record {
       sector = b;
       others = blank;
@@ -285,8 +285,8 @@ next_of first count len image held (b ∷ blank) many next h counted room at =
     }
 
 -- A whole record stands in the next sector.
-pub next_appended : (count len : ℕ) (image : List ℕ) (first many tail used free next : ℕ) (records : List Kept) (n : Node) → IsKept count len image first many tail used free records
-    → many + 2 ≤ count → IsAt first count many next → is_lawful n ≡ true → has_place n.kind (dsize n) (len / 4) len ≡ true → Appended count len image first (many + 1) (len - record_len n) records n (logged count len image ++ (n ∷ []) ∷ []) next 0
+pub next_appended : (count len : ℕ) (image : List ℕ) (first many tail used free next : ℕ) (records : List RecordRef) (n : Node) → Describes count len image first many tail used free records
+    → many + 2 ≤ count → IsAt first count many next → is_lawful n ≡ true → fits_rest n.kind (dsize n) (len / 4) len ≡ true → Appended count len image first (many + 1) (len - record_len n) records n (logged count len image ++ (n ∷ []) ∷ []) next 0
 next_appended count len image first many tail used free next records n h room at lawful fits =
     let x = next_of first count len image h.held h.blank many next h.ring h.counted room at in
     let k = x.sector.0 in
@@ -321,9 +321,9 @@ next_appended count len image first many tail used free next records n h room at
             let sum = sum_more [] n in
             let none : sum_by record_len [] ≡ 0 = refl in
             omega arith));
-        listed = ap (λ (xs : List Kept). xs ++ kept (placed_at k 0 n) ∷ []) h.listed ∙ sym (kept_more (flat_map records_in h.held) _ (placed_at k 0 n) new.1);
+        listed = ap (λ (xs : List RecordRef). xs ++ ref_of (placed_at k 0 n) ∷ []) h.listed ∙ sym (refs_more (flat_map records_in h.held) _ (placed_at k 0 n) new.1);
       },
-      ring_live first _ (h.held ++ last ∷ []) x.others new.0 ∙ new.1 ∙ ap (λ (xs : List Placed). xs ++ placed_at k 0 n ∷ []) (sym (kept_live count len image first many tail used free records h)),
+      ring_live first _ (h.held ++ last ∷ []) x.others new.0 ∙ new.1 ∙ ap (λ (xs : List Placed). xs ++ placed_at k 0 n ∷ []) (sym (described_live count len image first many tail used free records h)),
       ap nodes_by_sector (ring_log first _ (h.held ++ last ∷ []) x.others new.0).0
           ∙ map-append (λ (s : Numbered). s.1.reading.nodes) h.held (last ∷ [])
           ∙ ap (λ (ns : List Node). nodes_by_sector h.held ++ ns ∷ []) (ap (λ (s : Sector). s.reading.nodes) (whole_reads count len image k [] len o n lawful fits))
@@ -334,8 +334,8 @@ next_appended count len image first many tail used free next records n h room at
     subst (λ j. Appended count len image first (many + 1) (len - record_len n) records n (logged count len image ++ (n ∷ []) ∷ []) j 0) x.number at_end
 
 -- What a failed write in the next sector leaves.
-pub next_cut : (count len : ℕ) (image new : List ℕ) (first many tail used free next : ℕ) (records : List Kept) (n : Node) → IsKept count len image first many tail used free records
-    → many + 2 ≤ count → IsAt first count many next → is_lawful n ≡ true → has_place n.kind (dsize n) (len / 4) len ≡ true → IsWritten (next * len + 0) n image new → Cut count len image new n next 0
+pub next_cut : (count len : ℕ) (image new : List ℕ) (first many tail used free next : ℕ) (records : List RecordRef) (n : Node) → Describes count len image first many tail used free records
+    → many + 2 ≤ count → IsAt first count many next → is_lawful n ≡ true → fits_rest n.kind (dsize n) (len / 4) len ≡ true → IsWritten (next * len + 0) n image new → Cut count len image new n next 0
 next_cut count len image new first many tail used free next records n h room at lawful fits written =
     subst (λ (xs : List ℕ). Cut count len image xs n next 0) (sym written.rest) (by_state written.part written.state)
   where
@@ -343,7 +343,7 @@ next_cut count len image new first many tail used free next records n h room at 
     by_state part (inl all) =
         let a = next_appended count len image first many tail used free next records n h room at lawful fits in
         subst (λ (xs : List ℕ). Cut count len image (replaced (next * len + 0) xs image) n next 0) (sym all)
-        (kept_readable count len _ first (many + 1) next (0 + record_len n) (len - record_len n) _ a.0, inr a.1)
+        (described_readable count len _ first (many + 1) next (0 + record_len n) (len - record_len n) _ a.0, inr a.1)
     by_state part (inr open_gate) =
         let x = next_of first count len image h.held h.blank many next h.ring h.counted room at in
         let k = x.sector.0 in
@@ -357,17 +357,17 @@ next_cut count len image new first many tail used free next records n h room at 
         let sound = sound_part count len image k [] len o part fits_part long_part open_gate.1 h.sound in
         let at_end : Cut count len image (replaced (k * len + 0) part image) n k 0 = (
           ring_readable first _ left.held left.blank left.ring sound,
-          inl (ring_live first _ left.held left.blank left.ring ∙ left.log_is ∙ sym (kept_live count len image first many tail used free records h)),
+          inl (ring_live first _ left.held left.blank left.ring ∙ left.log_is ∙ sym (described_live count len image first many tail used free records h)),
         ) in
         subst (λ j. Cut count len image (replaced (j * len + 0) part image) n j 0) x.number at_end
 
-pub next_ready : (count len : ℕ) (image : List ℕ) (first many tail used free next : ℕ) (records : List Kept) (n : Node) → IsKept count len image first many tail used free records
-    → many + 2 ≤ count → IsAt first count many next → has_place n.kind (dsize n) (len / 4) len ≡ true → IsReady count len image next 0 (record_len n)
+pub next_ready : (count len : ℕ) (image : List ℕ) (first many tail used free next : ℕ) (records : List RecordRef) (n : Node) → Describes count len image first many tail used free records
+    → many + 2 ≤ count → IsAt first count many next → fits_rest n.kind (dsize n) (len / 4) len ≡ true → IsReady count len image next 0 (record_len n)
 next_ready count len image first many tail used free next records n h room at fits =
     let x = next_of first count len image h.held h.blank many next h.ring h.counted room at in
     let ring = subst (λ (xs : List Numbered). IsRing first (sectors_in count len image) h.held xs) x.blank_is h.ring in
     let o = next_open first count len image h.held x.others x.sector h.whole ring x.some in
-    let short = in_place_fits n.kind (dsize n) (len / 4) len fits in
+    let short = rest_fits n.kind (dsize n) (len / 4) len fits in
     let at_end : IsReady count len image x.sector.0 0 (record_len n) = record {
       inside = open_inside count len image x.sector.0 [] len o (record_len n) short;
       erased = open_erased count len image x.sector.0 [] len o (record_len n) short;
@@ -375,8 +375,8 @@ next_ready count len image first many tail used free next records n h room at fi
     } in
     subst (λ k. IsReady count len image k 0 (record_len n)) x.number at_end
 
-pub kept_inside : (count len : ℕ) (image : List ℕ) (first many tail used free : ℕ) (records : List Kept) → IsKept count len image first many tail used free records → (first < count) × (count ≤ 64)
-kept_inside count len image first many tail used free records h =
+pub described_inside : (count len : ℕ) (image : List ℕ) (first many tail used free : ℕ) (records : List RecordRef) → Describes count len image first many tail used free records → (first < count) × (count ≤ 64)
+described_inside count len image first many tail used free records h =
     let f = length-sectors_in count len image in
     let i = h.ring.inside in
     (omega arith, (sizes_small count len h.sizes).0)

@@ -9,7 +9,7 @@ use Rattle.jffs_log.specs.declared.room.Room.{Room}
 use Rattle.jffs_log.specs.declared.room.Room.TheVariants.{Fresh, Unmount}
 use Rattle.jffs_log.specs.declared.room.Room.TheVariants as rooms
 use Rattle.jffs_log.specs.Room.{heavy, has_room, tail_need}
-use Rattle.jffs_log.specs.Cleaning.{Session, is_history, put, copied, with_copy, handled, cleaned, fresh_has_room, room_made, cleanings, oldest_records, handled_each}
+use Rattle.jffs_log.specs.Cleaning.{GcState, is_history, put, copied, with_copy, handled, cleaned, fresh_has_room, room_made, cleanings, oldest_records, handled_each}
 use Rattle.std.specs.List.{AllByRecursion}
 use Rattle.jffs_log.specs.RoomLaws.{Among, CopiesKeepSound, HandledAreDead, IsSound, CopiesTakeOver, UnmountNodesAreDead, CleaningHasRoom, CleaningMayStop, PutsKeepErased, FreshKeepsTwo, PutsKeepSound, ErasingKeepsSound, MakingRoomKeepsSound, FullLogsFill, FullLogsAreHeavy, CleaningsAreFew, UnmountHasRoom}
 use Rattle.jffs_log.proofs.Sectors.{needs_more, needs_itself}
@@ -22,11 +22,11 @@ full_at_start : (z free : ℕ) (sectors : List (List Node)) → IsFull z free (l
 full_at_start z free [] = tt
 full_at_start z free (s ∷ sectors) = full_at_start z free sectors
 
-pub start : (total z : ℕ) (s : Session) → IsSound total z s → 2 ≤ s.log.erased → IsTurn total z (charged (live_in s.past) (length s.log.sectors) s.log.sectors) (length s.log.sectors) s
+pub start : (total z : ℕ) (s : GcState) → IsSound total z s → 2 ≤ s.log.erased → IsTurn total z (charged (live_in s.past) (length s.log.sectors) s.log.sectors) (length s.log.sectors) s
 start total z s sound two = record { sound = sound; two = two; charge = omega arith; full = full_at_start z s.log.free s.log.sectors }
 
--- so many sectors and one more
-one_less : (total z weight k : ℕ) (s : Session) → 2 ≤ k → IsTurn total z weight k s → (left : ℕ) × IsTurn total z weight (suc left) s
+-- a k of at least 2 is one more than another number
+one_less : (total z weight k : ℕ) (s : GcState) → 2 ≤ k → IsTurn total z weight k s → (left : ℕ) × IsTurn total z weight (suc left) s
 one_less total z weight zero s h w = absurd (omega arith)
 one_less total z weight (suc left) s h w = (left, w)
 
@@ -47,14 +47,14 @@ module _ (takes : CopiesTakeOver) (unmounts : UnmountNodesAreDead) where
       (e.sound, ⊎_elim (λ f. omega arith) (λ f. let g = f.0 in omega arith) e.space)
 
   module _ (total z weight len : ℕ) (low : 64 ≤ z) (enough : 6 ≤ total) where
-    pub no_room : (s : Session) → fresh_has_room len s ≡ false → (s.log.free < len + 64) × (s.log.erased < 4)
+    pub no_room : (s : GcState) → fresh_has_room len s ≡ false → (s.log.free < len + 64) × (s.log.erased < 4)
     no_room s h =
         let a = ⊎_elim (λ l. l) (λ g. absurd (both_ways _ h (or_left (leb (len + 64) s.log.free) (leb 4 s.log.erased) (le-leb (len + 64) s.log.free g)))) (cases_lt s.log.free (len + 64)) in
         let b = ⊎_elim (λ l. l) (λ g. absurd (both_ways _ h (or_right (leb (len + 64) s.log.free) (leb 4 s.log.erased) (le-leb 4 s.log.erased g)))) (cases_lt s.log.erased 4) in
         (a, b)
 
     -- the turn ends with room, or with no sector left
-    made : (left : ℕ) (s : Session) → IsTurn total z weight left s → (k : ℕ) × IsTurn total z weight k (room_made z len left s) × ((fresh_has_room len (room_made z len left s) ≡ true) ⊎ (k ≡ 0))
+    made : (left : ℕ) (s : GcState) → IsTurn total z weight left s → (k : ℕ) × IsTurn total z weight k (room_made z len left s) × ((fresh_has_room len (room_made z len left s) ≡ true) ⊎ (k ≡ 0))
     made zero s w = (0, w, inr refl)
     made (suc left) s w = ⊎_elim
         (λ has.
@@ -100,7 +100,7 @@ module _ (takes : CopiesTakeOver) (unmounts : UnmountNodesAreDead) where
       let less : heavy total z ≤ (total - 3) * full_at z = mul-le-mul_right (full_at z) (omega arith) in
       omega arith
 
-  few_cleanings : (z len left : ℕ) (s : Session) → cleanings z len left s ≤ left
+  few_cleanings : (z len left : ℕ) (s : GcState) → cleanings z len left s ≤ left
   few_cleanings z len zero s = omega arith
   few_cleanings z len (suc left) s = ⊎_elim
       (λ has. subst (λ t. cond t 0 (1 + cleanings z len left (cleaned z s)) ≤ suc left) (sym has) (omega arith))
@@ -126,7 +126,7 @@ unmount_len n h =
     let none = eqb-true (dsize n) 0 parts.1 in
     (parts.0, ap len_of_data none)
 
-module _ (total z : ℕ) (n : Node) (s : Session) (sound : IsSound total z s) (history : is_history (n ∷ s.past) ≡ true) (short : record_len n ≤ z / 4) where
+module _ (total z : ℕ) (n : Node) (s : GcState) (sound : IsSound total z s) (history : is_history (n ∷ s.past) ≡ true) (short : record_len n ≤ z / 4) where
   more_sound : (room : Room) → tail_need room (record_len n) ≡ record_len n + 64 → has_room room (record_len n) s.log.free s.log.erased ≡ true → IsSound total z (record { past = n ∷ s.past; log = put z room n s.log })
   more_sound room need has = put_by (λ l. IsSound total z (record { past = n ∷ s.past; log = l })) z room n s.log
       (λ fits. tail_sound total z (record_len n + 64) n s sound history (needs_more n) (omega arith) short (omega arith))
@@ -161,13 +161,13 @@ module _ (takes : CopiesTakeOver) where
       puts_keep_sound total z rooms.Copy (copied s.past n) s sound over.history refl (omega arith) has
 
   -- what a record's turn keeps
-  pub record IsKept (z : ℕ) (n : Node) (s : Session) : Type 0 where
+  pub record IsKept (z : ℕ) (n : Node) (s : GcState) : Type 0 where
     pub history : is_history (handled z n s).past ≡ true
     pub known : (m : Node) → Among m s.past → Among m (handled z n s).past
     stays : (m : Node) → Among m s.past → is_live s.past m.version ≡ false → is_live (handled z n s).past m.version ≡ false
     dead : is_live (handled z n s).past n.version ≡ false
 
-  pub one_kept : (z : ℕ) (n : Node) (s : Session) → is_history s.past ≡ true → Among n s.past → IsKept z n s
+  pub one_kept : (z : ℕ) (n : Node) (s : GcState) → is_history s.past ≡ true → Among n s.past → IsKept z n s
   one_kept z n s h a = ⊎_elim
       (λ live.
       let over = takes s.past n h a live in
@@ -188,7 +188,7 @@ module _ (takes : CopiesTakeOver) where
       })
       (cases_Bool (is_live s.past n.version))
 
-  stays_dead : (z : ℕ) (nodes : List Node) (s : Session) → is_history s.past ≡ true → AllByRecursion (λ n. Among n s.past) nodes → (m : Node) → Among m s.past → is_live s.past m.version ≡ false
+  stays_dead : (z : ℕ) (nodes : List Node) (s : GcState) → is_history s.past ≡ true → AllByRecursion (λ n. Among n s.past) nodes → (m : Node) → Among m s.past → is_live s.past m.version ≡ false
       → is_live (handled_each z nodes s).past m.version ≡ false
   stays_dead z [] s h known m a dead = dead
   stays_dead z (n ∷ nodes) s h known m a dead =

@@ -7,7 +7,7 @@ use Rattle.jffs_node.specs.Record.{record_len, is_unmount}
 use Rattle.jffs_tree.specs.Origin.{is_live}
 use Rattle.jffs_log.specs.declared.room.Room.TheVariants.{Copy}
 use Rattle.jffs_log.specs.Room.{has_room}
-use Rattle.jffs_log.specs.Cleaning.{Session, copied, with_copy, handled, handled_each, copy_has_room, copies_have_room, cleaned, erase_oldest, oldest_records, without_oldest, stands_from, last_fits, in_last, in_tail, in_next}
+use Rattle.jffs_log.specs.Cleaning.{GcState, copied, with_copy, handled, handled_each, copy_has_room, copies_have_room, cleaned, erase_oldest, oldest_records, without_oldest, stands_from, last_fits, in_last, in_tail, in_next}
 use Rattle.jffs_log.specs.RoomLaws.{Among, IsSound, TakesOver, CopiesTakeOver, UnmountNodesAreDead}
 use Rattle.jffs_log.proofs.Sectors.{used_by, by-cons-true, by-cons-false, NoOther, by_fewer, needs_more, all_among, each_among, stands_among, leaves_room}
 use Rattle.jffs_log.proofs.Turn.{charged, charged_in_last, charged_in_next, charged_fewer_one, newer_charged, IsOldest, oldest_in_last, oldest_in_next, of_oldest, IsFull, full_in_last, full_in_next}
@@ -21,11 +21,11 @@ unfolding live_in
 charged_in past left sectors = refl
 
 -- At most one sector was opened, and what is left to be copied fits what is free in it.
-abbrev pub Space : ℕ → List Node → Session → Type 0
+abbrev pub Space : ℕ → List Node → GcState → Type 0
 Space before rest s = (s.log.erased ≡ before) ⊎ ((s.log.erased + 1 ≡ before) × (used_by (live_in s.past) rest + 64 ≤ s.log.free))
 
 -- The oldest sector is being cleaned, and these of its records are left.
-pub record IsUnderWay (total z weight left before : ℕ) (oldest rest : List Node) (s : Session) : Type 0 where
+pub record IsUnderWay (total z weight left before : ℕ) (oldest rest : List Node) (s : GcState) : Type 0 where
   pub sound : IsSound total z s
   pub older : IsOldest oldest s.log.sectors
   pub rest_in : AllByRecursion (λ n. Among n oldest) rest
@@ -39,10 +39,10 @@ full_in_oldest z free left n oldest [] is fits h = absurd is
 full_in_oldest z free left n oldest (s ∷ sectors) is fits h = full_in_last z free left n s sectors fits h
 
 module _ (takes : CopiesTakeOver) (total z weight left before : ℕ) (two : 2 ≤ before) (oldest : List Node) where
-  abbrev UnderWay : List Node → Session → Type 0
+  abbrev UnderWay : List Node → GcState → Type 0
   UnderWay rest s = IsUnderWay total z weight left before oldest rest s
 
-  module _ (n : Node) (rest : List Node) (s : Session) (w : IsUnderWay total z weight left before oldest (n ∷ rest) s) (live : live_in s.past n ≡ true) where
+  module _ (n : Node) (rest : List Node) (s : GcState) (w : IsUnderWay total z weight left before oldest (n ∷ rest) s) (live : live_in s.past n ≡ true) where
     c : Node
     c = copied s.past n
 
@@ -134,7 +134,7 @@ module _ (takes : CopiesTakeOver) (total z weight left before : ℕ) (two : 2 �
     after = put_by (λ log. UnderWay rest (record { past = copied s.past n ∷ s.past; log = log })) z Copy (copied s.past n) s.log after_tail after_next
 
   -- a dead record is skipped
-  skipped : (n : Node) (rest : List Node) (s : Session) → UnderWay (n ∷ rest) s → live_in s.past n ≡ false → UnderWay rest s
+  skipped : (n : Node) (rest : List Node) (s : GcState) → UnderWay (n ∷ rest) s → live_in s.past n ≡ false → UnderWay rest s
   skipped n rest s w off =
       let same = by-cons-false (live_in s.past) n rest off in
       record {
@@ -147,7 +147,7 @@ module _ (takes : CopiesTakeOver) (total z weight left before : ℕ) (two : 2 �
         full = w.full;
       }
 
-  one_handled : (n : Node) (rest : List Node) (s : Session) → UnderWay (n ∷ rest) s → (copy_has_room n s ≡ true) × UnderWay rest (handled z n s)
+  one_handled : (n : Node) (rest : List Node) (s : GcState) → UnderWay (n ∷ rest) s → (copy_has_room n s ≡ true) × UnderWay rest (handled z n s)
   unfolding live_in
   one_handled n rest s w = ⊎_elim
       (λ live. (
@@ -160,7 +160,7 @@ module _ (takes : CopiesTakeOver) (total z weight left before : ℕ) (two : 2 �
       ))
       (cases_Bool (is_live s.past n.version))
 
-  pub all_handled : (rest : List Node) (s : Session) → IsUnderWay total z weight left before oldest rest s → (copies_have_room z rest s ≡ true) × IsUnderWay total z weight left before oldest [] (handled_each z rest s)
+  pub all_handled : (rest : List Node) (s : GcState) → IsUnderWay total z weight left before oldest rest s → (copies_have_room z rest s ≡ true) × IsUnderWay total z weight left before oldest [] (handled_each z rest s)
   all_handled [] s w = (refl, w)
   all_handled (n ∷ rest) s w =
       let first = one_handled n rest s w in
@@ -168,7 +168,7 @@ module _ (takes : CopiesTakeOver) (total z weight left before : ℕ) (two : 2 �
       (and_from (copy_has_room n s) (copies_have_room z rest (handled z n s)) first.0 later.0, later.1)
 
   -- and after some of them
-  pub some_handled : (done rest : List Node) (s : Session) → IsUnderWay total z weight left before oldest (done ++ rest) s → IsUnderWay total z weight left before oldest rest (handled_each z done s)
+  pub some_handled : (done rest : List Node) (s : GcState) → IsUnderWay total z weight left before oldest (done ++ rest) s → IsUnderWay total z weight left before oldest rest (handled_each z done s)
   some_handled [] rest s w = w
   some_handled (n ∷ done) rest s w = some_handled done rest (handled z n s) (one_handled n (done ++ rest) s w).1
 
@@ -195,7 +195,7 @@ is_oldest [] h = absurd (omega arith)
 is_oldest (s ∷ []) h = absurd (omega arith)
 is_oldest (s ∷ t ∷ sectors) h = refl
 
-pub sound_erased : (total z : ℕ) (s : Session) → IsSound total z s → 2 ≤ length s.log.sectors → IsSound total z (record { past = s.past; log = erase_oldest s.log })
+pub sound_erased : (total z : ℕ) (s : GcState) → IsSound total z s → 2 ≤ length s.log.sectors → IsSound total z (record { past = s.past; log = erase_oldest s.log })
 sound_erased total z s sound many =
     let is = is_oldest s.log.sectors many in
     record {
@@ -212,14 +212,14 @@ many_left oldest (s ∷ []) is = absurd is
 many_left oldest (s ∷ t ∷ sectors) is = omega arith
 
 -- Between two cleanings: `left` sectors are left of those that held the log, and what was live then weighed `weight`.
-pub record IsTurn (total z weight left : ℕ) (s : Session) : Type 0 where
+pub record IsTurn (total z weight left : ℕ) (s : GcState) : Type 0 where
   pub sound : IsSound total z s
   pub two : 2 ≤ s.log.erased
   pub charge : charged (live_in s.past) left s.log.sectors ≤ weight
   pub full : IsFull z s.log.free left s.log.sectors
 
 module _ (takes : CopiesTakeOver) (unmounts : UnmountNodesAreDead) (total z weight : ℕ) (low : 64 ≤ z) where
-  pub begun : (left : ℕ) (s : Session) → IsTurn total z weight (suc left) s → 2 ≤ length s.log.sectors
+  pub begun : (left : ℕ) (s : GcState) → IsTurn total z weight (suc left) s → 2 ≤ length s.log.sectors
       → IsUnderWay total z weight left s.log.erased (oldest_records s.log.sectors) (oldest_records s.log.sectors) s
   unfolding live_in
   begun left s w many =
@@ -237,7 +237,7 @@ module _ (takes : CopiesTakeOver) (unmounts : UnmountNodesAreDead) (total z weig
         full = w.full;
       }
 
-  ended : (left before : ℕ) (oldest : List Node) (s : Session) → 2 ≤ before → IsUnderWay total z weight left before oldest [] s
+  ended : (left before : ℕ) (oldest : List Node) (s : GcState) → 2 ≤ before → IsUnderWay total z weight left before oldest [] s
       → IsTurn total z weight left (record { past = s.past; log = erase_oldest s.log }) × (before ≤ s.log.erased + 1)
   ended left before oldest s two w =
       let enough : before ≤ s.log.erased + 1 = ⊎_elim (λ e. omega arith) (λ e. let f = e.0 in omega arith) w.space in (
@@ -250,7 +250,7 @@ module _ (takes : CopiesTakeOver) (unmounts : UnmountNodesAreDead) (total z weig
         enough,
       )
 
-  pub turn_cleaned : (left : ℕ) (s : Session) → IsTurn total z weight (suc left) s → 2 ≤ length s.log.sectors
+  pub turn_cleaned : (left : ℕ) (s : GcState) → IsTurn total z weight (suc left) s → 2 ≤ length s.log.sectors
       → (copies_have_room z (oldest_records s.log.sectors) s ≡ true) × IsTurn total z weight left (cleaned z s) × (s.log.erased ≤ (cleaned z s).log.erased)
   turn_cleaned left s w many =
       let oldest = oldest_records s.log.sectors in

@@ -8,8 +8,8 @@ use Rattle.std.proofs.lemmas.List.{length-take, length-drop}
 use Rattle.jffs_node.specs.declared.node.Node.{Node}
 use Rattle.jffs_node.specs.Record.{dsize, len_of_data, is_unmount, is_file, kind_byte}
 use Rattle.jffs_tree.specs.State.{Entry, State, at, bytes_of, state_of_past}
-use Rattle.jffs_tree.specs.Origin.{concerns, entry, size_in, writes, place_before, origin, newest, held, versions_held, version_of, writers_of, is_live, IsTrueCopy}
-use Rattle.jffs_tree.specs.Check.{keeps_kind, keeps_places, keeps_form, each_fits}
+use Rattle.jffs_tree.specs.Origin.{concerns, entry, size_in, writes, offset_before, origin, newest, held, versions_held, version_of, writers_of, is_live, IsTrueCopy}
+use Rattle.jffs_tree.specs.Check.{keeps_kind, keeps_offsets, keeps_form, each_fits}
 use Rattle.jffs_tree.specs.Decide.{entry_of, nobody}
 use Rattle.jffs_tree.proofs.Pointwise.{at-state}
 use Rattle.jffs_tree.proofs.Erasing.{present}
@@ -79,7 +79,7 @@ newest_among past i m h = let k = of_newest (λ n. Among n past) i past m (all_a
 
 record HistoryParts (n : Node) (past : List Node) : Type 0 where
   before : is_history past ≡ true
-  places : keeps_places past n ≡ true
+  offsets : keeps_offsets past n ≡ true
   length : keeps_length n ≡ true
   falls : list_all (λ m. ltb m.version n.version) past ≡ true
 
@@ -92,27 +92,27 @@ history_parts n past h =
     let f = fits_parts n past b.0 in
     record {
       before = and_from (each_fits past && versions_fall past) (list_all keeps_length past) (and_from (each_fits past) (versions_fall past) f.0 v.1) l.1;
-      places = f.2;
+      offsets = f.2;
       length = l.0;
       falls = v.0;
     }
 
 -- a node either keeps the length or ends the file
-in_place : (file same ends : Bool) → (file || same) ≡ true → ((not file || same) || ends) ≡ true → (same ≡ true) ⊎ (ends ≡ true)
-in_place true true ends h k = inl refl
-in_place true false ends h k = inr k
-in_place false true ends h k = inl refl
-in_place false false ends h k = cc
+same_or_ends : (file same ends : Bool) → (file || same) ≡ true → ((not file || same) || ends) ≡ true → (same ≡ true) ⊎ (ends ≡ true)
+same_or_ends true true ends h k = inl refl
+same_or_ends true false ends h k = inr k
+same_or_ends false true ends h k = inl refl
+same_or_ends false false ends h k = cc
 
-unmoved : (n : Node) (past : List Node) (i p : ℕ) → is_history (n ∷ past) ≡ true → concerns i n ≡ true → (n.offset + dsize n ≤ p) → (place_before n p ≡ (p - dsize n) + n.rsize) → place_before n p < size_in past i
-    → place_before n p ≡ p
+unmoved : (n : Node) (past : List Node) (i p : ℕ) → is_history (n ∷ past) ≡ true → concerns i n ≡ true → (n.offset + dsize n ≤ p) → (offset_before n p ≡ (p - dsize n) + n.rsize) → offset_before n p < size_in past i
+    → offset_before n p ≡ p
 unmoved n past i p h c behind back there =
     let parts = history_parts n past h in
     let at : size_in past n.inode ≡ size_in past i = ap (size_in past) (its_inode i n c) in
     ⊎_elim
     (λ same. let e = eqb-true (dsize n) n.rsize same in omega arith)
     (λ ends. let l = leb-true (size_in past n.inode) (n.offset + n.rsize) ends in absurd (omega arith))
-    (in_place (is_file n.kind) (eqb (dsize n) n.rsize) (leb (size_in past n.inode) (n.offset + n.rsize)) parts.length parts.places)
+    (same_or_ends (is_file n.kind) (eqb (dsize n) n.rsize) (leb (size_in past n.inode) (n.offset + n.rsize)) parts.length parts.offsets)
 
 origin_among : (past : List Node) (i p : ℕ) (m : Node) → is_history past ≡ true → origin past i p ≡ Some m → Among m past × (concerns i m ≡ true) × (writes m p ≡ true)
 origin_among [] i p m h o = absurd (none-some m o)
@@ -125,11 +125,11 @@ origin_among (n ∷ past) i p m h o =
     (λ w. let same = same_Some m n (sym o ∙ origin-written i n past p c d w.0) in (inl same, ap (concerns i) same ∙ c, ap (λ k. writes k p) same ∙ w.0))
     (λ w. ⊎_elim
     (λ was.
-    let stays : place_before n p ≡ p = ⊎_elim (λ before. before.1) (λ behind. unmoved n past i p h c behind.0 behind.1 was) w.1 in
-    let later = origin_among past i (place_before n p) m parts.before (sym (origin-moved i n past p c d w.0 was) ∙ o) in
+    let stays : offset_before n p ≡ p = ⊎_elim (λ before. before.1) (λ behind. unmoved n past i p h c behind.0 behind.1 was) w.1 in
+    let later = origin_among past i (offset_before n p) m parts.before (sym (origin-moved i n past p c d w.0 was) ∙ o) in
     (inr later.0, later.1, ap (writes m) (sym stays) ∙ later.2))
     (λ gone. absurd (none-some m (sym (origin-padding i n past p c d w.0 gone) ∙ o)))
-    (cases_lt (place_before n p) (size_in past i)))
+    (cases_lt (offset_before n p) (size_in past i)))
     (where_is n p))
     (cases_Bool n.deleted))
     (λ c. let later = origin_among past i p m parts.before (sym (origin-other i n past p c) ∙ o) in (inr later.0, later.1, later.2))
@@ -248,7 +248,7 @@ module _ (past : List Node) (h : is_history past ≡ true) (c : Node) (e : Entry
             absurd (omega arith))
             (λ w.
             let r = true_copy.range in
-            let stays : place_before c p ≡ p = ⊎_elim (λ before. before.1) (λ behind. let b = behind.0 in let d = behind.1 in omega arith) w.1 in
+            let stays : offset_before c p ≡ p = ⊎_elim (λ before. before.1) (λ behind. let b = behind.0 in let d = behind.1 in omega arith) w.1 in
             let moved = origin-moved i c past p k stands_parts.1 w.0 (omega arith) in
             inr (p, there, ap (λ q. version_of (origin past i q)) (sym stays) ∙ ap version_of (sym moved) ∙ old.2, inr w.0))
             (where_is c p))
@@ -277,12 +277,12 @@ module _ (past : List Node) (h : is_history past ≡ true) (c : Node) (e : Entry
       let kind : keeps_kind past c ≡ true =
       or_right c.deleted (option_map_or (λ x. eqb (kind_byte x.kind) (kind_byte c.kind)) (entry past c.inode) true)
       (ap (λ o. option_map_or (λ x. eqb (kind_byte x.kind) (kind_byte c.kind)) o true) true_copy.present ∙ eq-eqb (kind_byte e.kind) (kind_byte c.kind) (ap kind_byte (sym true_copy.kind))) in
-      let places : keeps_places past c ≡ true =
+      let offsets : keeps_offsets past c ≡ true =
       or_left (not (is_file c.kind) || eqb (dsize c) c.rsize) (leb (size_in past c.inode) (c.offset + c.rsize)) (or_right (not (is_file c.kind)) (eqb (dsize c) c.rsize) same_len) in
       let form : keeps_form past c ≡ true = stated (is_file c.kind) c.deleted c.size (list_any (λ m. is_some m.size) past) (length e.bytes) (true_copy.size ∙ ap (λ k. cond (is_file k) (Some (length e.bytes)) None) (sym true_copy.kind)) in
       and_from (each_fits (c ∷ past) && versions_fall (c ∷ past)) (list_all keeps_length (c ∷ past))
       (and_from (each_fits (c ∷ past)) (versions_fall (c ∷ past))
-      (each_fits_from c past b.0 kind places form)
+      (each_fits_from c past b.0 kind offsets form)
       (and_from (list_all (λ m. ltb m.version c.version) past) (versions_fall past)
       (all_from (λ m. ltb m.version c.version) past (λ m k. lt-ltb m.version c.version (let l = newer_version past m h k in omega arith))) b.1))
       (and_from (keeps_length c) (list_all keeps_length past) (or_right (is_file c.kind) (eqb (dsize c) c.rsize) same_len) a.1)

@@ -1,23 +1,23 @@
--- What the book of a log owes where the oldest sector is erased.
+-- What the index of a log owes where the oldest sector is erased.
 use Rattle.std.proofs.Common.{◌≡◌, ◌≢◌, ◌⊎◌, inl, inr, ℕ, ◌+◌, ◌-◌, ◌*◌, ◌<◌, ◌≤◌, true, cond, List, [], ◌∷◌, ◌++◌, length, drop, map, flat_map, replicate, set, get_or, refl, sym, ap, subst, ◌∙◌, arith, append_assoc, length-append, Option, None}
 use Rattle.std.specs.List.{last_or, enumerate_from, AllByRecursion}
 use Rattle.std.proofs.Math.Seq.{drop-length}
 use Rattle.std.proofs.lemmas.List.{append-nil, length-replicate, map-set, map-append, get_or-set_other}
 use Rattle.jffs_node.specs.declared.read.Read.TheVariants.{Free, Torn}
 use Rattle.jffs_flash.specs.Image.{replaced, erased}
-use Rattle.jffs_log.specs.declared.book.Kept.{Kept}
+use Rattle.jffs_log.specs.declared.log_index.RecordRef.{RecordRef}
 use Rattle.jffs_log.specs.Image.{Sector, Placed, sector_of, placed_from, records_in, turned, log_sectors, free_of_tail}
 use Rattle.jffs_log.specs.Sector.{HoldsNodes}
 use Rattle.jffs_log.specs.Volume.{split, sector_bytes, sectors_in}
 use Rattle.jffs_log.specs.Ring.{IsRing, IsAt, IsNext}
 use Rattle.jffs_log.specs.Live.{IsSound}
-use Rattle.jffs_log.specs.Book.{kept, HasTail, IsKept, placed_at, from_other}
+use Rattle.jffs_log.specs.LogIndex.{ref_of, HasTail, Describes, placed_at, from_other}
 use Rattle.jffs_node.specs.declared.node.Node.{Node}
 use Rattle.jffs_node.specs.Record.{record_len}
 use Rattle.jffs_node.proofs.Found.{all_same}
 use Rattle.std.proofs.lemmas.Bool.{eq-eqb, ne_eqb}
 use Rattle.jffs_log.proofs.SectorSpellings.{reading_open, erased_open}
-use Rattle.jffs_log.proofs.Ring.{Numbered, ring_log, ring_erase, ring_lengths, place_in_ring, at_once}
+use Rattle.jffs_log.proofs.Ring.{Numbered, ring_log, ring_erase, ring_lengths, number_in_ring, at_once}
 use Rattle.jffs_log.proofs.Volume.{sector_fits, length-sector, length-replaced, split_replaced}
 use Rattle.jffs_log.proofs.Open.{length-sectors_in, get_or-split}
 use Rattle.jffs_log.proofs.Live.{sound_set}
@@ -25,7 +25,7 @@ use Rattle.jffs_log.proofs.Live.{sound_set}
 -- a sector of erased bytes
 blank_sector : (len : ℕ) → sector_of (replicate len 255) ≡ record { erased = true; reading = record { nodes = []; ending = Free } }
 blank_sector len =
-    let holds : HoldsNodes (replicate len 255) [] (replicate len 255) = record { spelled = refl; in_place = tt } in
+    let holds : HoldsNodes (replicate len 255) [] (replicate len 255) = record { spelled = refl; fit = tt } in
     let r = reading_open (replicate len 255) [] (replicate len 255) holds (erased_open len) ∙ ap (λ b. record { nodes = []; ending = cond b Free Torn }) (all_same len 255) in
     λ i. record { erased = all_same len 255 i; reading = r i }
 
@@ -65,26 +65,26 @@ older_part (p ∷ older) rest o last e long = (older, ap (λ (x : Numbered). x �
     cons_head d xs = get_or xs 0 d
 
 -- The oldest sector is erased, and another sector stays: its records are gone, and no other.
-pub record IsErasedOldest (count len : ℕ) (old new : List ℕ) (first next left tail used free : ℕ) (records : List Kept) : Type 0 where
+pub record IsErasedOldest (count len : ℕ) (old new : List ℕ) (first next left tail used free : ℕ) (records : List RecordRef) : Type 0 where
   pub oldest : Numbered
   pub number : oldest.0 ≡ first
   pub sectors : log_sectors (sectors_in count len old) ≡ oldest ∷ log_sectors (sectors_in count len new)
-  pub others : List Kept
-  pub listed : records ≡ map kept (records_in oldest) ++ others
+  pub others : List RecordRef
+  pub listed : records ≡ map ref_of (records_in oldest) ++ others
   pub forgets : from_other oldest.0 others ≡ others
-  pub book : IsKept count len new next left tail used free others
+  pub index : Describes count len new next left tail used free others
 
 -- where one is left, the last is the same without the first
 last_longer : (n : Option Numbered) (o : Numbered) (rest : List Numbered) → 1 ≤ length rest → last_or n (o ∷ rest) ≡ last_or n rest
 last_longer n o [] h = absurd (omega arith)
 last_longer n o (x ∷ rest) h = refl
 
--- no sector behind the first in the ring has its number
+-- no sector after the first in the ring has its number
 elsewhere : (first : ℕ) (sectors : List Sector) (o : Numbered) (between rest blank : List Numbered) → first < length sectors
     → turned first (enumerate_from 0 sectors) ≡ o ∷ (between ++ (rest ++ blank)) → AllByRecursion (λ s. s.0 ≢ first) rest
 elsewhere first sectors o between [] blank inside order = tt
 elsewhere first sectors o between (t ∷ rest) blank inside order =
-    let there = place_in_ring first sectors (o ∷ between) (rest ++ blank) t inside order in (
+    let there = number_in_ring first sectors (o ∷ between) (rest ++ blank) t inside order in (
       λ same. elim there [ inl at ↦ absurd (omega arith) | inr at ↦ absurd (omega arith) ],
       elsewhere first sectors o (between ++ t ∷ []) rest blank inside (order ∙ ap (λ (xs : List Numbered). o ∷ xs) (sym (append_assoc between (t ∷ []) (rest ++ blank)))),
     )
@@ -92,31 +92,31 @@ elsewhere first sectors o between (t ∷ rest) blank inside order =
 -- the oldest sector is the first of the ring, and no other has its number
 pub oldest_alone : (first : ℕ) (sectors : List Sector) (o : Numbered) (rest blank : List Numbered) → IsRing first sectors (o ∷ rest) blank → (o.0 ≡ first) × AllByRecursion (λ s. s.0 ≢ first) rest
 oldest_alone first sectors o rest blank ring =
-    let there = place_in_ring first sectors [] (rest ++ blank) o ring.inside ring.order in (
+    let there = number_in_ring first sectors [] (rest ++ blank) o ring.inside ring.order in (
       at_once first (length sectors) 0 o.0 first there (inl (omega arith, ring.inside)),
       elsewhere first sectors o [] rest blank ring.inside ring.order,
     )
 
 -- the records of a sector are forgotten
-pub placed_go : (k place : ℕ) (nodes : List Node) (others : List Kept) → from_other k (map kept (placed_from k place nodes) ++ others) ≡ from_other k others
-placed_go k place [] others = refl
-placed_go k place (n ∷ nodes) others =
-    let later = map kept (placed_from k (place + record_len n) nodes) ++ others in
-    ap (λ t. cond t (from_other k later) (kept (placed_at k place n) ∷ later)) (eq-eqb k k refl) ∙ placed_go k (place + record_len n) nodes others
+pub placed_go : (k offset : ℕ) (nodes : List Node) (others : List RecordRef) → from_other k (map ref_of (placed_from k offset nodes) ++ others) ≡ from_other k others
+placed_go k offset [] others = refl
+placed_go k offset (n ∷ nodes) others =
+    let later = map ref_of (placed_from k (offset + record_len n) nodes) ++ others in
+    ap (λ t. cond t (from_other k later) (ref_of (placed_at k offset n) ∷ later)) (eq-eqb k k refl) ∙ placed_go k (offset + record_len n) nodes others
 
 -- and those of other sectors stay
-placed_stay : (k : ℕ) (s : Numbered) (rest : List Placed) (nodes : List Node) → s.0 ≢ k → from_other k (map kept rest) ≡ map kept rest
-    → from_other k (map kept (placed_from s.0 0 nodes ++ rest)) ≡ map kept (placed_from s.0 0 nodes ++ rest)
+placed_stay : (k : ℕ) (s : Numbered) (rest : List Placed) (nodes : List Node) → s.0 ≢ k → from_other k (map ref_of rest) ≡ map ref_of rest
+    → from_other k (map ref_of (placed_from s.0 0 nodes ++ rest)) ≡ map ref_of (placed_from s.0 0 nodes ++ rest)
 placed_stay k s rest [] other later = later
 placed_stay k s rest (n ∷ nodes) other later =
-    let more = map kept (placed_from s.0 (0 + record_len n) nodes ++ rest) in
-    ap (λ t. cond t (from_other k more) (kept (placed_at s.0 0 n) ∷ more)) (ne_eqb s.0 k other)
+    let more = map ref_of (placed_from s.0 (0 + record_len n) nodes ++ rest) in
+    ap (λ t. cond t (from_other k more) (ref_of (placed_at s.0 0 n) ∷ more)) (ne_eqb s.0 k other)
 
-other_stays : (k : ℕ) (rest : List Numbered) → AllByRecursion (λ s. s.0 ≢ k) rest → from_other k (map kept (flat_map records_in rest)) ≡ map kept (flat_map records_in rest)
+other_stays : (k : ℕ) (rest : List Numbered) → AllByRecursion (λ s. s.0 ≢ k) rest → from_other k (map ref_of (flat_map records_in rest)) ≡ map ref_of (flat_map records_in rest)
 other_stays k [] h = refl
 other_stays k (s ∷ rest) h = placed_stay k s (flat_map records_in rest) s.1.reading.nodes h.0 (other_stays k rest h.1)
 
-pub oldest_erased : (count len : ℕ) (image : List ℕ) (first many tail used free next : ℕ) (records : List Kept) → IsKept count len image first many tail used free records → 2 ≤ many → IsNext first count next
+pub oldest_erased : (count len : ℕ) (image : List ℕ) (first many tail used free next : ℕ) (records : List RecordRef) → Describes count len image first many tail used free records → 2 ≤ many → IsNext first count next
     → IsErasedOldest count len image (erased len first image) first next (many - 1) tail used free records
 oldest_erased count len image first many tail used free next records h several is = by_held h.held refl
   where
@@ -139,17 +139,17 @@ oldest_erased count len image first many tail used free next records h several i
         let turned_ring = ring_erase first next sectors o rest h.blank s ring (subst (λ m. IsNext first m next) (sym many_sectors) is) (ap (λ (x : Sector). x.erased) blank) in
         let ring_new : IsRing next (sectors_in count len new) rest (h.blank ++ (o.0, s) ∷ []) =
         subst (λ ss. IsRing next ss rest (h.blank ++ (o.0, s) ∷ [])) (ap (λ k. set sectors k s) number ∙ sym changed) turned_ring in
-        let both : map kept (flat_map records_in h.held) ≡ map kept (records_in o) ++ map kept (flat_map records_in rest) =
-        ap (λ (xs : List Numbered). map kept (flat_map records_in xs)) e ∙ map-append kept (records_in o) (flat_map records_in rest) in
+        let both : map ref_of (flat_map records_in h.held) ≡ map ref_of (records_in o) ++ map ref_of (flat_map records_in rest) =
+        ap (λ (xs : List Numbered). map ref_of (flat_map records_in xs)) e ∙ map-append ref_of (records_in o) (flat_map records_in rest) in
         let sound = subst (AllByRecursion (λ x. IsSound x.reading.ending)) (sym changed) (sound_set sectors first s h.sound (subst (λ (x : Sector). IsSound x.reading.ending) (sym blank) tt)) in
         record {
           oldest = o;
           number = number;
           sectors = (ring_log first sectors h.held h.blank h.ring).0 ∙ e ∙ ap (λ (xs : List Numbered). o ∷ xs) (sym (ring_log next (sectors_in count len new) rest (h.blank ++ (o.0, s) ∷ []) ring_new).0);
-          others = map kept (flat_map records_in rest);
+          others = map ref_of (flat_map records_in rest);
           listed = h.listed ∙ both;
           forgets = other_stays o.0 rest (subst (λ (k : ℕ). AllByRecursion (λ x. x.0 ≢ k) rest) (sym number) alone.1);
-          book = record {
+          index = record {
             sizes = h.sizes;
             whole = length-erased count len first image h.whole below;
             held = rest;
@@ -174,7 +174,7 @@ oldest_erased count len image first many tail used free next records h several i
             let blanks = h.ring.some in
             let c = h.counted in
             let order = subst (λ (xs : List Numbered). IsRing first sectors xs h.blank) t.end h.ring in
-            let there = subst (λ m. IsAt first m (length t.older) t.last.0) many_sectors (place_in_ring first sectors t.older h.blank t.last h.ring.inside (order.order ∙ append_assoc t.older (t.last ∷ []) h.blank)) in
+            let there = subst (λ m. IsAt first m (length t.older) t.last.0) many_sectors (number_in_ring first sectors t.older h.blank t.last h.ring.inside (order.order ∙ append_assoc t.older (t.last ∷ []) h.blank)) in
             let sum = ap length t.end ∙ length-append t.older (t.last ∷ []) in
             let other : t.last.0 ≢ first = λ same. elim there [ inl at ↦ absurd (omega arith) | inr at ↦ absurd (omega arith) ] in
             let below_last = t.opened.below in

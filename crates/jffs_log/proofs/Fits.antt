@@ -1,10 +1,10 @@
--- Room and place of a record.
+-- Whether a record has room, and fits what is left of its sector.
 use Rattle.std.proofs.Common.{◌≡◌, ℕ, ◌+◌, ◌-◌, ◌/◌, ◌<◌, ◌≤◌, true, leb, refl, subst, arith}
 use Rattle.std.proofs.lemmas.Bool.{or_left, or_right, and_from, le-leb}
 use Rattle.jffs_node.specs.declared.node.Node.{Node}
 use Rattle.jffs_node.specs.declared.node.Kind.{Kind}
 use Rattle.jffs_node.specs.declared.node.Kind.TheVariants.{File, Directory, Unmount}
-use Rattle.jffs_node.specs.Record.{record_len, dsize, is_lawful, is_unmount, has_place, kind_numbers}
+use Rattle.jffs_node.specs.Record.{record_len, dsize, is_lawful, is_unmount, fits_rest, kind_numbers}
 use Rattle.jffs_log.specs.declared.room.Room.{Room}
 use Rattle.jffs_log.specs.declared.room.Room.TheVariants as room
 use Rattle.jffs_log.specs.Room.{tail_need, has_room}
@@ -22,7 +22,7 @@ unmount_empty n lawful unmount =
     (no_range n (unmount_range n (subst (λ k. kind_numbers k n (dsize n) ≡ true) (kind_is n.kind unmount) (rules_of n lawful).kind))).1
 
 pub tail_fits : (r : Room) (n : Node) (free len : ℕ) → is_lawful n ≡ true → (r ≡ room.Unmount → is_unmount n.kind ≡ true) → record_len n ≤ len / 4 → tail_need r (record_len n) ≤ free
-    → has_place n.kind (dsize n) (len / 4) free ≡ true
+    → fits_rest n.kind (dsize n) (len / 4) free ≡ true
 tail_fits room.Fresh n free len lawful u short need =
     and_from _ _ (and_from _ _ (le-leb (record_len n) (len / 4) short) (le-leb (record_len n) free (omega arith))) (or_right (is_unmount n.kind) (leb (record_len n + 64) free) (le-leb (record_len n + 64) free need))
 tail_fits room.Copy n free len lawful u short need =

@@ -20,9 +20,9 @@ use Rattle.jffs_log.specs.Live.{IsReadable, live_log}
 use Rattle.jffs_log.specs.Scan.{Scanned, versions_rise}
 use Rattle.jffs_log.specs.Cleaning.{versions_fall}
 use Rattle.jffs_log.specs.RoomLaws.{Among}
-use Rattle.jffs_log.specs.declared.book.Book.{Book}
-use Rattle.jffs_log.specs.Book.{IsBook, HasSizes, IsCut, log_in, lives_in}
-use Rattle.jffs_log.proofs.Appended.{kept_readable}
+use Rattle.jffs_log.specs.declared.log_index.LogIndex.{LogIndex}
+use Rattle.jffs_log.specs.LogIndex.{IsLogIndex, HasSizes, IsCut, log_in, lives_in}
+use Rattle.jffs_log.proofs.Appended.{described_readable}
 use Rattle.jffs_log.specs.History.{KeepsRules, IsLawfulHistory, IsHistory, HistoriesAreScanned, AppendsKeepHistory, CutsKeepHistory, ErasingKeepsHistory}
 use Rattle.jffs_log.proofs.MountedLog.{reversed, nodes_mapped, among_left, among_reversed}
 use Rattle.jffs_log.proofs.Copied.{all_test}
@@ -156,22 +156,22 @@ erasing_keeps_history count len old new past erased h readable log dead =
       dead = each_append P (reverse (nodes_of erased)) h.gone (all_turned P (nodes_of erased) ((dead_as past erased h.rules.falls known).0 dead)) h.dead;
     }
 
--- The history after an append, by the book.
-sized : (ob nb : Book) (image : List ℕ) (past : List Node) → HasSizes ob.sectors ob.sector_size nb → IsHistory image ob past → IsHistory image nb past
+-- The history after an append, by the index.
+sized : (ob nb : LogIndex) (image : List ℕ) (past : List Node) → HasSizes ob.sectors ob.sector_size nb → IsHistory image ob past → IsHistory image nb past
 sized ob nb image past sizes h =
     subst (λ k. IsLawfulHistory k nb.sector_size image past) sizes.0 (subst (λ k. IsLawfulHistory ob.sectors k image past) sizes.1 h)
 
-pub book_appends : (ob nb : Book) (old new : List ℕ) (past : List Node) (p : Placed) → HasSizes ob.sectors ob.sector_size nb → IsHistory old ob past → KeepsRules (p.node ∷ past)
-    → IsBook new nb → log_in new nb ≡ log_in old ob ++ p ∷ [] → IsHistory new nb (p.node ∷ past)
-book_appends ob nb old new past p sizes h rules book log =
+pub index_appends : (ob nb : LogIndex) (old new : List ℕ) (past : List Node) (p : Placed) → HasSizes ob.sectors ob.sector_size nb → IsHistory old ob past → KeepsRules (p.node ∷ past)
+    → IsLogIndex new nb → log_in new nb ≡ log_in old ob ++ p ∷ [] → IsHistory new nb (p.node ∷ past)
+index_appends ob nb old new past p sizes h rules index log =
     let same : log_in old ob ≡ log_in old nb = ap (λ k. live_log k ob.sector_size old) sizes.0 ∙ ap (λ k. live_log nb.sectors k old) sizes.1 in
     appends_keep_history nb.sectors nb.sector_size old new past p (sized ob nb old past sizes h) rules
-    (kept_readable nb.sectors nb.sector_size new nb.first nb.held nb.tail nb.used nb.free nb.records.items book)
+    (described_readable nb.sectors nb.sector_size new nb.first nb.held nb.tail nb.used nb.free nb.records.items index)
     (log ∙ ap (λ (xs : List Placed). xs ++ p ∷ []) same)
 
-pub book_cuts : (ob nb : Book) (old new : List ℕ) (past : List Node) (p : Placed) → HasSizes ob.sectors ob.sector_size nb → IsHistory old ob past → KeepsRules (p.node ∷ past)
+pub index_cuts : (ob nb : LogIndex) (old new : List ℕ) (past : List Node) (p : Placed) → HasSizes ob.sectors ob.sector_size nb → IsHistory old ob past → KeepsRules (p.node ∷ past)
     → IsCut ob old new p → IsHistory new nb past ⊎ IsHistory new nb (p.node ∷ past)
-book_cuts ob nb old new past p sizes h rules cut = elim (cuts_keep_history ob old new past p h rules cut) [
+index_cuts ob nb old new past p sizes h rules cut = elim (cuts_keep_history ob old new past p h rules cut) [
   | inl same ↦ inl (sized ob nb new past sizes same)
   | inr more ↦ inr (sized ob nb new (p.node ∷ past) sizes more)
 ]

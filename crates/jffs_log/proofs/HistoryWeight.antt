@@ -9,7 +9,7 @@ use Rattle.jffs_log.specs.Live.{live_log}
 use Rattle.jffs_log.specs.Room.{weight}
 use Rattle.jffs_log.specs.Cleaning.{versions_fall, live_used}
 use Rattle.jffs_log.specs.RoomLaws.{Among}
-use Rattle.jffs_log.specs.Book.{lives_in, weight_in, live_in, live_records_in}
+use Rattle.jffs_log.specs.LogIndex.{lives_in, weight_in, live_in, live_records_in}
 use Rattle.jffs_log.specs.History.{IsLawfulHistory}
 use Rattle.jffs_log.proofs.Weight.{kept_front}
 use Rattle.jffs_log.proofs.Parts.{live_reversed}

@@ -21,7 +21,7 @@ pub mod Erased
 pub mod Fits
 pub mod Rooms
 pub mod Layouts
-pub mod ErasedBook
+pub mod ErasedIndex
 pub mod Weighed
 pub mod Staying
 pub mod Histories
@@ -35,7 +35,7 @@ pub mod ScanLog
 pub mod ScanSectors
 pub mod ScanNumbers
 pub mod ScanFold
-pub mod ScanBook
+pub mod ScanIndex
 pub mod ScanFound
 pub mod OldestNodes
 pub mod Seen

@@ -9,7 +9,7 @@ use Rattle.std.proofs.lemmas.List.Filters.{length-filter_both}
 use Rattle.jffs_node.specs.declared.node.Node.{Node}
 use Rattle.jffs_node.specs.declared.read.Read.{Read}
 use Rattle.jffs_node.specs.declared.read.Read.TheVariants.{Closed, Free, Torn, Bad}
-use Rattle.jffs_node.specs.Record.{record_len, dsize, is_lawful, has_place}
+use Rattle.jffs_node.specs.Record.{record_len, dsize, is_lawful, fits_rest}
 use Rattle.jffs_node.specs.Reading.{Reading, found, reading_of, reading_len, after_record}
 use Rattle.jffs_tree.specs.Origin.{tree_of}
 use Rattle.jffs_tree.specs.Check.{each_fits, check, makes_tree}
@@ -19,7 +19,7 @@ use Rattle.jffs_log.specs.Image.{Sector, Placed, sector_of, placed_from, records
 use Rattle.jffs_node.proofs.Sound.{found_are_records}
 use Rattle.jffs_node.proofs.Each.{each_append, each_front}
 use Rattle.jffs_node.proofs.Lawfulness.{as_long}
-use Rattle.jffs_node.proofs.Rules.{place_parts}
+use Rattle.jffs_node.proofs.Rules.{fits_rest_parts}
 pub use Rattle.jffs_node.proofs.Rules.{ok_same}
 use Rattle.jffs_log.specs.Cleaning.{used, stands_from, last_fits, keeps_length, versions_fall, is_history}
 use Rattle.jffs_log.specs.Scan.{Scanned, versions_rise, first_bad, or_refuse, unless, scan_sectors, scan}
@@ -37,7 +37,7 @@ abbrev pub Bytes : List ℕ → Type 0
 Bytes rest = (i : ℕ) → get_or rest i 0 < 256
 
 abbrev Stands : ℕ → ℕ → List Node → Type 0
-Stands z place nodes = (stands_from z place nodes ≡ true) × (list_all keeps_length nodes ≡ true)
+Stands z offset nodes = (stands_from z offset nodes ≡ true) × (list_all keeps_length nodes ≡ true)
 
 abbrev pub after_found : ℕ → ℕ → List ℕ → Read → Reading
 after_found more record_max rest r = elim r [
@@ -50,19 +50,19 @@ after_found more record_max rest r = elim r [
 pub dropped_bytes : (k : ℕ) (rest : List ℕ) → Bytes rest → Bytes (drop k rest)
 dropped_bytes k rest h i = let e = get_or-drop k rest i 0 in let l = h (k + i) in omega arith
 
-reading_stands : (more z place : ℕ) (rest : List ℕ) → Bytes rest → place + length rest ≡ z → Stands z place (reading_of more (z / 4) rest).nodes
-reading_stands zero z place rest b l = (refl, refl)
-reading_stands (suc more) z place rest b l = elim (found (z / 4) rest) as (λ r. found (z / 4) rest ≡ r → Stands z place (after_found more (z / 4) rest r).nodes) [
+reading_stands : (more z offset : ℕ) (rest : List ℕ) → Bytes rest → offset + length rest ≡ z → Stands z offset (reading_of more (z / 4) rest).nodes
+reading_stands zero z offset rest b l = (refl, refl)
+reading_stands (suc more) z offset rest b l = elim (found (z / 4) rest) as (λ r. found (z / 4) rest ≡ r → Stands z offset (after_found more (z / 4) rest r).nodes) [
   | Closed n len ↦ λ is.
       let known = found_are_records rest (z / 4) n len b is in
-      let parts = place_parts n.kind (dsize n) (z / 4) (length rest) known.0.placed in
+      let parts = fits_rest_parts n.kind (dsize n) (z / 4) (length rest) known.0.placed in
       let fits = parts.1 in
       let same : len ≡ record_len n = known.1 in
       let d = length-drop len rest in
-      let at : length rest ≡ z - place = omega arith in
-      let later = reading_stands more z (place + record_len n) (drop len rest) (dropped_bytes len rest b) (omega arith) in (
-        and_from (has_place n.kind (dsize n) (z / 4) (z - place)) (stands_from z (place + record_len n) (reading_of more (z / 4) (drop len rest)).nodes)
-            (subst (λ k. has_place n.kind (dsize n) (z / 4) k ≡ true) at known.0.placed) later.0,
+      let at : length rest ≡ z - offset = omega arith in
+      let later = reading_stands more z (offset + record_len n) (drop len rest) (dropped_bytes len rest b) (omega arith) in (
+        and_from (fits_rest n.kind (dsize n) (z / 4) (z - offset)) (stands_from z (offset + record_len n) (reading_of more (z / 4) (drop len rest)).nodes)
+            (subst (λ k. fits_rest n.kind (dsize n) (z / 4) k ≡ true) at known.0.placed) later.0,
         and_from (keeps_length n) (list_all keeps_length (reading_of more (z / 4) (drop len rest)).nodes) (lawful_keeps n known.0.lawful) later.1,
       )
   | Free ↦ λ is. (refl, refl)
@@ -148,13 +148,13 @@ log_stands z sectors h =
     each_filtered (λ s. Stands z 0 (nodes_in s)) (λ s. not s.1.erased) (turned (oldest_of (starts sectors)) (enumerate_from 0 sectors))
     (each_turned (λ s. Stands z 0 (nodes_in s)) (oldest_of (starts sectors)) (enumerate_from 0 sectors) (each_numbered (λ s. Stands z 0 s.reading.nodes) 0 sectors h))
 
-stands_used : (z place : ℕ) (nodes : List Node) → place ≤ z → stands_from z place nodes ≡ true → place + used nodes ≤ z
-stands_used z place [] low h = omega arith
-stands_used z place (n ∷ nodes) low h =
-    let a = and_parts (has_place n.kind (dsize n) (z / 4) (z - place)) (stands_from z (place + record_len n) nodes) h in
-    let b = (place_parts n.kind (dsize n) (z / 4) (z - place) a.0).1 in
+stands_used : (z offset : ℕ) (nodes : List Node) → offset ≤ z → stands_from z offset nodes ≡ true → offset + used nodes ≤ z
+stands_used z offset [] low h = omega arith
+stands_used z offset (n ∷ nodes) low h =
+    let a = and_parts (fits_rest n.kind (dsize n) (z / 4) (z - offset)) (stands_from z (offset + record_len n) nodes) h in
+    let b = (fits_rest_parts n.kind (dsize n) (z / 4) (z - offset) a.0).1 in
     let c = used-cons n nodes in
-    let later = stands_used z (place + record_len n) nodes (omega arith) a.1 in
+    let later = stands_used z (offset + record_len n) nodes (omega arith) a.1 in
     omega arith
 
 tail_fits : (z : ℕ) (sectors : List (ℕ × Sector)) → AllByRecursion (λ s. Stands z 0 (nodes_in s)) sectors → last_fits z (free_of_tail z (last_or None sectors)) (map nodes_in sectors) ≡ true
@@ -198,9 +198,9 @@ pub nodes_mapped : (xs ys : List Placed) → nodes_of (xs ++ ys) ≡ nodes_of xs
 nodes_mapped [] ys = refl
 nodes_mapped (x ∷ xs) ys = let later = nodes_mapped xs ys in λ j. x.node ∷ later j
 
-pub placed_nodes : (sector place : ℕ) (nodes : List Node) → nodes_of (placed_from sector place nodes) ≡ nodes
-placed_nodes sector place [] = refl
-placed_nodes sector place (n ∷ nodes) = let later = placed_nodes sector (place + record_len n) nodes in λ j. n ∷ later j
+pub placed_nodes : (sector offset : ℕ) (nodes : List Node) → nodes_of (placed_from sector offset nodes) ≡ nodes
+placed_nodes sector offset [] = refl
+placed_nodes sector offset (n ∷ nodes) = let later = placed_nodes sector (offset + record_len n) nodes in λ j. n ∷ later j
 
 pub log_nodes : (sectors : List (ℕ × Sector)) → nodes_of (flat_map records_in sectors) ≡ flat_map (λ nodes. nodes) (map nodes_in sectors)
 log_nodes [] = refl

@@ -2,12 +2,12 @@
 use Rattle.std.proofs.Common.{◌≡◌, ℕ, ◌+◌, ◌-◌, ◌*◌, ◌/◌, ◌≤◌, List, [], ◌∷◌, ◌++◌, sym, ap, subst, ◌∙◌, arith}
 use Rattle.jffs_node.specs.declared.node.Node.{Node}
 use Rattle.jffs_node.specs.Record.{record_len, dsize, spelling, is_unmount}
-use Rattle.jffs_node.proofs.Rules.{place_parts}
+use Rattle.jffs_node.proofs.Rules.{fits_rest_parts}
 use Rattle.jffs_flash.specs.Device.{Device, with_image, Fails}
 use Rattle.jffs_flash.specs.Image.{replaced, window}
-use Rattle.jffs_log.specs.declared.book.Book.{Book}
-use Rattle.jffs_log.specs.declared.book.Kept.{Kept}
-use Rattle.jffs_log.specs.Book.{IsKept, IsBook, IsCut, kept, log_in, layout_in, placed_at}
+use Rattle.jffs_log.specs.declared.log_index.LogIndex.{LogIndex}
+use Rattle.jffs_log.specs.declared.log_index.RecordRef.{RecordRef}
+use Rattle.jffs_log.specs.LogIndex.{Describes, IsLogIndex, IsCut, ref_of, log_in, layout_in, placed_at}
 use Rattle.jffs_log.specs.Gate.{IsWritten, MayWrite}
 use Rattle.jffs_log.specs.LogState.{FitsIn}
 use Rattle.jffs_log.specs.Live.{live_log}
@@ -22,7 +22,7 @@ use Rattle.jffs_log.proofs.Seen.{fails_weaker}
 start : (at : ℕ) → at ≡ at + 0
 start at = omega arith
 
-module _ (b : Book) (old : Device) (h : IsBook old.image b) (n : Node) (fits : FitsIn b.sector_size b.sector_size n) (room : b.held + 2 ≤ b.sectors) (next : ℕ) (at : IsAt b.first b.sectors b.held next) where
+module _ (b : LogIndex) (old : Device) (h : IsLogIndex old.image b) (n : Node) (fits : FitsIn b.sector_size b.sector_size n) (room : b.held + 2 ≤ b.sectors) (next : ℕ) (at : IsAt b.first b.sectors b.held next) where
   -- where it will stand
   abbrev pub next_at : ℕ
   next_at = next * b.sector_size
@@ -33,7 +33,7 @@ module _ (b : Book) (old : Device) (h : IsBook old.image b) (n : Node) (fits : F
   pub next_may_write : MayWrite next_at n old.image
   next_may_write =
       let there = next_is_ready in
-      let most = (place_parts n.kind (dsize n) (b.sector_size / 4) b.sector_size fits.fits).0 in
+      let most = (fits_rest_parts n.kind (dsize n) (b.sector_size / 4) b.sector_size fits.fits).0 in
       let small = (sizes_small b.sectors b.sector_size h.sizes).1 in
       record {
         lawful = fits.lawful;
@@ -53,19 +53,19 @@ module _ (b : Book) (old : Device) (h : IsBook old.image b) (n : Node) (fits : F
     image : new.image ≡ replaced (next_at + 0) (spelling n) old.image
     image = ap (λ (d : Device). d.image) written ∙ ap (λ (k : ℕ). replaced k (spelling n) old.image) (start next_at)
 
-    -- the book with the record
-    pub next_book : (len : ℕ) (items : List Kept) → len ≡ record_len n
-        → items ≡ b.records.items ++ record { version = n.version; inode = n.inode; length = len; sector = next; place = 0 } ∷ []
-        → IsKept b.sectors b.sector_size new.image b.first (b.held + 1) next len (b.sector_size - len) items
-    next_book len items is e =
+    -- the index with the record
+    pub next_index : (len : ℕ) (items : List RecordRef) → len ≡ record_len n
+        → items ≡ b.records.items ++ record { version = n.version; inode = n.inode; length = len; sector = next; offset = 0 } ∷ []
+        → Describes b.sectors b.sector_size new.image b.first (b.held + 1) next len (b.sector_size - len) items
+    next_index len items is e =
         let all = next_appended _ _ _ _ _ _ _ _ next _ n h room at fits.lawful fits.fits in
         let used : 0 + record_len n ≡ len = omega (arith, is) in
-        let same : b.records.items ++ kept (placed_at next 0 n) ∷ [] ≡ items =
-        ap (λ (k : ℕ). b.records.items ++ record { version = n.version; inode = n.inode; length = k; sector = next; place = 0 } ∷ []) (sym is) ∙ sym e in
-        subst (λ (rs : List Kept). IsKept b.sectors b.sector_size new.image b.first (b.held + 1) next len (b.sector_size - len) rs) same
-        (subst (λ (k : ℕ). IsKept b.sectors b.sector_size new.image b.first (b.held + 1) next len (b.sector_size - k) (b.records.items ++ kept (placed_at next 0 n) ∷ [])) (sym is)
-        (subst (λ (k : ℕ). IsKept b.sectors b.sector_size new.image b.first (b.held + 1) next k (b.sector_size - record_len n) (b.records.items ++ kept (placed_at next 0 n) ∷ [])) used
-        (subst (λ (xs : List ℕ). IsKept b.sectors b.sector_size xs b.first (b.held + 1) next (0 + record_len n) (b.sector_size - record_len n) (b.records.items ++ kept (placed_at next 0 n) ∷ [])) (sym image) all.0)))
+        let same : b.records.items ++ ref_of (placed_at next 0 n) ∷ [] ≡ items =
+        ap (λ (k : ℕ). b.records.items ++ record { version = n.version; inode = n.inode; length = k; sector = next; offset = 0 } ∷ []) (sym is) ∙ sym e in
+        subst (λ (rs : List RecordRef). Describes b.sectors b.sector_size new.image b.first (b.held + 1) next len (b.sector_size - len) rs) same
+        (subst (λ (k : ℕ). Describes b.sectors b.sector_size new.image b.first (b.held + 1) next len (b.sector_size - k) (b.records.items ++ ref_of (placed_at next 0 n) ∷ [])) (sym is)
+        (subst (λ (k : ℕ). Describes b.sectors b.sector_size new.image b.first (b.held + 1) next k (b.sector_size - record_len n) (b.records.items ++ ref_of (placed_at next 0 n) ∷ [])) used
+        (subst (λ (xs : List ℕ). Describes b.sectors b.sector_size xs b.first (b.held + 1) next (0 + record_len n) (b.sector_size - record_len n) (b.records.items ++ ref_of (placed_at next 0 n) ∷ [])) (sym image) all.0)))
 
     pub next_added : live_log b.sectors b.sector_size new.image ≡ log_in old.image b ++ placed_at next 0 n ∷ []
     next_added = ap (live_log b.sectors b.sector_size) image ∙ (next_appended _ _ _ _ _ _ _ _ next _ n h room at fits.lawful fits.fits).1

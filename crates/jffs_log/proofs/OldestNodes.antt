@@ -1,9 +1,9 @@
 -- The nodes of the oldest sector.
 use Rattle.std.proofs.Common.{◌≡◌, ◌∙◌, ℕ, ◌≤◌, List, [], ◌∷◌, ◌++◌, length, map, sym, ap, arith}
-use Rattle.jffs_log.specs.declared.book.Kept.{Kept}
+use Rattle.jffs_log.specs.declared.log_index.RecordRef.{RecordRef}
 use Rattle.jffs_log.specs.Image.{Placed, Sector, sector_of, records_in_first, log_sectors}
 use Rattle.jffs_log.specs.Volume.{sectors_in, sector_bytes}
-use Rattle.jffs_log.specs.Book.{IsKept}
+use Rattle.jffs_log.specs.LogIndex.{Describes}
 use Rattle.jffs_log.specs.Ring.{IsRing}
 use Rattle.jffs_log.proofs.Ring.{Numbered, ring_log, ring_reads}
 use Rattle.jffs_log.proofs.Open.{length-sectors_in, get_or-sectors_in}
@@ -24,7 +24,7 @@ oldest_of_ring count len image first (o ∷ rest) blank ring some =
     ∙ ap (λ (s : Sector). s.reading.nodes) (sector ∙ ap (λ k. sector_of (sector_bytes len k image)) number)
 
 -- what is read of the sector that was begun first
-pub oldest_read : (count len : ℕ) (image : List ℕ) (first many tail used free : ℕ) (records : List Kept) → IsKept count len image first many tail used free records → 1 ≤ many
+pub oldest_read : (count len : ℕ) (image : List ℕ) (first many tail used free : ℕ) (records : List RecordRef) → Describes count len image first many tail used free records → 1 ≤ many
     → (sector_of (sector_bytes len first image)).reading.nodes ≡ map (λ (p : Placed). p.node) (records_in_first (log_sectors (sectors_in count len image)))
 oldest_read count len image first many tail used free records h some =
     let counted = h.counted in

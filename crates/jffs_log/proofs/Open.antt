@@ -4,7 +4,7 @@ use Rattle.std.proofs.lemmas.List.{length-map, length-replicate, drop-drop, get_
 use Rattle.std.proofs.Math.ListN.{get_or-map}
 use Rattle.jffs_node.specs.declared.node.Node.{Node}
 use Rattle.jffs_node.specs.declared.read.Read.TheVariants.{Free, Torn}
-use Rattle.jffs_node.specs.Record.{spelling, record_len, dsize, is_lawful, has_place}
+use Rattle.jffs_node.specs.Record.{spelling, record_len, dsize, is_lawful, fits_rest}
 use Rattle.jffs_node.specs.Reading.{Reading, is_erased, reading}
 use Rattle.jffs_node.proofs.Found.{all_same, length_spelled}
 use Rattle.jffs_flash.specs.Image.{replaced}
@@ -12,7 +12,7 @@ use Rattle.jffs_log.specs.Image.{Sector, sector_of}
 use Rattle.jffs_log.specs.Sector.{spellings, HoldsNodes}
 use Rattle.jffs_log.specs.Volume.{split, sector_bytes, sectors_in}
 use Rattle.jffs_log.specs.Live.{IsSound, IsOpenSector}
-use Rattle.jffs_log.proofs.SectorSpellings.{length_spellings, in_place_fits, reading_open, erased_open, not_erased, whole_written, part_written, part_open}
+use Rattle.jffs_log.proofs.SectorSpellings.{length_spellings, rest_fits, reading_open, erased_open, not_erased, whole_written, part_written, part_open}
 use Rattle.jffs_log.proofs.Volume.{sector_fits, length-sector, length-split, length-replaced, split_replaced, sectors_replaced}
 
 pub length-sectors_in : (count len : ℕ) (image : List ℕ) → length (sectors_in count len image) ≡ count
@@ -33,14 +33,14 @@ get_or-sectors_in count len k image d h =
     ∙ ap sector_of (get_or-split count len k image [] h)
 
 module _ (count len : ℕ) (image : List ℕ) (k : ℕ) (nodes : List Node) (free : ℕ) (h : IsOpenSector count len image k nodes free) where
-  abbrev pub place : ℕ
-  place = sum_by record_len nodes
+  abbrev pub offset : ℕ
+  offset = sum_by record_len nodes
 
   abbrev pub sector_after : List ℕ → List ℕ
-  sector_after part = replaced place part (sector_bytes len k image)
+  sector_after part = replaced offset part (sector_bytes len k image)
 
   abbrev pub image_after : List ℕ → List ℕ
-  image_after part = replaced (k * len + place) part image
+  image_after part = replaced (k * len + offset) part image
 
   pub inside : k * len + len ≤ count * len
   inside = sector_fits count len k h.below
@@ -48,24 +48,24 @@ module _ (count len : ℕ) (image : List ℕ) (k : ℕ) (nodes : List Node) (fre
   pub sector_long : length (sector_bytes len k image) ≡ len
   sector_long = length-sector count len k image h.whole h.below
 
-  pub room_is : place + free ≡ len
+  pub room_is : offset + free ≡ len
   room_is =
-      let front = length_spellings (length (sector_bytes len k image) / 4) (length (sector_bytes len k image)) nodes h.holds.in_place in
+      let front = length_spellings (length (sector_bytes len k image) / 4) (length (sector_bytes len k image)) nodes h.holds.fit in
       let e : length {A = ℕ} (replicate free 255) ≡ free = length-replicate free 255 in
       let f = ap length h.holds.spelled ∙ length-append (spellings nodes) (replicate free 255) in
       let g = sector_long in
       omega arith
 
   pub sectors_after : (part : List ℕ) → length part ≤ free → sectors_in count len (image_after part) ≡ set (sectors_in count len image) k (sector_of (sector_after part))
-  sectors_after part short = let r = room_is in sectors_replaced count len k place part image h.below (omega arith) h.whole
+  sectors_after part short = let r = room_is in sectors_replaced count len k offset part image h.below (omega arith) h.whole
 
   -- a whole record
-  module _ (n : Node) (lawful : is_lawful n ≡ true) (fits : has_place n.kind (dsize n) (len / 4) free ≡ true) where
+  module _ (n : Node) (lawful : is_lawful n ≡ true) (fits : fits_rest n.kind (dsize n) (len / 4) free ≡ true) where
     pub record_short : record_len n ≤ free
-    record_short = in_place_fits n.kind (dsize n) (len / 4) free fits
+    record_short = rest_fits n.kind (dsize n) (len / 4) free fits
 
     pub whole_holds : HoldsNodes (sector_after (spelling n)) (nodes ++ n ∷ []) (replicate (free - record_len n) 255)
-    whole_holds = whole_written (sector_bytes len k image) nodes free n h.holds lawful (subst (λ z. has_place n.kind (dsize n) (z / 4) free ≡ true) (sym sector_long) fits)
+    whole_holds = whole_written (sector_bytes len k image) nodes free n h.holds lawful (subst (λ z. fits_rest n.kind (dsize n) (z / 4) free ≡ true) (sym sector_long) fits)
 
     not_erased_more : (ns : List Node) (rest : List ℕ) → is_erased (spellings (ns ++ n ∷ []) ++ rest) ≡ false
     not_erased_more [] rest = not_erased n [] rest
@@ -89,10 +89,10 @@ module _ (count len : ℕ) (image : List ℕ) (k : ℕ) (nodes : List Node) (fre
         let l = length_spelled n lawful in
         let same : sector_bytes len k (image_after (spelling n)) ≡ sector_after (spelling n) =
         sym (get_or-split count len k (image_after (spelling n)) [] h.below)
-        ∙ ap (λ (xs : List (List ℕ)). get_or xs k []) (split_replaced count len k place (spelling n) image h.below (omega arith) h.whole)
+        ∙ ap (λ (xs : List (List ℕ)). get_or xs k []) (split_replaced count len k offset (spelling n) image h.below (omega arith) h.whole)
         ∙ get_or-set_same (split count len image) k (sector_after (spelling n)) [] (let m = length-split count len image in let b = h.below in omega arith) in
         record {
-          whole = length-replaced (k * len + place) (spelling n) image (omega arith) ∙ h.whole;
+          whole = length-replaced (k * len + offset) (spelling n) image (omega arith) ∙ h.whole;
           below = h.below;
           holds = subst (λ (xs : List ℕ). HoldsNodes xs (nodes ++ n ∷ []) (replicate (free - record_len n) 255)) (sym same) whole_holds;
         }

@@ -10,7 +10,7 @@ use Rattle.jffs_node.proofs.Fitting.{or_second}
 use Rattle.jffs_log.specs.declared.room.Room.{Room}
 use Rattle.jffs_log.specs.declared.room.Room.TheVariants as rooms
 use Rattle.jffs_log.specs.Room.{tail_need, erased_need, has_room}
-use Rattle.jffs_log.specs.Cleaning.{Layout, Session, put, in_tail, in_next, in_last, stands_from, last_fits, is_history}
+use Rattle.jffs_log.specs.Cleaning.{Layout, GcState, put, in_tail, in_next, in_last, stands_from, last_fits, is_history}
 use Rattle.jffs_log.specs.RoomLaws.{Among, IsSound}
 use Rattle.jffs_log.proofs.Sectors.{Needs, stands_more, each_in_last, last_in_last, last_in_next, free_small, length_in_last, length_in_next}
 
@@ -42,7 +42,7 @@ unfolding Known
 known_more past c sectors h = map_all (λ nodes. AllByRecursion (λ n. Among n past) nodes) (λ nodes. AllByRecursion (λ n. Among n (c ∷ past)) nodes)
     (λ nodes k. map_all (λ n. Among n past) (λ n. Among n (c ∷ past)) (λ n a. inr a) nodes k) sectors h
 
-module _ (total z need : ℕ) (c : Node) (s : Session) (sound : IsSound total z s) (history : is_history (c ∷ s.past) ≡ true) (needs : Needs need c) (long : record_len c ≤ need) (short : record_len c ≤ z / 4) where
+module _ (total z need : ℕ) (c : Node) (s : GcState) (sound : IsSound total z s) (history : is_history (c ∷ s.past) ≡ true) (needs : Needs need c) (long : record_len c ≤ need) (short : record_len c ≤ z / 4) where
   known : Known (c ∷ s.past) s.log.sectors
   unfolding Known
   known = known_more s.past c s.log.sectors sound.known

@@ -231,9 +231,9 @@ turned_set first j k xs v h (inr at) =
     ∙ ap (λ i. drop first xs ++ set (take first xs) i v) (sym there)
     ∙ sym (set-append_right (drop first xs) (take first xs) (length (drop first xs)) j v refl (omega arith))
 
--- what stands at a place of the ring
+-- what stands in the ring
 record IsFound (first : ℕ) (sectors : List Sector) (j : ℕ) (t : Numbered) : Type 0 where
-  place : IsAt first (length sectors) j t.0
+  number : IsAt first (length sectors) j t.0
   reads : t.1 ≡ get_or sectors t.0 t.1
 
 found_at : (first i j : ℕ) (sectors : List Sector) (t : Numbered) → i < length sectors → IsAt first (length sectors) j i → t ≡ get_or (enumerate_from 0 sectors) i t → IsFound first sectors j t
@@ -242,7 +242,7 @@ found_at first i j sectors t below at read =
     let zero_first : 0 + i ≡ i = omega arith in
     let number : t.0 ≡ i = ap (λ (s : Numbered). s.0) both ∙ zero_first in
     record {
-      place = subst (IsAt first (length sectors) j) (sym number) at;
+      number = subst (IsAt first (length sectors) j) (sym number) at;
       reads = ap (λ (s : Numbered). s.1) both ∙ ap (λ k. get_or sectors k t.1) (sym number);
     }
 
@@ -270,23 +270,23 @@ found_in_ring first sectors xs ys t inside order =
           found_at first r (length xs) sectors t (omega arith) (inr (omega arith, omega arith)) read
     ]
 
-pub place_in_ring : (first : ℕ) (sectors : List Sector) (xs ys : List Numbered) (t : Numbered) → first < length sectors → turned first (enumerate_from 0 sectors) ≡ xs ++ t ∷ ys
+pub number_in_ring : (first : ℕ) (sectors : List Sector) (xs ys : List Numbered) (t : Numbered) → first < length sectors → turned first (enumerate_from 0 sectors) ≡ xs ++ t ∷ ys
     → IsAt first (length sectors) (length xs) t.0
-place_in_ring first sectors xs ys t inside order = (found_in_ring first sectors xs ys t inside order).place
+number_in_ring first sectors xs ys t inside order = (found_in_ring first sectors xs ys t inside order).number
 
 -- the number of a sector of a ring is below their number, and the sector is the one of that number
 pub ring_reads : (first : ℕ) (sectors : List Sector) (xs ys : List Numbered) (t : Numbered) → first < length sectors → turned first (enumerate_from 0 sectors) ≡ xs ++ t ∷ ys
     → (t.0 < length sectors) × (t.1 ≡ get_or sectors t.0 t.1)
 ring_reads first sectors xs ys t inside order =
     let found = found_in_ring first sectors xs ys t inside order in
-    (elim found.place [ inl at ↦ at.1 | inr at ↦ omega arith ], found.reads)
+    (elim found.number [ inl at ↦ at.1 | inr at ↦ omega arith ], found.reads)
 
 pub ring_set : (first : ℕ) (sectors : List Sector) (xs ys : List Numbered) (t : Numbered) (s : Sector) → first < length sectors → turned first (enumerate_from 0 sectors) ≡ xs ++ t ∷ ys
     → turned first (enumerate_from 0 (set sectors t.0 s)) ≡ xs ++ (t.0, s) ∷ ys
 ring_set first sectors xs ys t s inside order =
     let n = enumerate_from 0 sectors in
     let many : length n ≡ length sectors = length-enumerate_from 0 sectors in
-    let at = subst (λ m. IsAt first m (length xs) t.0) (sym many) (place_in_ring first sectors xs ys t inside order) in
+    let at = subst (λ m. IsAt first m (length xs) t.0) (sym many) (number_in_ring first sectors xs ys t inside order) in
     let zero_first : 0 + t.0 ≡ t.0 = omega arith in
     ap (turned first) (set_numbered 0 t.0 sectors s ∙ ap (λ (k : ℕ). set n t.0 (k, s)) zero_first)
     ∙ turned_set first (length xs) t.0 n (t.0, s) (omega arith) at

@@ -183,7 +183,7 @@ one_written sectors a one =
     let o = one_start e 0 a n (sym (ap (starts_from e 0) same) ∙ one) in
     let number = o.number in
     let at : length o.before ≡ a = omega arith in
-    -- the last sector, behind the first of the log
+    -- the last sector, after the first of the log
     let ending : e ≡ last_erased false o.after =
     ap (λ (xs : List Sector). is_erased_option (last_or None xs)) same
     ∙ last_is None n

@@ -8,7 +8,7 @@ use Rattle.jffs_node.specs.declared.node.Node.{Node}
 use Rattle.jffs_node.specs.Record.{is_lawful}
 use Rattle.jffs_tree.specs.Origin.{tree_of}
 use Rattle.jffs_tree.specs.Check.{each_fits, check, makes_tree}
-use Rattle.jffs_tree.specs.After.{can_apply, keeps_kind_in, keeps_places_in}
+use Rattle.jffs_tree.specs.After.{can_apply, keeps_kind_in, keeps_offsets_in}
 use Rattle.jffs_tree.proofs.Tested.{trees_test_as_nodes}
 use Rattle.jffs_tree.proofs.Entries.{fits_parts, each_fits_from}
 use Rattle.jffs_node.proofs.Each.{each_at}
@@ -24,7 +24,7 @@ fits_after past n = keeps_form_after (sized past) n && can_apply (tree_of past) 
 pub fits_next : (past : List Node) (n : Node) → each_fits past ≡ true → fits_after past n ≡ true → each_fits (n ∷ past) ≡ true
 fits_next past n fits next =
     let a = and_parts (keeps_form_after (sized past) n) (can_apply (tree_of past) n) next in
-    let b = and_parts (is_lawful n && keeps_kind_in (tree_of past) n) (keeps_places_in (tree_of past) n) a.1 in
+    let b = and_parts (is_lawful n && keeps_kind_in (tree_of past) n) (keeps_offsets_in (tree_of past) n) a.1 in
     let d = and_parts (is_lawful n) (keeps_kind_in (tree_of past) n) b.0 in
     let same = trees_test_as_nodes past n d.0 in
     each_fits_from n past fits (sym same.0 ∙ d.1) (sym same.1 ∙ b.1) a.0
@@ -34,7 +34,7 @@ next_fits past n lawful fits =
     let parts = fits_parts n past fits in
     let same = trees_test_as_nodes past n lawful in
     and_from (keeps_form_after (sized past) n) (can_apply (tree_of past) n) parts.3
-    (and_from (is_lawful n && keeps_kind_in (tree_of past) n) (keeps_places_in (tree_of past) n)
+    (and_from (is_lawful n && keeps_kind_in (tree_of past) n) (keeps_offsets_in (tree_of past) n)
     (and_from (is_lawful n) (keeps_kind_in (tree_of past) n) lawful (same.0 ∙ parts.1))
     (same.1 ∙ parts.2))
 

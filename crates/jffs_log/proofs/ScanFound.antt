@@ -8,7 +8,7 @@ use Rattle.jffs_flash.specs.Sizes.{is_geometry}
 use Rattle.jffs_tree.specs.declared.wish.Limits.{Limits}
 use Rattle.jffs_tree.specs.Origin.{Tree, tree_of}
 use Rattle.jffs_tree.specs.Check.{makes_tree}
-use Rattle.jffs_log.specs.declared.book.Book.{Book}
+use Rattle.jffs_log.specs.declared.log_index.LogIndex.{LogIndex}
 use Rattle.jffs_log.specs.declared.scanning.ScanWhy.{ScanWhy}
 use Rattle.jffs_log.specs.declared.scanning.ScanWhy.TheVariants.{Geometry, Device, BadRecord, NoErased, Scattered, BadOrder, BadTree, Memory}
 use Rattle.jffs_log.specs.Image.{records_in, starts, oldest_of, is_one_run, turned, log_of, nodes_of, past_of, is_clean_tail, is_clean}
@@ -22,7 +22,7 @@ use Rattle.jffs_log.proofs.Volume.{length-split}
 use Rattle.jffs_log.proofs.Live.{geometry_passed, bad_passed, rest_of_causes, answer_on, scan_reads}
 use Rattle.jffs_log.proofs.ScanNumbers.{greatest_first, version_first}
 use Rattle.jffs_log.proofs.ScanSectors.{all_sound}
-use Rattle.jffs_log.proofs.ScanBook.{IsLocated, is_held, located, nodes_in}
+use Rattle.jffs_log.proofs.ScanIndex.{IsLocated, is_held, located, nodes_in}
 use Rattle.jffs_log.proofs.Open.{length-sectors_in}
 
 abbrev pub answer : ℕ → ℕ → List ℕ → Result Scanned ScanWhy
@@ -48,7 +48,7 @@ pub read_refused : (why : ScanWhy) (count len : ℕ) (image : List ℕ) (before 
 read_refused Device count len image before after sizes h = h
 read_refused Memory count len image before after sizes h = h
 read_refused Geometry count len image before after sizes h = (bad_cause count len image Geometry sizes h.0, h.1)
-read_refused (BadRecord sector place bad) count len image before after sizes h = (bad_cause count len image (BadRecord sector place bad) sizes h.0, h.1)
+read_refused (BadRecord sector offset bad) count len image before after sizes h = (bad_cause count len image (BadRecord sector offset bad) sizes h.0, h.1)
 read_refused NoErased count len image before after sizes h = (bad_cause count len image NoErased sizes h.0, h.1)
 read_refused Scattered count len image before after sizes h = (bad_cause count len image Scattered sizes h.0, h.1)
 read_refused BadOrder count len image before after sizes h = (bad_cause count len image BadOrder sizes h.0, h.1)
@@ -129,9 +129,9 @@ cause_at why before after count many len size image same_count same_len h = subs
 pub unmoved : (why : ScanWhy) (device after : FlashDevice) → after ≡ device → IsCause why device.faults device.faults (scan_of device) → IsRefused device why after
 unmoved why device after same cause = subst (λ (d : FlashDevice). IsRefused device why d) (sym same) (record { cause = cause; rest = refl })
 
-pub found_at : (count many len size : ℕ) (image : List ℕ) (book : Book) (tree : Tree) (clean : Bool) (limits : Limits) → count ≡ many → len ≡ size → IsFound count len image book tree clean limits → IsFound many size image book tree clean limits
-found_at count many len size image book tree clean limits same_count same_len h =
-    subst (λ k. IsFound many k image book tree clean limits) same_len (subst (λ k. IsFound k len image book tree clean limits) same_count h)
+pub found_at : (count many len size : ℕ) (image : List ℕ) (index : LogIndex) (tree : Tree) (clean : Bool) (limits : Limits) → count ≡ many → len ≡ size → IsFound count len image index tree clean limits → IsFound many size image index tree clean limits
+found_at count many len size image index tree clean limits same_count same_len h =
+    subst (λ k. IsFound many k image index tree clean limits) same_len (subst (λ k. IsFound k len image index tree clean limits) same_count h)
 
 -- where the log begins, and what of it is kept
 pub located_in : (count len : ℕ) (image : List ℕ) (list : List Numbered) (first : ℕ) (held : List Numbered) → AreRead count len image list → Ok first ≡ oldest_sector (map (λ s. s.1) list)
@@ -140,9 +140,9 @@ located_in count len image list first held read oldest is =
     subst (λ (xs : List Numbered). IsLocated (sectors_in count len image) first xs) (sym (is ∙ ap (λ (xs : List Numbered). filter is_held (turned first xs)) read.read))
     (located (sectors_in count len image) first (sym (oldest ∙ ap oldest_sector (plain count len image list read))))
 
-pub kept_in : (count len : ℕ) (image : List ℕ) (list : List Numbered) (first : ℕ) → AreRead count len image list → Ok first ≡ oldest_sector (map (λ s. s.1) list)
+pub described_in : (count len : ℕ) (image : List ℕ) (list : List Numbered) (first : ℕ) → AreRead count len image list → Ok first ≡ oldest_sector (map (λ s. s.1) list)
     → (rest : List Numbered) × (turned first list ≡ filter is_held (turned first list) ++ rest)
-kept_in count len image list first read oldest =
+described_in count len image list first read oldest =
     let l = located_in count len image list first (filter is_held (turned first list)) read oldest refl in
     (l.blank, ap (turned first) read.read ∙ l.ring.order)
 

@@ -16,7 +16,7 @@ use Rattle.jffs_log.specs.ScanRead.{IsSpelled, AreRead, IsReadFault, bad_in}
 use Rattle.jffs_log.proofs.Ring.{Numbered}
 use Rattle.jffs_log.proofs.Open.{length-sectors_in}
 
--- The sectors before one, that one, and those behind it.
+-- The sectors before one, that one, and those after it.
 split_parts : (n k more len : ℕ) (image : List ℕ) → n ≡ k + more → split n len image ≡ split k len image ++ split more len (drop (k * len) image)
 split_parts n zero more len image is =
     let none : 0 ≡ 0 * len = omega arith in
@@ -133,7 +133,7 @@ pub fault_read : (why : ScanWhy) (before after : ℕ) (one all : Option ScanWhy)
 fault_read Device before after one all same h = h
 fault_read Memory before after one all same h = h
 fault_read Geometry before after one all same h = (same h.0, h.1)
-fault_read (BadRecord sector place bad) before after one all same h = (same h.0, h.1)
+fault_read (BadRecord sector offset bad) before after one all same h = (same h.0, h.1)
 fault_read NoErased before after one all same h = (same h.0, h.1)
 fault_read Scattered before after one all same h = (same h.0, h.1)
 fault_read BadOrder before after one all same h = (same h.0, h.1)

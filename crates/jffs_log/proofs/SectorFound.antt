@@ -7,13 +7,13 @@ use Rattle.std.proofs.lemmas.List.Sums.{sum_by_push}
 use Rattle.jffs_node.specs.declared.node.Node.{Node}
 use Rattle.jffs_node.specs.declared.read.Read.{Read}
 use Rattle.jffs_node.specs.declared.read.Read.TheVariants.{Closed, Free, Torn, Bad}
-use Rattle.jffs_node.specs.Record.{spelling, record_len, dsize, is_lawful, has_place, BeginsWith}
+use Rattle.jffs_node.specs.Record.{spelling, record_len, dsize, is_lawful, fits_rest, BeginsWith}
 use Rattle.jffs_node.specs.Reading.{Reading, found, reading, reading_len}
-use Rattle.jffs_log.specs.Sector.{spellings, AreInPlace, HoldsNodes}
+use Rattle.jffs_log.specs.Sector.{spellings, FitSector, HoldsNodes}
 use Rattle.jffs_log.specs.ScanRead.{IsSpelled, rest_of}
-use Rattle.jffs_log.proofs.SectorSpellings.{record_long, in_place_fits, in_place_more, reading_holds, IsEnd}
+use Rattle.jffs_log.proofs.SectorSpellings.{record_long, rest_fits, fit_more, reading_holds, IsEnd}
 
-pub all_lawful : (max len : ℕ) (nodes : List Node) → AreInPlace max len nodes → AllByRecursion (λ n. is_lawful n ≡ true) nodes
+pub all_lawful : (max len : ℕ) (nodes : List Node) → FitSector max len nodes → AllByRecursion (λ n. is_lawful n ≡ true) nodes
 all_lawful max len [] h = tt
 all_lawful max len (n ∷ nodes) h = (h.0, all_lawful max (len - record_len n) nodes h.2)
 
@@ -34,7 +34,7 @@ record_found sector nodes used len n xs there h filled inside begun is =
     let begins = in_rest (length sector / 4) len n sector xs used there begun in
     let z = length sector in
     let rest = length-drop used sector in
-    let fits = in_place_fits n.kind (dsize n) (z / 4) (length (drop used sector)) begins.placed in
+    let fits = rest_fits n.kind (dsize n) (z / 4) (length (drop used sector)) begins.placed in
     let long = record_long n in
     let left : length (drop used sector) ≡ z - sum_by record_len nodes = rest ∙ ap (λ k. z - k) filled in
     let joined : spellings (nodes ++ n ∷ []) ≡ spellings nodes ++ spelling n = flat_map-append spelling nodes (n ∷ []) ∙ ap (λ (xs : List ℕ). spellings nodes ++ xs) (append-nil (spelling n)) in
@@ -46,7 +46,7 @@ record_found sector nodes used len n xs there h filled inside begun is =
             ∙ ap (λ (xs : List ℕ). spellings nodes ++ (spelling n ++ xs)) (drop-drop len used sector)
             ∙ sym (append_assoc (spellings nodes) (spelling n) (drop (used + len) sector))
             ∙ ap (λ (xs : List ℕ). xs ++ drop (used + len) sector) (sym joined);
-        in_place = in_place_more (z / 4) z nodes n h.in_place begins.lawful (subst (λ k. has_place n.kind (dsize n) (z / 4) k ≡ true) left begins.placed);
+        fit = fit_more (z / 4) z nodes n h.fit begins.lawful (subst (λ k. fits_rest n.kind (dsize n) (z / 4) k ≡ true) left begins.placed);
       };
       filled = ap (λ k. k + len) filled ∙ ap (λ k. sum_by record_len nodes + k) is ∙ sym (sum_by_push record_len nodes n);
       inside = omega arith;

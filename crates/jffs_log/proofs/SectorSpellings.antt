@@ -8,12 +8,12 @@ use Rattle.std.proofs.lemmas.Bool.{ne_eqb, lt-ltb, cases_lt}
 use Rattle.jffs_node.specs.declared.node.Node.{Node}
 use Rattle.jffs_node.specs.declared.read.Read.{Read}
 use Rattle.jffs_node.specs.declared.read.Read.TheVariants.{Closed, Free, Torn, Bad}
-use Rattle.jffs_node.specs.Record.{spelling, record_len, dsize, is_lawful, has_place, len_of_data}
+use Rattle.jffs_node.specs.Record.{spelling, record_len, dsize, is_lawful, fits_rest, len_of_data}
 use Rattle.jffs_node.specs.Reading.{Reading, found, is_erased, after_record, reading_of, reading, broken_rule, closed_or_bad}
 use Rattle.jffs_node.proofs.Found.{records_are_found, length_spelled}
-use Rattle.jffs_node.proofs.Rules.{place_parts}
+use Rattle.jffs_node.proofs.Rules.{fits_rest_parts}
 use Rattle.jffs_flash.specs.Image.{replaced}
-use Rattle.jffs_log.specs.Sector.{spellings, AreInPlace, HoldsNodes}
+use Rattle.jffs_log.specs.Sector.{spellings, FitSector, HoldsNodes}
 
 -- no record, so a reading ends here
 abbrev pub IsEnd : Read → Type 0
@@ -46,10 +46,10 @@ end_reads more max rest (Bad why) h = refl
 pub record_long : (n : Node) → 64 ≤ record_len n
 record_long n = omega arith
 
-pub in_place_fits : (k : _) (amount max len : ℕ) → has_place k amount max len ≡ true → len_of_data amount ≤ len
-in_place_fits k amount max len h = (place_parts k amount max len h).1
+pub rest_fits : (k : _) (amount max len : ℕ) → fits_rest k amount max len ≡ true → len_of_data amount ≤ len
+rest_fits k amount max len h = (fits_rest_parts k amount max len h).1
 
-pub length_spellings : (max len : ℕ) (nodes : List Node) → AreInPlace max len nodes → length (spellings nodes) ≡ sum_by record_len nodes
+pub length_spellings : (max len : ℕ) (nodes : List Node) → FitSector max len nodes → length (spellings nodes) ≡ sum_by record_len nodes
 length_spellings max len [] h = refl
 length_spellings max len (n ∷ nodes) h =
     let one = length_spelled n h.0 in
@@ -62,7 +62,7 @@ pub records_count : (nodes : List Node) → 64 * length nodes ≤ sum_by record_
 records_count [] = omega arith
 records_count (n ∷ nodes) = let more = records_count nodes in let one = record_long n in let e = sum_by-cons record_len n nodes in omega arith
 
-reading_spelled : (more max : ℕ) (nodes : List Node) (rest : List ℕ) → length nodes ≤ more → AreInPlace max (length (spellings nodes ++ rest)) nodes → IsEnd (found max rest)
+reading_spelled : (more max : ℕ) (nodes : List Node) (rest : List ℕ) → length nodes ≤ more → FitSector max (length (spellings nodes ++ rest)) nodes → IsEnd (found max rest)
     → reading_of more max (spellings nodes ++ rest) ≡ record { nodes = nodes; ending = found max rest }
 reading_spelled zero max [] rest few h end = refl
 reading_spelled zero max (n ∷ nodes) rest few h end = absurd (omega arith)
@@ -72,10 +72,10 @@ reading_spelled (suc more) max (n ∷ nodes) rest few h end =
     let joined = append_assoc (spelling n) (spellings nodes) rest in
     let long = length_spelled n h.0 in
     let e = length-append (spelling n) after in
-    let begins = records_are_found (spelling n ++ after) max n after (record { spelled = refl; lawful = h.0; placed = subst (λ (xs : List ℕ). has_place n.kind (dsize n) max (length xs) ≡ true) joined h.1 }) in
+    let begins = records_are_found (spelling n ++ after) max n after (record { spelled = refl; lawful = h.0; placed = subst (λ (xs : List ℕ). fits_rest n.kind (dsize n) max (length xs) ≡ true) joined h.1 }) in
     let left : length (spellings (n ∷ nodes) ++ rest) - record_len n ≡ length after = omega (arith, ap length joined) in
     let dropped : drop (record_len n) (spelling n ++ after) ≡ after = ap (λ k. drop k (spelling n ++ after)) (sym long) ∙ drop-append_seam (spelling n) after in
-    let later = reading_spelled more max nodes rest (omega arith) (subst (λ k. AreInPlace max k nodes) left h.2) end in
+    let later = reading_spelled more max nodes rest (omega arith) (subst (λ k. FitSector max k nodes) left h.2) end in
     ap (λ (xs : List ℕ). reading_of (suc more) max xs) joined
     ∙ reads_next more max (spelling n ++ after)
     ∙ ap (next_of more max (spelling n ++ after)) begins
@@ -87,22 +87,22 @@ pub reading_holds : (sector : List ℕ) (nodes : List Node) (rest : List ℕ) �
     → reading sector ≡ record { nodes = nodes; ending = found (length sector / 4) rest }
 reading_holds sector nodes rest h end =
     let z = length sector in
-    let long = length_spellings (z / 4) z nodes h.in_place in
+    let long = length_spellings (z / 4) z nodes h.fit in
     let whole = ap length h.spelled ∙ length-append (spellings nodes) rest in
     let many = records_count nodes in
     ap (λ (xs : List ℕ). reading_of (z / 64) (z / 4) xs) h.spelled
-    ∙ reading_spelled (z / 64) (z / 4) nodes rest (omega arith) (subst (λ k. AreInPlace (z / 4) k nodes) (ap length h.spelled) h.in_place) end
+    ∙ reading_spelled (z / 64) (z / 4) nodes rest (omega arith) (subst (λ k. FitSector (z / 4) k nodes) (ap length h.spelled) h.fit) end
 
 -- One more node at the end.
-pub in_place_more : (max len : ℕ) (nodes : List Node) (n : Node) → AreInPlace max len nodes → is_lawful n ≡ true → has_place n.kind (dsize n) max (len - sum_by record_len nodes) ≡ true
-    → AreInPlace max len (nodes ++ n ∷ [])
-in_place_more max len [] n h lawful place =
+pub fit_more : (max len : ℕ) (nodes : List Node) (n : Node) → FitSector max len nodes → is_lawful n ≡ true → fits_rest n.kind (dsize n) max (len - sum_by record_len nodes) ≡ true
+    → FitSector max len (nodes ++ n ∷ [])
+fit_more max len [] n h lawful room =
     let all : len - 0 ≡ len = omega arith in
-    (lawful, subst (λ k. has_place n.kind (dsize n) max k ≡ true) all place, tt)
-in_place_more max len (m ∷ nodes) n h lawful place =
+    (lawful, subst (λ k. fits_rest n.kind (dsize n) max k ≡ true) all room, tt)
+fit_more max len (m ∷ nodes) n h lawful room =
     let e = sum_by-cons record_len m nodes in
     let same : len - sum_by record_len (m ∷ nodes) ≡ len - record_len m - sum_by record_len nodes = omega arith in
-    (h.0, h.1, in_place_more max (len - record_len m) nodes n h.2 lawful (subst (λ k. has_place n.kind (dsize n) max k ≡ true) same place))
+    (h.0, h.1, fit_more max (len - record_len m) nodes n h.2 lawful (subst (λ k. fits_rest n.kind (dsize n) max k ≡ true) same room))
 
 -- Where a gate is open, or too few bytes are left, no record is found.
 abbrev pub IsOpen : List ℕ → Type 0
@@ -146,7 +146,7 @@ pub written : (sector part : List ℕ) (nodes : List Node) (free : ℕ) → Hold
     → replaced (sum_by record_len nodes) part sector ≡ spellings nodes ++ (part ++ replicate (free - length part) 255)
 written sector part nodes free h =
     let front = spellings nodes in
-    let long : length front ≡ sum_by record_len nodes = length_spellings (length sector / 4) (length sector) nodes h.in_place in
+    let long : length front ≡ sum_by record_len nodes = length_spellings (length sector / 4) (length sector) nodes h.fit in
     ap (λ k. replaced k part sector) (sym long)
     ∙ ap (λ (xs : List ℕ). replaced (length front) part xs) h.spelled
     ∙ ap (λ (xs : List ℕ). xs ++ part ++ drop (length front + length part) (front ++ replicate free 255)) (take-append_seam front (replicate free 255))
@@ -163,13 +163,13 @@ length_written sector part nodes free h short =
     let whole = ap length h.spelled ∙ length-append (spellings nodes) (replicate free 255) in
     ap length (written sector part nodes free h) ∙ omega arith
 
-pub whole_written : (sector : List ℕ) (nodes : List Node) (free : ℕ) (n : Node) → HoldsNodes sector nodes (replicate free 255) → is_lawful n ≡ true → has_place n.kind (dsize n) (length sector / 4) free ≡ true
+pub whole_written : (sector : List ℕ) (nodes : List Node) (free : ℕ) (n : Node) → HoldsNodes sector nodes (replicate free 255) → is_lawful n ≡ true → fits_rest n.kind (dsize n) (length sector / 4) free ≡ true
     → HoldsNodes (replaced (sum_by record_len nodes) (spelling n) sector) (nodes ++ n ∷ []) (replicate (free - record_len n) 255)
-whole_written sector nodes free n h lawful place =
+whole_written sector nodes free n h lawful room =
     let z = length sector in
     let long = length_spelled n lawful in
-    let fits = in_place_fits n.kind (dsize n) (z / 4) free place in
-    let front = length_spellings (z / 4) z nodes h.in_place in
+    let fits = rest_fits n.kind (dsize n) (z / 4) free room in
+    let front = length_spellings (z / 4) z nodes h.fit in
     let i : length {A = ℕ} (replicate free 255) ≡ free = length-replicate free 255 in
     let whole = ap length h.spelled ∙ length-append (spellings nodes) (replicate free 255) in
     let left : free ≡ z - sum_by record_len nodes = omega arith in
@@ -181,15 +181,15 @@ whole_written sector nodes free n h lawful place =
           ∙ ap (λ k. spellings nodes ++ (spelling n ++ replicate (free - k) 255)) long
           ∙ sym (append_assoc (spellings nodes) (spelling n) (replicate (free - record_len n) 255))
           ∙ ap (λ (xs : List ℕ). xs ++ replicate (free - record_len n) 255) (sym joined);
-      in_place = subst (λ k. AreInPlace (k / 4) k (nodes ++ n ∷ [])) (sym same)
-          (in_place_more (z / 4) z nodes n h.in_place lawful (subst (λ k. has_place n.kind (dsize n) (z / 4) k ≡ true) left place));
+      fit = subst (λ k. FitSector (k / 4) k (nodes ++ n ∷ [])) (sym same)
+          (fit_more (z / 4) z nodes n h.fit lawful (subst (λ k. fits_rest n.kind (dsize n) (z / 4) k ≡ true) left room));
     }
 
 pub part_written : (sector part : List ℕ) (nodes : List Node) (free : ℕ) → HoldsNodes sector nodes (replicate free 255) → length part ≤ free
     → HoldsNodes (replaced (sum_by record_len nodes) part sector) nodes (part ++ replicate (free - length part) 255)
 part_written sector part nodes free h short = record {
   spelled = written sector part nodes free h;
-  in_place = subst (λ k. AreInPlace (k / 4) k nodes) (sym (length_written sector part nodes free h short)) h.in_place;
+  fit = subst (λ k. FitSector (k / 4) k nodes) (sym (length_written sector part nodes free h short)) h.fit;
 }
 
 -- a part of a record whose gate is open

@@ -4,7 +4,7 @@ use Rattle.std.specs.List.{list_all}
 use Rattle.std.proofs.lemmas.Bool.{and_parts, ltb-true, cases_Bool, cases_lt, both_ways}
 use Rattle.std.proofs.lemmas.Option.{none-some, same_Some}
 use Rattle.jffs_node.specs.declared.node.Node.{Node}
-use Rattle.jffs_tree.specs.Origin.{concerns, size_in, writes, place_before, origin, newest, version_of, is_live}
+use Rattle.jffs_tree.specs.Origin.{concerns, size_in, writes, offset_before, origin, newest, version_of, is_live}
 use Rattle.jffs_tree.specs.Laws.{NoneLive}
 use Rattle.jffs_tree.proofs.Steps.{entry-other, newest-other, newest-deleted, newest-written, origin-other, origin-deleted, origin-written, origin-moved, origin-padding}
 use Rattle.jffs_tree.specs.State.{bytes_of}
@@ -34,9 +34,9 @@ module _ (n : Node) (past : List Node) (v : ℕ) (older : v < n.version) where
       (λ d. ⊎_elim
       (λ w. absurd (not_own (origin (n ∷ past) i p) (origin-written i n past p c d w) h))
       (λ w. ⊎_elim
-      (λ inside. is_origin_live past v i (place_before n p, inside, ap version_of (sym (origin-moved i n past p c d w inside)) ∙ h))
+      (λ inside. is_origin_live past v i (offset_before n p, inside, ap version_of (sym (origin-moved i n past p c d w inside)) ∙ h))
       (λ behind. absurd (of_none (origin (n ∷ past) i p) v (origin-padding i n past p c d w behind) h))
-      (cases_lt (place_before n p) (size_in past i)))
+      (cases_lt (offset_before n p) (size_in past i)))
       (cases_Bool (writes n p)))
       (cases_Bool n.deleted))
       (λ c. is_origin_live past v i (

@@ -2,12 +2,12 @@
 use Rattle.std.proofs.Common.{◌≡◌, ℕ, ◌+◌, ◌-◌, ◌*◌, ◌/◌, List, [], ◌∷◌, ◌++◌, sym, ap, subst, ◌∙◌, arith}
 use Rattle.jffs_node.specs.declared.node.Node.{Node}
 use Rattle.jffs_node.specs.Record.{record_len, dsize, spelling, is_unmount}
-use Rattle.jffs_node.proofs.Rules.{place_parts}
+use Rattle.jffs_node.proofs.Rules.{fits_rest_parts}
 use Rattle.jffs_flash.specs.Device.{Device, with_image, Fails}
 use Rattle.jffs_flash.specs.Image.{replaced}
-use Rattle.jffs_log.specs.declared.book.Book.{Book}
-use Rattle.jffs_log.specs.declared.book.Kept.{Kept}
-use Rattle.jffs_log.specs.Book.{IsKept, IsBook, IsCut, kept, log_in, layout_in, placed_at}
+use Rattle.jffs_log.specs.declared.log_index.LogIndex.{LogIndex}
+use Rattle.jffs_log.specs.declared.log_index.RecordRef.{RecordRef}
+use Rattle.jffs_log.specs.LogIndex.{Describes, IsLogIndex, IsCut, ref_of, log_in, layout_in, placed_at}
 use Rattle.jffs_log.specs.Gate.{IsWritten, MayWrite}
 use Rattle.jffs_log.specs.LogState.{FitsIn}
 use Rattle.jffs_log.specs.Live.{live_log}
@@ -18,7 +18,7 @@ use Rattle.jffs_log.proofs.Layouts.{layout_tail}
 use Rattle.jffs_log.proofs.Appended.{IsReady, sizes_small, tail_ready, tail_appended, tail_cut}
 use Rattle.jffs_log.proofs.Seen.{fails_weaker}
 
-module _ (b : Book) (old : Device) (h : IsBook old.image b) (n : Node) (fits : FitsIn b.sector_size b.free n) where
+module _ (b : LogIndex) (old : Device) (h : IsLogIndex old.image b) (n : Node) (fits : FitsIn b.sector_size b.free n) where
   -- where it will stand
   abbrev pub tail_at : ℕ
   tail_at = b.tail * b.sector_size + b.used
@@ -29,7 +29,7 @@ module _ (b : Book) (old : Device) (h : IsBook old.image b) (n : Node) (fits : F
   pub tail_may_write : MayWrite tail_at n old.image
   tail_may_write =
       let there = tail_is_ready in
-      let most = (place_parts n.kind (dsize n) (b.sector_size / 4) b.free fits.fits).0 in
+      let most = (fits_rest_parts n.kind (dsize n) (b.sector_size / 4) b.free fits.fits).0 in
       let small = (sizes_small b.sectors b.sector_size h.sizes).1 in
       record {
         lawful = fits.lawful;
@@ -48,17 +48,17 @@ module _ (b : Book) (old : Device) (h : IsBook old.image b) (n : Node) (fits : F
     image : new.image ≡ replaced tail_at (spelling n) old.image
     image = ap (λ (d : Device). d.image) written
 
-    -- the book with the record
-    pub tail_book : (len : ℕ) (items : List Kept) → len ≡ record_len n
-        → items ≡ b.records.items ++ record { version = n.version; inode = n.inode; length = len; sector = b.tail; place = b.used } ∷ []
-        → IsKept b.sectors b.sector_size new.image b.first b.held b.tail (b.used + len) (b.free - len) items
-    tail_book len items is e =
+    -- the index with the record
+    pub tail_index : (len : ℕ) (items : List RecordRef) → len ≡ record_len n
+        → items ≡ b.records.items ++ record { version = n.version; inode = n.inode; length = len; sector = b.tail; offset = b.used } ∷ []
+        → Describes b.sectors b.sector_size new.image b.first b.held b.tail (b.used + len) (b.free - len) items
+    tail_index len items is e =
         let all = tail_appended _ _ _ _ _ _ _ _ _ n h fits.lawful fits.fits in
-        let same : b.records.items ++ kept (placed_at b.tail b.used n) ∷ [] ≡ items =
-        ap (λ (k : ℕ). b.records.items ++ record { version = n.version; inode = n.inode; length = k; sector = b.tail; place = b.used } ∷ []) (sym is) ∙ sym e in
-        subst (λ (rs : List Kept). IsKept b.sectors b.sector_size new.image b.first b.held b.tail (b.used + len) (b.free - len) rs) same
-        (subst (λ (k : ℕ). IsKept b.sectors b.sector_size new.image b.first b.held b.tail (b.used + k) (b.free - k) (b.records.items ++ kept (placed_at b.tail b.used n) ∷ [])) (sym is)
-        (subst (λ (xs : List ℕ). IsKept b.sectors b.sector_size xs b.first b.held b.tail (b.used + record_len n) (b.free - record_len n) (b.records.items ++ kept (placed_at b.tail b.used n) ∷ [])) (sym image) all.0))
+        let same : b.records.items ++ ref_of (placed_at b.tail b.used n) ∷ [] ≡ items =
+        ap (λ (k : ℕ). b.records.items ++ record { version = n.version; inode = n.inode; length = k; sector = b.tail; offset = b.used } ∷ []) (sym is) ∙ sym e in
+        subst (λ (rs : List RecordRef). Describes b.sectors b.sector_size new.image b.first b.held b.tail (b.used + len) (b.free - len) rs) same
+        (subst (λ (k : ℕ). Describes b.sectors b.sector_size new.image b.first b.held b.tail (b.used + k) (b.free - k) (b.records.items ++ ref_of (placed_at b.tail b.used n) ∷ [])) (sym is)
+        (subst (λ (xs : List ℕ). Describes b.sectors b.sector_size xs b.first b.held b.tail (b.used + record_len n) (b.free - record_len n) (b.records.items ++ ref_of (placed_at b.tail b.used n) ∷ [])) (sym image) all.0))
 
     pub tail_added : live_log b.sectors b.sector_size new.image ≡ log_in old.image b ++ placed_at b.tail b.used n ∷ []
     tail_added = ap (live_log b.sectors b.sector_size) image ∙ (tail_appended _ _ _ _ _ _ _ _ _ n h fits.lawful fits.fits).1

@@ -1,4 +1,4 @@
--- The weight of the records of a book, and how many there are.
+-- The weight of the records of an index, and how many there are.
 use Rattle.std.proofs.Common.{◌≡◌, ℕ, zero, suc, ◌+◌, ◌*◌, ◌/◌, ◌^◌, ◌<◌, ◌≤◌, Bool, true, false, cond, ◌&&◌, eqb, List, [], ◌∷◌, length, take, drop, map, filter, flat_map, sum_by, refl, sym, ap, subst, ◌∙◌, arith, length-append}
 use Rattle.std.specs.List.{sum, enumerate_from, AllByRecursion}
 use Rattle.std.proofs.Math.Nat.{mul-le-mul_right}
@@ -12,37 +12,37 @@ use Rattle.jffs_node.specs.Reading.{found, reading_of}
 use Rattle.jffs_node.proofs.Each.{each_front}
 use Rattle.jffs_tree.specs.Origin.{Tree}
 use Rattle.jffs_tree.specs.Look.{holds_version}
-use Rattle.jffs_log.specs.declared.book.Kept.{Kept}
+use Rattle.jffs_log.specs.declared.log_index.RecordRef.{RecordRef}
 use Rattle.jffs_log.specs.Image.{Sector, Placed, placed_from, records_in}
 use Rattle.jffs_log.specs.Volume.{sectors_in}
 use Rattle.jffs_log.specs.Live.{live_log}
-use Rattle.jffs_log.specs.Book.{kept, IsKept, lives_in, weight_in, live_in}
+use Rattle.jffs_log.specs.LogIndex.{ref_of, Describes, lives_in, weight_in, live_in}
 use Rattle.jffs_log.proofs.Ring.{Numbered, ring_lengths}
 use Rattle.jffs_log.proofs.Open.{length-sectors_in}
-use Rattle.jffs_log.proofs.Appended.{kept_live, sizes_small}
+use Rattle.jffs_log.proofs.Appended.{described_live, sizes_small}
 use Rattle.jffs_log.proofs.MountedLog.{after_found, each_turned, each_numbered}
 
-abbrev kept_lives : Tree → Kept → Bool
-kept_lives tree k = holds_version tree k.inode k.version
+abbrev ref_lives : Tree → RecordRef → Bool
+ref_lives tree k = holds_version tree k.inode k.version
 
-weight_by : (tree : Tree) (log : List Placed) → sum_by (λ (k : Kept). k.length) (filter (kept_lives tree) (map kept log)) ≡ weight_in tree log
+weight_by : (tree : Tree) (log : List Placed) → sum_by (λ (k : RecordRef). k.length) (filter (ref_lives tree) (map ref_of log)) ≡ weight_in tree log
 weight_by tree [] = refl
 weight_by tree (p ∷ log) =
-    let rest = filter (kept_lives tree) (map kept log) in
+    let rest = filter (ref_lives tree) (map ref_of log) in
     let others = filter (lives_in tree) log in
     let later = weight_by tree log in
-    elim (lives_in tree p) as (λ t. sum_by (λ (k : Kept). k.length) (cond t (kept p ∷ rest) rest) ≡ sum_by (λ (q : Placed). record_len q.node) (cond t (p ∷ others) others)) [
-      | true ↦ sum_by-cons (λ (k : Kept). k.length) (kept p) rest ∙ ap (λ s. record_len p.node + s) later ∙ sym (sum_by-cons (λ (q : Placed). record_len q.node) p others)
+    elim (lives_in tree p) as (λ t. sum_by (λ (k : RecordRef). k.length) (cond t (ref_of p ∷ rest) rest) ≡ sum_by (λ (q : Placed). record_len q.node) (cond t (p ∷ others) others)) [
+      | true ↦ sum_by-cons (λ (k : RecordRef). k.length) (ref_of p) rest ∙ ap (λ s. record_len p.node + s) later ∙ sym (sum_by-cons (λ (q : Placed). record_len q.node) p others)
       | false ↦ later
     ]
 
-count_by : (sector : ℕ) (tree : Tree) (log : List Placed) → length (filter (λ (k : Kept). eqb k.sector sector && kept_lives tree k) (map kept log)) ≡ live_in sector tree log
+count_by : (sector : ℕ) (tree : Tree) (log : List Placed) → length (filter (λ (k : RecordRef). eqb k.sector sector && ref_lives tree k) (map ref_of log)) ≡ live_in sector tree log
 count_by sector tree [] = refl
 count_by sector tree (p ∷ log) =
-    let rest = filter (λ (k : Kept). eqb k.sector sector && kept_lives tree k) (map kept log) in
+    let rest = filter (λ (k : RecordRef). eqb k.sector sector && ref_lives tree k) (map ref_of log) in
     let others = filter (λ (q : Placed). eqb q.sector sector && lives_in tree q) log in
     let later = count_by sector tree log in
-    elim (eqb p.sector sector && lives_in tree p) as (λ t. length (cond t (kept p ∷ rest) rest) ≡ length (cond t (p ∷ others) others)) [
+    elim (eqb p.sector sector && lives_in tree p) as (λ t. length (cond t (ref_of p ∷ rest) rest) ≡ length (cond t (p ∷ others) others)) [
       | true ↦ ap (λ n. suc n) later
       | false ↦ later
     ]
@@ -70,9 +70,9 @@ all_few (suc count) len image =
     let short : length bytes ≤ len = let e = length-take len image in omega arith in
     (omega arith, all_few count len (drop len image))
 
-placed_count : (sector place : ℕ) (nodes : List Node) → length (placed_from sector place nodes) ≡ length nodes
-placed_count sector place [] = refl
-placed_count sector place (n ∷ nodes) = ap (λ k. suc k) (placed_count sector (place + record_len n) nodes)
+placed_count : (sector offset : ℕ) (nodes : List Node) → length (placed_from sector offset nodes) ≡ length nodes
+placed_count sector offset [] = refl
+placed_count sector offset (n ∷ nodes) = ap (λ k. suc k) (placed_count sector (offset + record_len n) nodes)
 
 few_records : (most : ℕ) (held : List Numbered) → AllByRecursion (λ s. IsFew most s.1) held → length (flat_map records_in held) ≤ length held * most
 few_records most [] h = omega arith
@@ -83,7 +83,7 @@ few_records most (s ∷ held) h =
     let sum = length-append (records_in s) (flat_map records_in held) in
     omega arith
 
-module _ (count len : ℕ) (image : List ℕ) (first many tail used free : ℕ) (records : List Kept) (h : IsKept count len image first many tail used free records) where
+module _ (count len : ℕ) (image : List ℕ) (first many tail used free : ℕ) (records : List RecordRef) (h : Describes count len image first many tail used free records) where
   held_few : AllByRecursion (λ s. IsFew (len / 64) s.1) h.held
   held_few =
       let P : Numbered → Type 0 = λ s. IsFew (len / 64) s.1 in
@@ -99,17 +99,17 @@ module _ (count len : ℕ) (image : List ℕ) (first many tail used free : ℕ) 
       let sectors = length-sectors_in count len image in
       let short : length h.held ≤ 64 = let s = sizes.0 in omega arith in
       let bound = mul-le-mul_right (len / 64) short in
-      let long = ap (λ (xs : List Kept). length xs) h.listed ∙ length-map (flat_map records_in h.held) kept in
+      let long = ap (λ (xs : List RecordRef). length xs) h.listed ∙ length-map (flat_map records_in h.held) ref_of in
       let small = sizes.1 in
       omega arith
 
-  pub kept_weight : (tree : Tree) → sum (map (λ (k : Kept). k.length) (filter (λ (k : Kept). holds_version tree k.inode k.version) records)) ≡ weight_in tree (live_log count len image)
-  kept_weight tree =
-      sum-map (λ (k : Kept). k.length) (filter (kept_lives tree) records)
-      ∙ ap (λ (ks : List Kept). sum_by (λ (k : Kept). k.length) (filter (kept_lives tree) ks)) (h.listed ∙ ap (map kept) (sym (kept_live count len image first many tail used free records h)))
+  pub refs_weight : (tree : Tree) → sum (map (λ (k : RecordRef). k.length) (filter (λ (k : RecordRef). holds_version tree k.inode k.version) records)) ≡ weight_in tree (live_log count len image)
+  refs_weight tree =
+      sum-map (λ (k : RecordRef). k.length) (filter (ref_lives tree) records)
+      ∙ ap (λ (ks : List RecordRef). sum_by (λ (k : RecordRef). k.length) (filter (ref_lives tree) ks)) (h.listed ∙ ap (map ref_of) (sym (described_live count len image first many tail used free records h)))
       ∙ weight_by tree (live_log count len image)
 
-  pub kept_count : (sector : ℕ) (tree : Tree) → length (filter (λ (k : Kept). eqb k.sector sector && holds_version tree k.inode k.version) records) ≡ live_in sector tree (live_log count len image)
-  kept_count sector tree =
-      ap (λ (ks : List Kept). length (filter (λ (k : Kept). eqb k.sector sector && kept_lives tree k) ks)) (h.listed ∙ ap (map kept) (sym (kept_live count len image first many tail used free records h)))
+  pub refs_count : (sector : ℕ) (tree : Tree) → length (filter (λ (k : RecordRef). eqb k.sector sector && holds_version tree k.inode k.version) records) ≡ live_in sector tree (live_log count len image)
+  refs_count sector tree =
+      ap (λ (ks : List RecordRef). length (filter (λ (k : RecordRef). eqb k.sector sector && ref_lives tree k) ks)) (h.listed ∙ ap (map ref_of) (sym (described_live count len image first many tail used free records h)))
       ∙ count_by sector tree (live_log count len image)

@@ -2,7 +2,7 @@
 use Rattle.std.specs.Prelude.{ℕ, zero, suc, ◌+◌, ◌-◌, ◌/◌, Bool, true, not, ◌&&◌, ◌||◌, ◌==◌, nat_le, nat_lt, List, [], ◌∷◌, ◌++◌, map, filter, sum_by, if◌then◌else◌}
 use Rattle.std.specs.List.{list_all}
 use Rattle.jffs_node.specs.declared.node.Node.{Node}
-use Rattle.jffs_node.specs.Record.{record_len, dsize, is_file, has_place}
+use Rattle.jffs_node.specs.Record.{record_len, dsize, is_file, fits_rest}
 use Rattle.jffs_tree.specs.State.{state_of_past}
 use Rattle.jffs_tree.specs.Origin.{is_live}
 use Rattle.jffs_tree.specs.Check.{each_fits}
@@ -68,7 +68,7 @@ abbrev pub erase_oldest : Layout → Layout
 erase_oldest log = record { sectors = without_oldest log.sectors; free = log.free; erased = log.erased + 1 }
 
 -- The nodes of the history, the newest first, and the log that holds the newest of them.
-pub record Session : Type 0 where
+pub record GcState : Type 0 where
   pub past : List Node
   pub log : Layout
 
@@ -82,53 +82,53 @@ abbrev pub copied : List Node → Node → Node
 copied past n = with (cleaning_copy (state_of_past past) n) (version_after past) 0 0
 
 -- the copy of a record is appended
-abbrev pub with_copy : ℕ → Node → Session → Session
+abbrev pub with_copy : ℕ → Node → GcState → GcState
 with_copy sector_size n s = record { past = copied s.past n ∷ s.past; log = put sector_size Copy (copied s.past n) s.log }
 
 -- A record at its turn: copied where it is live, else skipped.
-abbrev pub handled : ℕ → Node → Session → Session
+abbrev pub handled : ℕ → Node → GcState → GcState
 handled sector_size n s = if is_live s.past n.version then with_copy sector_size n s else s
 
 -- several records, each at its turn
-abbrev pub handled_each : ℕ → List Node → Session → Session
+abbrev pub handled_each : ℕ → List Node → GcState → GcState
 handled_each sector_size [] s = s
 handled_each sector_size (n ∷ nodes) s = handled_each sector_size nodes (handled sector_size n s)
 
 -- the copy of this record, where one is made, has room
-abbrev pub copy_has_room : Node → Session → Bool
+abbrev pub copy_has_room : Node → GcState → Bool
 copy_has_room n s = not (is_live s.past n.version) || has_room Copy (record_len (copied s.past n)) s.log.free s.log.erased
 
 -- each copy has room at its turn
-abbrev pub copies_have_room : ℕ → List Node → Session → Bool
+abbrev pub copies_have_room : ℕ → List Node → GcState → Bool
 copies_have_room sector_size [] s = true
 copies_have_room sector_size (n ∷ nodes) s = copy_has_room n s && copies_have_room sector_size nodes (handled sector_size n s)
 
 -- The oldest sector is cleaned: its live records are copied, in order, and it is erased.
-abbrev pub cleaned : ℕ → Session → Session
+abbrev pub cleaned : ℕ → GcState → GcState
 cleaned sector_size s =
     let after = handled_each sector_size (oldest_records s.log.sectors) s in
     record { past = after.past; log = erase_oldest after.log }
 
 -- a fresh record of `len` bytes has room
-abbrev pub fresh_has_room : ℕ → Session → Bool
+abbrev pub fresh_has_room : ℕ → GcState → Bool
 fresh_has_room len s = has_room Fresh len s.log.free s.log.erased
 
 -- Room is made for a fresh record of `len` bytes, by at most as many cleanings as the last number says.
-abbrev pub room_made : ℕ → ℕ → ℕ → Session → Session
+abbrev pub room_made : ℕ → ℕ → ℕ → GcState → GcState
 room_made sector_size len zero s = s
 room_made sector_size len (suc left) s = if fresh_has_room len s then s else room_made sector_size len left (cleaned sector_size s)
 
 -- how many cleanings that takes
-abbrev pub cleanings : ℕ → ℕ → ℕ → Session → ℕ
+abbrev pub cleanings : ℕ → ℕ → ℕ → GcState → ℕ
 cleanings sector_size len zero s = 0
 cleanings sector_size len (suc left) s = if fresh_has_room len s then 0 else 1 + cleanings sector_size len left (cleaned sector_size s)
 
 -- What a lawful log keeps.
 
--- each record of a sector, from a place on, may stand there: a file or directory record leaves 64 bytes after it
+-- each record of a sector, from an offset on, may stand there: a file or directory record leaves 64 bytes after it
 abbrev pub stands_from : ℕ → ℕ → List Node → Bool
-stands_from sector_size place [] = true
-stands_from sector_size place (n ∷ nodes) = has_place n.kind (dsize n) (sector_size / 4) (sector_size - place) && stands_from sector_size (place + record_len n) nodes
+stands_from sector_size offset [] = true
+stands_from sector_size offset (n ∷ nodes) = fits_rest n.kind (dsize n) (sector_size / 4) (sector_size - offset) && stands_from sector_size (offset + record_len n) nodes
 
 -- the last sector's records, and what is free after them
 abbrev pub last_fits : ℕ → ℕ → List (List Node) → Bool

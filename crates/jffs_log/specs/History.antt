@@ -6,13 +6,13 @@ use Rattle.jffs_tree.specs.Origin.{tree_of}
 use Rattle.jffs_tree.specs.Deciding.{IsLawfulPast}
 use Rattle.jffs_tree.specs.Laws.{NoneLive}
 use Rattle.jffs_flash.specs.Sizes.{is_geometry}
-use Rattle.jffs_log.specs.declared.book.Book.{Book}
+use Rattle.jffs_log.specs.declared.log_index.LogIndex.{LogIndex}
 use Rattle.jffs_log.specs.Image.{Placed, past_of, is_clean}
 use Rattle.jffs_log.specs.Volume.{split, sectors_in}
 use Rattle.jffs_log.specs.Live.{IsReadable, live_log}
 use Rattle.jffs_log.specs.Scan.{Scanned, scan}
 use Rattle.jffs_log.specs.Cleaning.{versions_fall}
-use Rattle.jffs_log.specs.Book.{IsCut, lives_in}
+use Rattle.jffs_log.specs.LogIndex.{IsCut, lives_in}
 
 -- lawful nodes that keep the rules, and whose versions rise
 pub record KeepsRules (past : List Node) : Type 0 where
@@ -28,8 +28,8 @@ pub record IsLawfulHistory (count len : ℕ) (image : List ℕ) (past : List Nod
   pub front : past ≡ past_of (live_log count len image) ++ gone
   pub dead : NoneLive past gone
 
--- the same by the sizes of a book
-abbrev pub IsHistory : List ℕ → Book → List Node → Type 0
+-- the same by the sizes of an index
+abbrev pub IsHistory : List ℕ → LogIndex → List Node → Type 0
 IsHistory image b past = IsLawfulHistory b.sectors b.sector_size image past
 
 -- A scan finds the log, and the tree of the whole history.
@@ -49,7 +49,7 @@ AppendsKeepHistory = (count len : ℕ) (old new : List ℕ) (past : List Node) (
 
 -- An append that failed leaves the history as it was, or with the node.
 abbrev pub CutsKeepHistory : Type 0
-CutsKeepHistory = (b : Book) (old new : List ℕ) (past : List Node) (p : Placed) → IsHistory old b past → KeepsRules (p.node ∷ past) → IsCut b old new p
+CutsKeepHistory = (b : LogIndex) (old new : List ℕ) (past : List Node) (p : Placed) → IsHistory old b past → KeepsRules (p.node ∷ past) → IsCut b old new p
     → IsHistory new b past ⊎ IsHistory new b (p.node ∷ past)
 
 -- What is erased while it isn't live stays in the history.

@@ -16,16 +16,16 @@ pub record Sector : Type 0 where
 abbrev pub sector_of : List ℕ → Sector
 sector_of bytes = record { erased = is_erased bytes; reading = reading bytes }
 
--- A record of the log, with its sector and its place there.
+-- A record of the log, with its sector and its offset there.
 pub record Placed : Type 0 where
   pub sector : ℕ
-  pub place : ℕ
+  pub offset : ℕ
   pub node : Node
 
 -- the records of a sector, one after another
 abbrev pub placed_from : ℕ → ℕ → List Node → List Placed
-placed_from sector place [] = []
-placed_from sector place (n ∷ nodes) = record { sector = sector; place = place; node = n } ∷ placed_from sector (place + record_len n) nodes
+placed_from sector offset [] = []
+placed_from sector offset (n ∷ nodes) = record { sector = sector; offset = offset; node = n } ∷ placed_from sector (offset + record_len n) nodes
 
 -- all records of a numbered sector
 abbrev pub records_in : (ℕ × Sector) → List Placed
@@ -55,7 +55,7 @@ abbrev pub oldest_of : List ℕ → ℕ
 oldest_of [] = 0
 oldest_of (k ∷ ks) = k
 
--- the list from a place on, and then what stands before that place
+-- the list without its first elements, and then those
 abbrev pub turned : {A : Type 0} → ℕ → List A → List A
 turned k xs = drop k xs ++ take k xs
 

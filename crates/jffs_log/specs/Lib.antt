@@ -4,7 +4,7 @@ pub mod Volume
 pub mod Live
 pub mod LogState
 pub mod Gate
-pub mod Book
+pub mod LogIndex
 pub mod Ring
 pub mod Scan
 pub mod Room

@@ -2,16 +2,16 @@
 use Rattle.std.specs.Prelude.{◌≡◌, ◌⊎◌, ℕ, ◌+◌, ◌-◌, ◌*◌, ◌/◌, ◌^◌, ◌<◌, ◌≤◌, Bool, true, false, List, [], ◌∷◌, ◌++◌, length, min, IsTrue}
 use Rattle.std.specs.List.{AllByRecursion}
 use Rattle.jffs_node.specs.declared.node.Node.{Node}
-use Rattle.jffs_node.specs.Record.{record_len, dsize, is_lawful, is_unmount, has_place}
+use Rattle.jffs_node.specs.Record.{record_len, dsize, is_lawful, is_unmount, fits_rest}
 use Rattle.jffs_tree.specs.Origin.{Tree, tree_of}
 use Rattle.jffs_tree.specs.declared.wish.Cause.{Cause}
 use Rattle.jffs_tree.specs.declared.wish.Cause.TheVariants as cause
 use Rattle.jffs_flash.specs.Image.{erased, IsHalfErased}
 use Rattle.jffs_flash.specs.Device.{Device, with_image, Fails, EraseFails, Unchanged}
-use Rattle.jffs_log.specs.declared.book.Book.{Book}
+use Rattle.jffs_log.specs.declared.log_index.LogIndex.{LogIndex}
 use Rattle.jffs_log.specs.declared.room.Room.{Room}
 use Rattle.jffs_log.specs.declared.room.Room.TheVariants as room
-use Rattle.jffs_log.specs.Book.{IsBook, HasSizes, IsSameBook, IsCut, IsCutSomewhere, log_in, oldest_in, layout_in, lives_in, placed_at}
+use Rattle.jffs_log.specs.LogIndex.{IsLogIndex, HasSizes, IsSameLogIndex, IsCut, IsCutSomewhere, log_in, oldest_in, layout_in, lives_in, placed_at}
 use Rattle.jffs_log.specs.Cleaning.{Layout, put, erase_oldest}
 use Rattle.jffs_log.specs.History.{IsHistory, KeepsRules}
 use Rattle.jffs_log.specs.Image.{Placed, is_clean}
@@ -21,83 +21,83 @@ use Rattle.jffs_log.specs.Volume.{sectors_in}
 -- its device, what is known of it in memory, and whether a call of the device failed
 pub record LogState : Type 0 where
   pub device : Device
-  pub book : Book
+  pub index : LogIndex
   pub failed : Bool
 
--- the records of the image, each with its sector and place, in the order of the log
+-- the records of the image, each with its sector and offset, in the order of the log
 abbrev pub log_records : LogState → List Placed
-log_records s = log_in s.device.image s.book
+log_records s = log_in s.device.image s.index
 
 -- the log sector by sector, what is free in the tail, and how many sectors are erased
 abbrev pub log_layout : LogState → Layout
-log_layout s = layout_in s.device.image s.book
+log_layout s = layout_in s.device.image s.index
 
 -- the log is the newest part of this history, and the rest of it was erased
 abbrev pub HasHistory : List Node → LogState → Type 0
-HasHistory past s = IsHistory s.device.image s.book past
+HasHistory past s = IsHistory s.device.image s.index past
 
--- What always holds of a log: while the device works, the book describes its image.
+-- What always holds of a log: while the device works, the index describes its image.
 pub record IsLog (s : LogState) : Type 0 where
-  pub sizes : HasSizes s.device.sectors s.device.sector_size s.book
-  pub held : s.book.held ≤ s.book.sectors
-  pub few : length s.book.records.items < 2 ^ 32
-  pub told : s.failed ≡ false → IsBook s.device.image s.book
+  pub sizes : HasSizes s.device.sectors s.device.sector_size s.index
+  pub held : s.index.held ≤ s.index.sectors
+  pub few : length s.index.records.items < 2 ^ 32
+  pub told : s.failed ≡ false → IsLogIndex s.device.image s.index
 
 -- the node's record may stand in `free` bytes of a sector
 pub record FitsIn (sector_size free : ℕ) (n : Node) : Type 0 where
   pub lawful : IsTrue (is_lawful n)
-  pub fits : IsTrue (has_place n.kind (dsize n) (sector_size / 4) free)
+  pub fits : IsTrue (fits_rest n.kind (dsize n) (sector_size / 4) free)
 
 -- the node's record may be the next, where that room is
 pub record MayAppend (r : Room) (n : Node) (s : LogState) : Type 0 where
   pub lawful : IsTrue (is_lawful n)
-  pub short : record_len n ≤ s.book.sector_size / 4
-  pub has_room : IsTrue (has_room_in s.book.sectors s.book.sector_size s.device.image r (record_len n))
+  pub short : record_len n ≤ s.index.sector_size / 4
+  pub has_room : IsTrue (has_room_in s.index.sectors s.index.sector_size s.device.image r (record_len n))
   pub unmounts : r ≡ room.Unmount → IsTrue (is_unmount n.kind)
 
 -- whether the log of the image ends with an unmount node
 abbrev pub is_clean_log : LogState → Bool
-is_clean_log s = is_clean (sectors_in s.book.sectors s.book.sector_size s.device.image)
+is_clean_log s = is_clean (sectors_in s.index.sectors s.index.sector_size s.device.image)
 
--- only the places that are reserved for records may differ
+-- only the capacity reserved for records may differ
 pub record IsSameLog (old new : LogState) : Type 0 where
   pub device : Unchanged old.device new.device
-  pub book : IsSameBook old.book new.book
+  pub index : IsSameLogIndex old.index new.index
   pub failed : new.failed ≡ old.failed
 
 -- the numbers that an append leaves
-pub record KeepsNumbers (old new : Book) : Type 0 where
+pub record KeepsNumbers (old new : LogIndex) : Type 0 where
   pub sizes : HasSizes old.sectors old.sector_size new
   pub erases : new.erases ≡ old.erases
 
 -- A log that still works, of which the device has another image.
 pub record Works (old new : LogState) : Type 0 where
   pub failed : new.failed ≡ false
-  pub told : IsBook new.device.image new.book
+  pub told : IsLogIndex new.device.image new.index
   pub device : new.device ≡ with_image old.device new.device.image
 
 -- the record stands there, and the log has this layout
-pub record AppendedAt (sector place : ℕ) (layout : Layout) (n : Node) (old new : LogState) : Type 0 where
+pub record AppendedAt (sector offset : ℕ) (layout : Layout) (n : Node) (old new : LogState) : Type 0 where
   pub works : Works old new
-  pub numbers : KeepsNumbers old.book new.book
-  pub tail : (new.book.tail ≡ sector) × (new.book.used ≡ place + record_len n)
-  pub added : log_records new ≡ log_records old ++ placed_at sector place n ∷ []
+  pub numbers : KeepsNumbers old.index new.index
+  pub tail : (new.index.tail ≡ sector) × (new.index.used ≡ offset + record_len n)
+  pub added : log_records new ≡ log_records old ++ placed_at sector offset n ∷ []
   pub layout_is : log_layout new ≡ layout
   pub clean : is_clean_log new ≡ is_unmount n.kind
 
 -- the device failed while the record was written there
-pub record AppendFailedAt (sector place : ℕ) (n : Node) (why : Cause) (old new : LogState) : Type 0 where
+pub record AppendFailedAt (sector offset : ℕ) (n : Node) (why : Cause) (old new : LogState) : Type 0 where
   pub cause_is : why ≡ cause.Device
   pub failed : new.failed ≡ true
-  pub device : Fails (λ image. IsCut old.book old.device.image image (placed_at sector place n)) old.device new.device
-  pub numbers : KeepsNumbers old.book new.book
+  pub device : Fails (λ image. IsCut old.index old.device.image image (placed_at sector offset n)) old.device new.device
+  pub numbers : KeepsNumbers old.index new.index
 
 -- The node's record is the last of the log, in the tail or in the next sector.
 pub record Appended (r : Room) (n : Node) (old new : LogState) : Type 0 where
   pub works : Works old new
-  pub numbers : KeepsNumbers old.book new.book
-  pub added : log_records new ≡ log_records old ++ placed_at new.book.tail (new.book.used - record_len n) n ∷ []
-  pub layout_is : log_layout new ≡ put old.book.sector_size r n (log_layout old)
+  pub numbers : KeepsNumbers old.index new.index
+  pub added : log_records new ≡ log_records old ++ placed_at new.index.tail (new.index.used - record_len n) n ∷ []
+  pub layout_is : log_layout new ≡ put old.index.sector_size r n (log_layout old)
   pub clean : is_clean_log new ≡ is_unmount n.kind
   pub history : (past : List Node) → HasHistory past old → KeepsRules (n ∷ past) → HasHistory (n ∷ past) new
 
@@ -105,22 +105,22 @@ pub record Appended (r : Room) (n : Node) (old new : LogState) : Type 0 where
 pub record AppendFailed (n : Node) (why : Cause) (old new : LogState) : Type 0 where
   pub cause_is : why ≡ cause.Device
   pub failed : new.failed ≡ true
-  pub device : Fails (λ image. IsCutSomewhere old.book old.device.image image n) old.device new.device
-  pub numbers : KeepsNumbers old.book new.book
+  pub device : Fails (λ image. IsCutSomewhere old.index old.device.image image n) old.device new.device
+  pub numbers : KeepsNumbers old.index new.index
   pub history : (past : List Node) → HasHistory past old → KeepsRules (n ∷ past)
       → HasHistory past new ⊎ HasHistory (n ∷ past) new
 
 -- how often the oldest sector was to be erased, after once more
-abbrev pub one_erase_more : Book → ℕ
+abbrev pub one_erase_more : LogIndex → ℕ
 one_erase_more b = min (b.erases + 1) (2 ^ 64 - 1)
 
 -- The oldest sector is gone.
 pub record ErasedOldest (tree : Tree) (old new : LogState) : Type 0 where
   pub works : Works old new
-  pub image : new.device.image ≡ erased old.book.sector_size old.book.first old.device.image
-  pub sizes : HasSizes old.book.sectors old.book.sector_size new.book
-  pub erases : new.book.erases ≡ one_erase_more old.book
-  pub gone : log_records old ≡ oldest_in old.device.image old.book ++ log_records new
+  pub image : new.device.image ≡ erased old.index.sector_size old.index.first old.device.image
+  pub sizes : HasSizes old.index.sectors old.index.sector_size new.index
+  pub erases : new.index.erases ≡ one_erase_more old.index
+  pub gone : log_records old ≡ oldest_in old.device.image old.index ++ log_records new
   pub layout_is : log_layout new ≡ erase_oldest (log_layout old)
   pub clean : is_clean_log new ≡ is_clean_log old
   pub history : (past : List Node) → tree ≡ tree_of past → HasHistory past old → HasHistory past new
@@ -129,14 +129,14 @@ pub record ErasedOldest (tree : Tree) (old new : LogState) : Type 0 where
 pub record EraseFailed (why : Cause) (old new : LogState) : Type 0 where
   pub cause_is : why ≡ cause.Device
   pub failed : new.failed ≡ true
-  pub device : EraseFails (IsHalfErased (old.book.first * old.book.sector_size) old.book.sector_size old.device.image) old.device new.device
-  pub sizes : HasSizes old.book.sectors old.book.sector_size new.book
-  pub erases : new.book.erases ≡ one_erase_more old.book
+  pub device : EraseFails (IsHalfErased (old.index.first * old.index.sector_size) old.index.sector_size old.device.image) old.device new.device
+  pub sizes : HasSizes old.index.sectors old.index.sector_size new.index
+  pub erases : new.index.erases ≡ one_erase_more old.index
 
 -- A read of the device failed: no byte has changed.
 pub record ReadFailed (old new : LogState) : Type 0 where
   pub device : Fails (λ image. image ≡ old.device.image) old.device new.device
-  pub book : new.book ≡ old.book
+  pub index : new.index ≡ old.index
   pub failed : new.failed ≡ true
 
 -- why nothing was read
@@ -147,4 +147,4 @@ ReadStopped _ old new = ⊥
 
 -- no record of the oldest sector lives in the tree
 abbrev pub OldestIsDead : Tree → LogState → Type 0
-OldestIsDead tree s = AllByRecursion (λ p. lives_in tree p ≡ false) (oldest_in s.device.image s.book)
+OldestIsDead tree s = AllByRecursion (λ p. lives_in tree p ≡ false) (oldest_in s.device.image s.index)

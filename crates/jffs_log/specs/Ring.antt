@@ -11,7 +11,7 @@ pub record IsRing (first : ℕ) (sectors : List Sector) (held blank : List (ℕ 
   pub unused : AllByRecursion (λ s. s.1.erased ≡ true) blank
   pub some : 1 ≤ length blank
 
--- The sector of this number stands at that place of the ring.
+-- The sector of this number is that many after the first of the ring.
 abbrev pub IsAt : ℕ → ℕ → ℕ → ℕ → Type 0
 IsAt first many j k = ((first + j ≡ k) × (k < many)) ⊎ ((first + j ≡ k + many) × (k < first))
 

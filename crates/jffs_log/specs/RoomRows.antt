@@ -4,7 +4,7 @@ use Rattle.std.specs.Prelude.{◌≡◌, ℕ, ◌+◌, ◌*◌, true, false, Lis
 use Rattle.jffs_node.specs.declared.node.Node.{Node}
 use Rattle.jffs_node.specs.declared.node.Kind.TheVariants.{File}
 use Rattle.jffs_log.specs.Room.{heavy}
-use Rattle.jffs_log.specs.Cleaning.{Session, used, is_history, copies_have_room, oldest_records, fresh_has_room, room_made, cleanings}
+use Rattle.jffs_log.specs.Cleaning.{GcState, used, is_history, copies_have_room, oldest_records, fresh_has_room, room_made, cleanings}
 use Rattle.jffs_log.specs.RoomLaws.{IsSound, live_weight}
 
 -- a write to the file f
@@ -34,18 +34,18 @@ abbrev pub records : List Node
 records = map appended (0 ∷ 1 ∷ 2 ∷ 3 ∷ 4 ∷ 5 ∷ 6 ∷ 7 ∷ 8 ∷ [])
 
 -- the volume that they fill
-abbrev pub full : Session
+abbrev pub full : GcState
 full = record {
   past = reverse records;
   log = record { sectors = take 3 records ∷ take 3 (drop 3 records) ∷ drop 6 records ∷ []; free = 72; erased = 3 };
 }
 
 -- lengths and versions of what the log holds
-abbrev pub seen : Session → List (List (ℕ × ℕ))
+abbrev pub seen : GcState → List (List (ℕ × ℕ))
 seen s = map (λ nodes. map (λ n. (used (n ∷ []), n.version)) nodes) s.log.sectors
 
 -- the volume after a whole turn of cleaning
-abbrev pub after_turn : Session
+abbrev pub after_turn : GcState
 after_turn = room_made 288 72 3 full
 
 -- what a whole turn makes of it

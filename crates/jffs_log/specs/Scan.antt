@@ -18,8 +18,8 @@ pub record Scanned : Type 0 where
   pub clean : Bool
 
 abbrev pub bad_record : ℕ → ℕ → Read → Option ScanWhy → Option ScanWhy
-bad_record sector place (Bad why) later = Some (BadRecord sector place why)
-bad_record sector place _ later = later
+bad_record sector offset (Bad why) later = Some (BadRecord sector offset why)
+bad_record sector offset _ later = later
 
 -- the first sector whose reading ended at a bad record
 abbrev pub first_bad : ℕ → List Sector → Option ScanWhy

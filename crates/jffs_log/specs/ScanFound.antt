@@ -1,11 +1,11 @@
--- What a scan answers: the book and the numbers that come next, or the cause of its refusal.
+-- What a scan answers: the index and the numbers that come next, or the cause of its refusal.
 use Rattle.std.specs.Prelude.{◌≡◌, ℕ, ◌<◌, Bool, false, not, ◌||◌, max, List, [], ◌∷◌, get_or, is_some, Result, Ok, Err}
 use Rattle.std.specs.List.{AllByRecursion}
 use Rattle.jffs_node.specs.declared.node.Node.{Node}
 use Rattle.jffs_node.specs.Record.{is_file}
 use Rattle.jffs_tree.specs.declared.wish.Limits.{Limits}
 use Rattle.jffs_tree.specs.Origin.{Tree}
-use Rattle.jffs_log.specs.declared.book.Book.{Book}
+use Rattle.jffs_log.specs.declared.log_index.LogIndex.{LogIndex}
 use Rattle.jffs_log.specs.declared.scanning.ScanWhy.{ScanWhy}
 use Rattle.jffs_log.specs.declared.scanning.ScanWhy.TheVariants.{Device, Memory}
 use Rattle.jffs_log.specs.Image.{past_of}
@@ -13,7 +13,7 @@ use Rattle.jffs_log.specs.Room.{limits as limits_after}
 use Rattle.jffs_flash.specs.Device.{Device as FlashDevice}
 use Rattle.jffs_log.specs.LogState.{LogState}
 use Rattle.jffs_log.specs.Volume.{split}
-use Rattle.jffs_log.specs.Book.{IsBook, HasSizes, log_in}
+use Rattle.jffs_log.specs.LogIndex.{IsLogIndex, HasSizes, log_in}
 use Rattle.jffs_log.specs.Scan.{Scanned, scan}
 
 -- the version of the last node, 0 where there is none
@@ -31,10 +31,10 @@ greatest_inode (n ∷ nodes) = max n.inode (greatest_inode nodes)
 abbrev pub keeps_form_after : Bool → Node → Bool
 keeps_form_after has_sizes n = not (is_file n.kind) || n.deleted || is_some n.size || not has_sizes
 
--- the scan of the image, whose elements are bytes, with the book that describes it
-pub record IsFound (count len : ℕ) (image : List ℕ) (found : Book) (tree : Tree) (clean : Bool) (limits : Limits) : Type 0 where
+-- the scan of the image, whose elements are bytes, with the index that describes it
+pub record IsFound (count len : ℕ) (image : List ℕ) (found : LogIndex) (tree : Tree) (clean : Bool) (limits : Limits) : Type 0 where
   pub answer : scan len (split count len image) ≡ Ok (record { log = log_in image found; tree = tree; clean = clean })
-  pub book : IsBook image found
+  pub index : IsLogIndex image found
   pub sizes : HasSizes count len found
   pub erases : found.erases ≡ 0
   pub limits_are : limits ≡ limits_after len (past_of (log_in image found))
@@ -54,7 +54,7 @@ scan_of device = scan device.sector_size (split device.sectors device.sector_siz
 pub record IsMounted (device : FlashDevice) (log : LogState) (tree : Tree) (clean : Bool) (limits : Limits) : Type 0 where
   pub device_is : log.device ≡ device
   pub works : log.failed ≡ false
-  pub found : IsFound device.sectors device.sector_size device.image log.book tree clean limits
+  pub found : IsFound device.sectors device.sector_size device.image log.index tree clean limits
 
 -- no log was found, and nothing but the count of faults has changed
 pub record IsRefused (device : FlashDevice) (why : ScanWhy) (after : FlashDevice) : Type 0 where

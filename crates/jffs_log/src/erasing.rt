@@ -1,10 +1,10 @@
 //! The oldest sector: its bytes, and how it is erased.
 
 ghost use Rattle.std.specs.Prelude.{◌≡◌, ◌≤◌, false, IfOk, OnOk, IfErr};
-ghost use Rattle.jffs_log.specs.Book.{from_other};
+ghost use Rattle.jffs_log.specs.LogIndex.{from_other};
 
-use crate::book::Kept;
 use crate::log::{Log, failure, sector_at};
+use crate::log_index::RecordRef;
 use jffs_flash::{ERASED_BYTE, Flash};
 use jffs_tree::{Cause, Tree};
 use std::alloc::Global;
@@ -21,14 +21,14 @@ impl<F: Flash> Log<F> {
     /// is failed from then on.
     pub fn oldest_image(&mut self, alloc: Global) -> Result<Vec<u8>, Cause>
         requires working { self.old.failed ≡ false }
-        requires some { 1 ≤ self.old.book.held }
-        ensures bytes { IfOk result (λ bytes. bytes.items ≡ sector_bytes self.old.book.sector_size self.old.book.first self.old.device.image) }
+        requires some { 1 ≤ self.old.index.held }
+        ensures bytes { IfOk result (λ bytes. bytes.items ≡ sector_bytes self.old.index.sector_size self.old.index.first self.old.device.image) }
         ensures same { OnOk result (self.new ≡ self.old) }
         ensures stopped { IfErr result (λ cause. ReadStopped cause self.old self.new) }
     {
-        let sector_size = self.book.sector_size;
+        let sector_size = self.index.sector_size;
         let mut bytes = vec![in alloc; ERASED_BYTE; sector_size as usize]?;
-        match self.flash.read(self.book.first * sector_size, &mut bytes) {
+        match self.flash.read(self.index.first * sector_size, &mut bytes) {
             Ok(()) => Ok(bytes),
             Err(fault) => Err(failure(&mut self.failed, fault)),
         }
@@ -42,18 +42,18 @@ impl<F: Flash> Log<F> {
     /// from then on.
     pub fn erase_oldest(&mut self, tree: &Tree) -> Result<(), Cause>
         requires working { self.old.failed ≡ false }
-        requires several { 2 ≤ self.old.book.held }
+        requires several { 2 ≤ self.old.index.held }
         requires dead { OldestIsDead tree.now self.old }
         ensures done { OnOk result (ErasedOldest tree.now self.old self.new) }
         ensures failed { IfErr result (λ cause. EraseFailed cause self.old self.new) }
     {
-        let book = &mut self.book;
-        book.erases = book.erases.saturating_add(1);
-        match self.flash.erase(book.first) {
+        let index = &mut self.index;
+        index.erases = index.erases.saturating_add(1);
+        match self.flash.erase(index.first) {
             Ok(()) => {
-                forget_sector(&mut book.records, book.first);
-                book.first = sector_at(book.first, 1, book.sectors);
-                book.held -= 1;
+                forget_sector(&mut index.records, index.first);
+                index.first = sector_at(index.first, 1, index.sectors);
+                index.held -= 1;
                 Ok(())
             }
             Err(fault) => Err(failure(&mut self.failed, fault)),
@@ -62,11 +62,11 @@ impl<F: Flash> Log<F> {
 }
 
 /// Takes the records away that stand before the first one of another sector.
-fn forget_sector(records: &mut VecDeque<Kept>, sector: u32)
+fn forget_sector(records: &mut VecDeque<RecordRef>, sector: u32)
     ensures { records.new.items ≡ from_other sector records.old.items }
 {
-    while let Some(kept) = records.front() {
-        if kept.sector != sector {
+    while let Some(entry) = records.front() {
+        if entry.sector != sector {
             break;
         }
         records.pop_front();

@@ -7,10 +7,10 @@ ghost use Rattle.jffs_flash.specs.Device.{Unchanged};
 ghost use Rattle.jffs_log.specs.Image.{Sector, sector_of, records_in, turned, is_erased_option, free_of_tail, free_in as free_bytes, is_free as ends_free, is_clean_tail, ends_with_unmount as unmounted};
 ghost use Rattle.jffs_log.specs.Volume.{sectors_in, sector_bytes};
 ghost use Rattle.jffs_log.specs.Scan.{first_bad};
-ghost use Rattle.jffs_log.specs.Book.{kept};
+ghost use Rattle.jffs_log.specs.LogIndex.{ref_of};
 ghost use Rattle.jffs_log.specs.ScanRead.{oldest_sector, AreRead, HasRead, IsUnread, bad_in, number_of_tail, used_of_tail};
 
-use crate::book::Kept;
+use crate::log_index::RecordRef;
 use crate::scanning::ScanWhy;
 use crate::sector::{SectorRead, read_sector};
 use jffs_flash::Flash;
@@ -79,7 +79,7 @@ fn bad_record(read: &SectorRead) -> Option<ScanWhy>
     }
 }
 
-/// The place of the sector that holds the oldest records: the one after the run of erased ones,
+/// Which sector, in this list, holds the oldest records: the one after the run of erased ones,
 /// or the first where all are erased.
 pub(crate) fn oldest(found: &[SectorRead]) -> Result<usize, ScanWhy>
     ensures { result ≡ oldest_sector (map (λ s. s.1) found.now) }
@@ -221,8 +221,11 @@ fn ends_with_unmount(nodes: &[Node]) -> bool
 }
 
 /// What is kept of the records of the log, the oldest first.
-pub(crate) fn list_records(alloc: Global, held: &[SectorRead]) -> Result<VecDeque<Kept>, AllocError>
-    ensures { IfOk result (λ records. records.items ≡ map kept (flat_map records_in held.now)) }
+pub(crate) fn list_records(
+    alloc: Global,
+    held: &[SectorRead],
+) -> Result<VecDeque<RecordRef>, AllocError>
+    ensures { IfOk result (λ records. records.items ≡ map ref_of (flat_map records_in held.now)) }
 {
     let mut records = VecDeque::new(alloc);
     for sector in held {

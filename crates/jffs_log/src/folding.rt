@@ -5,7 +5,7 @@ ghost use Rattle.std.specs.List.{AllByRecursion};
 ghost use Rattle.jffs_node.specs.Record.{is_lawful};
 ghost use Rattle.jffs_tree.specs.Origin.{tree_of};
 ghost use Rattle.jffs_tree.specs.Check.{makes_tree};
-ghost use Rattle.jffs_tree.specs.After.{can_apply, keeps_places_in};
+ghost use Rattle.jffs_tree.specs.After.{can_apply, keeps_offsets_in};
 ghost use Rattle.jffs_log.specs.Scan.{versions_rise};
 ghost use Rattle.jffs_log.specs.Room.{following};
 ghost use Rattle.jffs_log.specs.ScanFound.{last_version, greatest_inode, keeps_form_after};
@@ -94,7 +94,7 @@ pub(crate) fn tree_of_log(alloc: Global, nodes: &[Node]) -> Result<Tree, ScanWhy
 fn fits(tree: &Tree, node: &Node, has_sizes: bool) -> bool
     ensures value { result ≡ (keeps_form_after has_sizes node.now && can_apply tree.now node.now) }
     ensures lawful { result ≡ true → IsTrue (is_lawful node.now) }
-    ensures places { result ≡ true → IsTrue (keeps_places_in tree.now node.now) }
+    ensures offsets { result ≡ true → IsTrue (keeps_offsets_in tree.now node.now) }
 {
     keeps_form(node, has_sizes) && tree.can_apply(node)
 }

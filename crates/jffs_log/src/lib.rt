@@ -4,7 +4,6 @@
 //! for the tree that the log makes.
 #![tactic(auto)]
 
-mod book;
 mod dead;
 mod erasing;
 mod examples;
@@ -12,6 +11,7 @@ mod finding;
 mod folding;
 mod laws;
 mod log;
+mod log_index;
 mod oldest;
 mod room;
 mod scanning;
@@ -19,13 +19,13 @@ mod sector;
 mod weighing;
 mod writing;
 
-pub use book::{Book, Kept};
 pub use examples::{example_is_cleaned, examples_are_scanned};
 pub use laws::{
     cleaning_keeps_room, copies_take_over, full_logs_are_heavy, histories_stay_lawful,
     mounts_are_sound, puts_keep_room, weight_is_kept,
 };
 pub use log::Log;
+pub use log_index::{LogIndex, RecordRef};
 pub use room::Room;
 pub use scanning::{Mounted, ScanFault, ScanWhy, scan};
 pub use writing::RECORD_MAX;

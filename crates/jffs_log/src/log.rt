@@ -4,7 +4,7 @@ ghost use Rattle.std.specs.Prelude.{◌≡◌, ◌+◌, ◌-◌, ◌<◌, ◌≤
 ghost use Rattle.std.specs.VecDeque.{deque_len, deque_capacity};
 ghost use Rattle.jffs_log.specs.Ring.{IsAt};
 
-use crate::book::{Book, Kept};
+use crate::log_index::{LogIndex, RecordRef};
 use crate::room::Room;
 use crate::writing::write_record;
 use jffs_flash::{Flash, FlashFault};
@@ -20,7 +20,7 @@ use std::marker::Model;
 #[derive(Drop)]
 pub struct Log<F: Flash> {
     pub(crate) flash: F,
-    pub(crate) book: Book,
+    pub(crate) index: LogIndex,
     /// Whether a call of the device failed.
     pub(crate) failed: bool,
 }
@@ -30,13 +30,13 @@ impl<F: Flash> Model for Log<F> {
 
     ghost Value = { LogState };
 
-    ghost view = { λ l. record { device = F.device l.flash; book = l.book; failed = l.failed } };
+    ghost view = { λ l. record { device = F.device l.flash; index = l.index; failed = l.failed } };
 
-    ghost invariant = { λ l. IsLog (record { device = F.device l.flash; book = l.book; failed = l.failed }) };
+    ghost invariant = { λ l. IsLog (record { device = F.device l.flash; index = l.index; failed = l.failed }) };
 }
 
 impl<F: Flash> Log<F> {
-    ghost use Rattle.jffs_log.specs.Book.{kept};
+    ghost use Rattle.jffs_log.specs.LogIndex.{ref_of};
     ghost use Rattle.jffs_log.specs.LogState.{log_records, log_layout, IsSameLog, MayAppend, Appended, AppendFailed, AppendedAt, AppendFailedAt, FitsIn};
     ghost use Rattle.jffs_log.specs.Cleaning.{in_tail, in_next};
     ghost use Rattle.jffs_log.specs.Image.{erased_count};
@@ -59,35 +59,35 @@ impl<F: Flash> Log<F> {
 
     /// How many sectors are erased. Takes no memory.
     pub fn erased(&self) -> u32
-        ensures known { result ≡ self.now.book.sectors - self.now.book.held }
-        ensures exact { self.now.failed ≡ false → result ≡ erased_count (sectors_in self.now.book.sectors self.now.book.sector_size self.now.device.image) }
+        ensures known { result ≡ self.now.index.sectors - self.now.index.held }
+        ensures exact { self.now.failed ≡ false → result ≡ erased_count (sectors_in self.now.index.sectors self.now.index.sector_size self.now.device.image) }
     {
-        self.book.sectors - self.book.held
+        self.index.sectors - self.index.held
     }
 
     /// How often `erase_oldest` was called since the mount, failed calls too. It stays at its last value. Takes no memory.
     pub fn erases(&self) -> u64
-        ensures { result ≡ self.now.book.erases }
+        ensures { result ≡ self.now.index.erases }
     {
-        self.book.erases
+        self.index.erases
     }
 
     /// The records of the log, the oldest first. Takes no memory.
-    pub fn records(&self) -> &VecDeque<Kept>
-        ensures same { result.now ≡ self.now.book.records }
-        ensures listed { self.now.failed ≡ false → result.now.items ≡ map kept (log_records self.now) }
+    pub fn records(&self) -> &VecDeque<RecordRef>
+        ensures same { result.now ≡ self.now.index.records }
+        ensures listed { self.now.failed ≡ false → result.now.items ≡ map ref_of (log_records self.now) }
     {
-        &self.book.records
+        &self.index.records
     }
 
     /// Whether a record of `len` bytes has room: in the tail, or in a sector that it opens. Takes no memory.
     pub fn room(&self, room: Room, len: u32) -> bool
-        ensures known { result ≡ has_room room len self.now.book.free (self.now.book.sectors - self.now.book.held) }
-        ensures exact { self.now.failed ≡ false → result ≡ has_room_in self.now.book.sectors self.now.book.sector_size self.now.device.image room len }
+        ensures known { result ≡ has_room room len self.now.index.free (self.now.index.sectors - self.now.index.held) }
+        ensures exact { self.now.failed ≡ false → result ≡ has_room_in self.now.index.sectors self.now.index.sector_size self.now.device.image room len }
     {
-        let book = &self.book;
-        room.tail_need(len) <= u64::from(book.free)
-            || room.erased_need() <= book.sectors - book.held
+        let index = &self.index;
+        room.tail_need(len) <= u64::from(index.free)
+            || room.erased_need() <= index.sectors - index.held
     }
 
     /// Reserves the memory that `append` takes for one record.
@@ -95,10 +95,10 @@ impl<F: Flash> Log<F> {
     /// `Memory` if allocation failed: nothing is changed.
     pub fn reserve(&mut self) -> Result<(), Cause>
         ensures same { IsSameLog self.old self.new }
-        ensures reserved { OnOk result (deque_len self.new.book.records < deque_capacity self.new.book.records) }
+        ensures reserved { OnOk result (deque_len self.new.index.records < deque_capacity self.new.index.records) }
         ensures memory { IfErr result (λ cause. cause ≡ Cause.Memory) }
     {
-        self.book.records.reserve(1)?;
+        self.index.records.reserve(1)?;
         Ok(())
     }
 
@@ -110,12 +110,12 @@ impl<F: Flash> Log<F> {
     pub fn append(&mut self, room: Room, node: &Node) -> Result<(), Cause>
         requires working { self.old.failed ≡ false }
         requires may { MayAppend room node.now self.old }
-        requires reserved { deque_len self.old.book.records < deque_capacity self.old.book.records }
+        requires reserved { deque_len self.old.index.records < deque_capacity self.old.index.records }
         ensures done { OnOk result (Appended room node.now self.old self.new) }
         ensures failed { IfErr result (λ cause. AppendFailed node.now cause self.old self.new) }
     {
-        let book = &self.book;
-        if room.tail_need(record_len(node)) <= u64::from(book.free) {
+        let index = &self.index;
+        if room.tail_need(record_len(node)) <= u64::from(index.free) {
             self.append_to_tail(node)
         } else {
             self.append_to_next(node)
@@ -125,26 +125,26 @@ impl<F: Flash> Log<F> {
     /// Appends a node where it fits the tail.
     fn append_to_tail(&mut self, node: &Node) -> Result<(), Cause>
         requires working { self.old.failed ≡ false }
-        requires fits { FitsIn self.old.book.sector_size self.old.book.free node.now }
-        requires reserved { deque_len self.old.book.records < deque_capacity self.old.book.records }
-        ensures done { OnOk result (AppendedAt self.old.book.tail self.old.book.used
+        requires fits { FitsIn self.old.index.sector_size self.old.index.free node.now }
+        requires reserved { deque_len self.old.index.records < deque_capacity self.old.index.records }
+        ensures done { OnOk result (AppendedAt self.old.index.tail self.old.index.used
             (in_tail node.now (log_layout self.old)) node.now self.old self.new) }
-        ensures failed { IfErr result (λ cause. AppendFailedAt self.old.book.tail self.old.book.used node.now cause self.old self.new) }
+        ensures failed { IfErr result (λ cause. AppendFailedAt self.old.index.tail self.old.index.used node.now cause self.old self.new) }
     {
-        let book = &mut self.book;
+        let index = &mut self.index;
         let len = record_len(node);
-        let at = book.tail * book.sector_size + book.used;
+        let at = index.tail * index.sector_size + index.used;
         match write_record(&mut self.flash, at, node) {
             Ok(()) => {
-                book.records.push_back_reserved(Kept {
+                index.records.push_back_reserved(RecordRef {
                     version: node.version,
                     inode: node.inode,
                     length: len,
-                    sector: book.tail,
-                    place: book.used,
+                    sector: index.tail,
+                    offset: index.used,
                 });
-                book.used += len;
-                book.free -= len;
+                index.used += len;
+                index.free -= len;
                 Ok(())
             }
             Err(fault) => Err(failure(&mut self.failed, fault)),
@@ -154,29 +154,29 @@ impl<F: Flash> Log<F> {
     /// Appends a node to the sector after the tail.
     fn append_to_next(&mut self, node: &Node) -> Result<(), Cause>
         requires working { self.old.failed ≡ false }
-        requires erased { self.old.book.held + 2 ≤ self.old.book.sectors }
-        requires fits { FitsIn self.old.book.sector_size self.old.book.sector_size node.now }
-        requires reserved { deque_len self.old.book.records < deque_capacity self.old.book.records }
-        ensures done { OnOk result ((next : ℕ) × IsAt self.old.book.first self.old.book.sectors self.old.book.held next × AppendedAt next 0
-            (in_next self.old.book.sector_size node.now (log_layout self.old)) node.now self.old self.new) }
+        requires erased { self.old.index.held + 2 ≤ self.old.index.sectors }
+        requires fits { FitsIn self.old.index.sector_size self.old.index.sector_size node.now }
+        requires reserved { deque_len self.old.index.records < deque_capacity self.old.index.records }
+        ensures done { OnOk result ((next : ℕ) × IsAt self.old.index.first self.old.index.sectors self.old.index.held next × AppendedAt next 0
+            (in_next self.old.index.sector_size node.now (log_layout self.old)) node.now self.old self.new) }
         ensures failed { IfErr result (λ cause. (next : ℕ) × AppendFailedAt next 0 node.now cause self.old self.new) }
     {
-        let book = &mut self.book;
+        let index = &mut self.index;
         let len = record_len(node);
-        let next = sector_at(book.first, book.held, book.sectors);
-        match write_record(&mut self.flash, next * book.sector_size, node) {
+        let next = sector_at(index.first, index.held, index.sectors);
+        match write_record(&mut self.flash, next * index.sector_size, node) {
             Ok(()) => {
-                book.records.push_back_reserved(Kept {
+                index.records.push_back_reserved(RecordRef {
                     version: node.version,
                     inode: node.inode,
                     length: len,
                     sector: next,
-                    place: 0,
+                    offset: 0,
                 });
-                book.held += 1;
-                book.tail = next;
-                book.used = len;
-                book.free = book.sector_size - len;
+                index.held += 1;
+                index.tail = next;
+                index.used = len;
+                index.free = index.sector_size - len;
                 Ok(())
             }
             Err(fault) => Err(failure(&mut self.failed, fault)),
@@ -189,7 +189,7 @@ impl<F: Flash> Log<F> {
     {
         let Log {
             flash,
-            book: _,
+            index: _,
             failed: _,
         } = self;
         flash
@@ -205,7 +205,7 @@ pub(crate) fn failure(failed: &mut bool, _: FlashFault) -> Cause
     Cause::Device
 }
 
-/// The sector that stands so many places after the first of the ring.
+/// The sector that is `steps` after the first of the ring.
 pub(crate) fn sector_at(first: u32, steps: u32, sectors: u32) -> u32
     requires first_in { first < sectors }
     requires steps_in { steps < sectors }

@@ -10,42 +10,42 @@ use jffs_tree::{Cause, Tree};
 use std::alloc::Global;
 
 impl<F: Flash> Log<F> {
-    ghost use Rattle.jffs_log.specs.Book.{oldest_in};
+    ghost use Rattle.jffs_log.specs.LogIndex.{oldest_in};
     ghost use Rattle.jffs_log.specs.LogState.{OldestIsDead, ReadStopped};
 
     /// How many sectors the device has.
     pub fn sectors(&self) -> u32
-        ensures { result ≡ self.now.book.sectors }
+        ensures { result ≡ self.now.index.sectors }
     {
-        self.book.sectors
+        self.index.sectors
     }
 
     /// How many bytes a sector has.
     pub fn sector_size(&self) -> u32
-        ensures { result ≡ self.now.book.sector_size }
+        ensures { result ≡ self.now.index.sector_size }
     {
-        self.book.sector_size
+        self.index.sector_size
     }
 
     /// How many sectors hold the log.
     pub fn held(&self) -> u32
-        ensures { result ≡ self.now.book.held }
+        ensures { result ≡ self.now.index.held }
     {
-        self.book.held
+        self.index.held
     }
 
     /// The number of the sector that was begun first.
     pub fn oldest(&self) -> u32
-        ensures { result ≡ self.now.book.first }
+        ensures { result ≡ self.now.index.first }
     {
-        self.book.first
+        self.index.first
     }
 
     /// The longest record, in bytes: a quarter of a sector.
     pub fn record_max(&self) -> u32
-        ensures { result ≡ self.now.book.sector_size / 4 }
+        ensures { result ≡ self.now.index.sector_size / 4 }
     {
-        self.book.sector_size / 4
+        self.index.sector_size / 4
     }
 
     /// Whether the oldest sector may be erased: it isn't the tail, and none of its records lives in the tree of all
@@ -53,9 +53,9 @@ impl<F: Flash> Log<F> {
     /// call of the device failed.
     pub fn oldest_dead(&self, tree: &Tree) -> bool
         requires working { self.now.failed ≡ false }
-        ensures { IsTrue result ↔ ((2 ≤ self.now.book.held) × OldestIsDead tree.now self.now) }
+        ensures { IsTrue result ↔ ((2 ≤ self.now.index.held) × OldestIsDead tree.now self.now) }
     {
-        self.book.held >= 2 && self.oldest_has_no_live(tree)
+        self.index.held >= 2 && self.oldest_has_no_live(tree)
     }
 
     /// The nodes of the oldest sector in their order, read from the device. Precondition: no call of the device failed,
@@ -65,13 +65,13 @@ impl<F: Flash> Log<F> {
     /// is failed from then on.
     pub fn oldest_nodes(&mut self, alloc: Global) -> Result<Vec<Node>, Cause>
         requires working { self.old.failed ≡ false }
-        requires some { 1 ≤ self.old.book.held }
-        ensures nodes { IfOk result (λ nodes. nodes.items ≡ map (λ p. p.node) (oldest_in self.old.device.image self.old.book)) }
+        requires some { 1 ≤ self.old.index.held }
+        ensures nodes { IfOk result (λ nodes. nodes.items ≡ map (λ p. p.node) (oldest_in self.old.device.image self.old.index)) }
         ensures same { OnOk result (self.new ≡ self.old) }
         ensures stopped { IfErr result (λ cause. ReadStopped cause self.old self.new) }
     {
         let bytes = self.oldest_image(alloc)?;
-        let read = read_sector(alloc, self.book.first, &bytes)?;
+        let read = read_sector(alloc, self.index.first, &bytes)?;
         Ok(read.into_nodes())
     }
 }

@@ -71,7 +71,7 @@ fn file(alloc: Global, version: u32, inode: u32) -> Node {
     }
 }
 
-/// Puts the record of a node at a place.
+/// Puts the record of a node at an offset.
 fn put(rt: &(impl Abort + AllocGlobal), image: &mut Vec<u8>, at: usize, node: &Node) {
     assert!(rt; Tree::new(rt.alloc()).can_apply(node) && node.bytes.len() <= RECORD_MAX);
     let len = record_len(node) as usize;
@@ -99,7 +99,7 @@ fn mounted(found: &Mounted<MemoryFlash>) -> Seen {
     let limits = found.limits;
     Seen::Mounted {
         clean: found.clean,
-        records: found.log.book.records.len(),
+        records: found.log.index.records.len(),
         size: found.tree.size(2),
         limits: (limits.data_max, limits.next_inode, limits.next_version),
     }
@@ -275,10 +275,10 @@ fn a_torn_tail_is_not_clean_and_has_no_room(rt: HostRuntime) -> Result<(), TestF
     let flash = MemoryFlash::from_bytes(SECTORS, SECTOR_SIZE, image);
     match scan(rt.alloc(), flash) {
         Ok(found) => {
-            let book = &found.log.book;
+            let index = &found.log.index;
             assert!(rt; !found.clean);
             assert_eq!(rt;
-                (book.held, book.tail, book.used, book.free),
+                (index.held, index.tail, index.used, index.free),
                 (1, 0, 200, 0)
             );
         }

@@ -4,10 +4,10 @@ ghost use Rattle.std.specs.Prelude.{◌≡◌, IfOk, IfErr};
 ghost use Rattle.jffs_flash.specs.Device.{Unchanged};
 ghost use Rattle.jffs_log.specs.ScanFound.{IsFound, IsMounted, IsRefused};
 
-use crate::book::Book;
 use crate::finding::{Tail, is_clean, keep_log, list_records, nodes_of, oldest, read_sectors};
 use crate::folding::{Numbers, tree_of_log};
 use crate::log::Log;
+use crate::log_index::LogIndex;
 use jffs_flash::{Flash, FlashFault, is_geometry};
 use jffs_node::{NoMemory, Why};
 use jffs_tree::{Limits, Tree};
@@ -24,7 +24,7 @@ pub enum ScanWhy {
     /// A read failed.
     #[error("the flash failed")]
     Device,
-    /// A closed record breaks a rule; the place is counted in bytes from the sector's start.
+    /// A closed record breaks a rule; `place` is its offset, from the sector's start.
     #[error("the record at byte {place} of sector {sector} is bad: {why:?}")]
     BadRecord { sector: u32, place: u32, why: Why },
     /// No sector is erased.
@@ -116,7 +116,7 @@ pub fn scan<F: Flash>(alloc: Global, mut flash: F) -> Result<Mounted<F>, ScanFau
         Ok(found) => Ok(Mounted {
             log: Log {
                 flash,
-                book: found.book,
+                index: found.index,
                 failed: false,
             },
             tree: found.tree,
@@ -130,7 +130,7 @@ pub fn scan<F: Flash>(alloc: Global, mut flash: F) -> Result<Mounted<F>, ScanFau
 /// What a scan finds, apart from the device.
 #[derive(Drop)]
 struct Found {
-    book: Book,
+    index: LogIndex,
     tree: Tree,
     clean: bool,
     limits: Limits,
@@ -139,7 +139,7 @@ struct Found {
 /// The steps of a scan, in the order of its refusals.
 fn find<F: Flash>(alloc: Global, flash: &mut F) -> Result<Found, ScanWhy>
     ensures found { IfOk result (λ found. IsFound (F.device flash.old).sectors (F.device flash.old).sector_size (F.device flash.old).image
-        found.book found.tree found.clean found.limits) }
+        found.index found.tree found.clean found.limits) }
     ensures same { IfOk result (λ _. Unchanged (F.device flash.old) (F.device flash.new)) }
     ensures refused { IfErr result (λ why. IsRefused (F.device flash.old) why (F.device flash.new)) }
 {
@@ -158,7 +158,7 @@ fn find<F: Flash>(alloc: Global, flash: &mut F) -> Result<Found, ScanWhy>
     let nodes = nodes_of(alloc, held)?;
     let numbers = Numbers::of(&nodes)?;
     let tree = tree_of_log(alloc, &nodes)?;
-    let book = Book {
+    let index = LogIndex {
         sectors,
         sector_size,
         first: first as u32,
@@ -170,7 +170,7 @@ fn find<F: Flash>(alloc: Global, flash: &mut F) -> Result<Found, ScanWhy>
         records,
     };
     Ok(Found {
-        book,
+        index,
         tree,
         clean,
         limits: numbers.limits(sector_size),

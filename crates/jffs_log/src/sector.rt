@@ -4,16 +4,16 @@ ghost use Rattle.std.specs.Prelude.{◌≡◌, ◌<◌, ◌+◌, ◌^◌, ◌++�
 ghost use Rattle.std.specs.List.{AllByRecursion};
 ghost use Rattle.jffs_node.specs.Record.{is_lawful, record_len as length_of};
 ghost use Rattle.jffs_log.specs.Image.{sector_of, records_in, placed_from};
-ghost use Rattle.jffs_log.specs.Book.{kept};
+ghost use Rattle.jffs_log.specs.LogIndex.{ref_of};
 ghost use Rattle.jffs_log.specs.ScanRead.{IsSpelled};
 
-use crate::book::Kept;
+use crate::log_index::RecordRef;
 use jffs_node::{NoMemory, Node, Read, decode, is_erased, record_len};
 use std::alloc::{AllocError, Global};
 use std::collections::VecDeque;
 use std::marker::Model;
 
-/// A sector takes at least so many records: none is longer than this part of it.
+/// A record takes at most a quarter of a sector, so a sector has room for at least this many.
 pub(crate) const RECORDS_PER_SECTOR: u32 = 4;
 
 /// A sector with its number: the nodes of its records, one after another, and what follows them.
@@ -91,8 +91,8 @@ impl SectorRead {
     }
 
     /// Adds what is kept of the records. If allocation fails, some of them are added.
-    pub(crate) fn list_records(&self, records: &mut VecDeque<Kept>) -> Result<(), AllocError>
-        ensures { OnOk result (records.new.items ≡ records.old.items ++ map kept (records_in self.now)) }
+    pub(crate) fn list_records(&self, records: &mut VecDeque<RecordRef>) -> Result<(), AllocError>
+        ensures { OnOk result (records.new.items ≡ records.old.items ++ map ref_of (records_in self.now)) }
     {
         // Brings in that the used bytes fit.
         let _used = self.used;
@@ -101,21 +101,25 @@ impl SectorRead {
 }
 
 /// Adds what is kept of the records of these nodes, which stand at the start of a sector.
-fn list_nodes(sector: u32, nodes: &[Node], records: &mut VecDeque<Kept>) -> Result<(), AllocError>
+fn list_nodes(
+    sector: u32,
+    nodes: &[Node],
+    records: &mut VecDeque<RecordRef>,
+) -> Result<(), AllocError>
     requires { sum_by length_of nodes.now < 2 ^ 32 }
-    ensures { OnOk result (records.new.items ≡ records.old.items ++ map kept (placed_from sector 0 nodes.now)) }
+    ensures { OnOk result (records.new.items ≡ records.old.items ++ map ref_of (placed_from sector 0 nodes.now)) }
 {
-    let mut place = 0u32;
+    let mut offset = 0u32;
     for node in nodes {
         let length = record_len(node);
-        records.push_back(Kept {
+        records.push_back(RecordRef {
             version: node.version,
             inode: node.inode,
             length,
             sector,
-            place,
+            offset,
         })?;
-        place += length;
+        offset += length;
     }
     Ok(())
 }

@@ -8,7 +8,7 @@ use std::alloc::{AllocError, Global};
 use std::process::Abort;
 use std::test::Fail as TestFail;
 
-/// A node that writes so many bytes over the start of the one file.
+/// A node that writes `amount` bytes over the start of the one file.
 fn written(alloc: Global, version: u32, amount: u32) -> Result<Node, AllocError> {
     let bytes = vec![in alloc; 0x61u8; amount as usize]?;
     Ok(Node {
@@ -70,11 +70,11 @@ fn apply(rt: &impl Abort, tree: &mut Tree, node: &Node) -> Result<(), Cause> {
     tree.apply(node)
 }
 
-/// The versions of the records, each in one decimal place, the oldest first.
+/// The versions of the records, each as one decimal digit, the oldest first.
 fn versions<F: Flash>(log: &Log<F>) -> u32 {
     let mut digits = 0u32;
-    for kept in log.records().iter() {
-        digits = digits.wrapping_mul(10).wrapping_add(kept.version);
+    for entry in log.records().iter() {
+        digits = digits.wrapping_mul(10).wrapping_add(entry.version);
     }
     digits
 }
@@ -192,10 +192,10 @@ fn a_log_goes_round_the_end_of_the_image(rt: HostRuntime) -> Result<(), TestFail
             assert_eq!(rt; log.erases(), 1);
         }
         let kept = versions(&log);
-        let (first, tail) = (log.oldest(), log.book.tail);
+        let (first, tail) = (log.oldest(), log.index.tail);
         let again = mount(&rt, log.into_flash());
         assert_eq!(rt; versions(&again.log), kept);
-        assert_eq!(rt; (again.log.oldest(), again.log.book.tail), (first, tail));
+        assert_eq!(rt; (again.log.oldest(), again.log.index.tail), (first, tail));
         flash = again.log.into_flash();
     }
     Ok(())

@@ -3,8 +3,8 @@
 ghost use Rattle.std.specs.Prelude.{◌≡◌, ◌<◌, ◌^◌, ◌==◌, ◌&&◌, false, List, length, map, filter, sum};
 ghost use Rattle.jffs_tree.specs.Look.{holds_version};
 
-use crate::book::Kept;
 use crate::log::Log;
+use crate::log_index::RecordRef;
 use jffs_flash::Flash;
 use jffs_tree::Tree;
 use std::collections::VecDeque;
@@ -13,48 +13,48 @@ impl<F: Flash> Log<F> {
     ghost use Rattle.jffs_node.specs.declared.node.Node.{Node};
     ghost use Rattle.jffs_tree.specs.Origin.{tree_of};
     ghost use Rattle.jffs_log.specs.LogState.{log_records, HasHistory};
-    ghost use Rattle.jffs_log.specs.Book.{weight_in, live_in, live_records_in};
+    ghost use Rattle.jffs_log.specs.LogIndex.{weight_in, live_in, live_records_in};
     ghost use Rattle.jffs_log.specs.Room.{weight};
 
     /// The sum of the record lengths, in bytes, of those records that live in the tree of all nodes. Takes no memory.
     pub fn live_weight(&self, tree: &Tree) -> u64
-        ensures known { result ≡ sum (map (λ k. k.length) (filter (λ k. holds_version tree.now k.inode k.version) self.now.book.records.items)) }
+        ensures known { result ≡ sum (map (λ k. k.length) (filter (λ k. holds_version tree.now k.inode k.version) self.now.index.records.items)) }
         ensures weighed { self.now.failed ≡ false → result ≡ weight_in tree.now (log_records self.now) }
         ensures whole { self.now.failed ≡ false → (past : List Node) → tree.now ≡ tree_of past → HasHistory past self.now → result ≡ weight past }
     {
-        weight_of(&self.book.records, tree)
+        weight_of(&self.index.records, tree)
     }
 
     /// How many records of this sector live in the tree of all nodes; 0 where the log has no such sector. Takes no
     /// memory.
     pub fn live_in(&self, sector: u32, tree: &Tree) -> u32
-        ensures known { result ≡ length (filter (λ k. (k.sector == sector) && holds_version tree.now k.inode k.version) self.now.book.records.items) }
+        ensures known { result ≡ length (filter (λ k. (k.sector == sector) && holds_version tree.now k.inode k.version) self.now.index.records.items) }
         ensures counted { self.now.failed ≡ false → result ≡ live_in sector tree.now (log_records self.now) }
         ensures whole { self.now.failed ≡ false → (past : List Node) → tree.now ≡ tree_of past → HasHistory past self.now → result ≡ live_records_in sector past (log_records self.now) }
     {
-        count_in(&self.book.records, sector, tree)
+        count_in(&self.index.records, sector, tree)
     }
 }
 
 /// The sum of the lengths of those records that live in the tree.
-fn weight_of(records: &VecDeque<Kept>, tree: &Tree) -> u64
+fn weight_of(records: &VecDeque<RecordRef>, tree: &Tree) -> u64
     requires { length records.now.items < 2 ^ 32 }
     ensures { result ≡ sum (map (λ k. k.length) (filter (λ k. holds_version tree.now k.inode k.version) records.now.items)) }
 {
     records
         .iter()
-        .filter(|kept| tree.live(kept.inode, kept.version))
-        .map(|kept| u64::from(kept.length))
+        .filter(|entry| tree.live(entry.inode, entry.version))
+        .map(|entry| u64::from(entry.length))
         .sum()
 }
 
 /// How many of the records stand in the sector and live in the tree.
-fn count_in(records: &VecDeque<Kept>, sector: u32, tree: &Tree) -> u32
+fn count_in(records: &VecDeque<RecordRef>, sector: u32, tree: &Tree) -> u32
     requires { length records.now.items < 2 ^ 32 }
     ensures { result ≡ length (filter (λ k. (k.sector == sector) && holds_version tree.now k.inode k.version) records.now.items) }
 {
     records
         .iter()
-        .filter(|kept| kept.sector == sector && tree.live(kept.inode, kept.version))
+        .filter(|entry| entry.sector == sector && tree.live(entry.inode, entry.version))
         .count() as u32
 }

@@ -13,7 +13,7 @@ pub const RECORD_MAX: usize = 4096;
 /// Up to here a record is made in a small buffer: filling a large one would cost as much as writing the record.
 const SMALL_RECORD: usize = 512;
 
-/// Writes the record of a node into erased flash, from the place `at` of the image on.
+/// Writes the record of a node into erased flash, from the offset `at` of the image on.
 ///
 /// After a failure the whole record stands there, or bytes that don't count as one.
 pub(crate) fn write_record<F: Flash>(flash: &mut F, at: u32, node: &Node) -> Result<(), FlashFault>

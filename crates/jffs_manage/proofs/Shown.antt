@@ -5,7 +5,7 @@ use Rattle.std.proofs.KnownBytes.{Appends-trans}
 use Rattle.std.proofs.lemmas.List.{take_all}
 use Rattle.std.proofs.Math.Seq.{take-add}
 
--- n more bytes were read into a chunk, with other bytes behind them, and written
+-- n more bytes were read into a chunk, with other bytes after them, and written
 pub shown_more : (bytes : List ℕ) (o n next : ℕ) (behind chunk : List ℕ) (a b c : Option (List ℕ))
     → chunk ≡ take n (drop o bytes) ++ behind → n ≤ length bytes - o → next ≡ o + n
     → Appends a b (take o bytes) → Appends b c (take n chunk)

@@ -14,7 +14,7 @@ use std::io::Read;
 /// The name of a file that a put hasn't finished.
 pub(crate) const UNFINISHED: &str = ".put.new";
 
-/// Puts bytes into a file at a path, in place of one that stands there: into a new file beside it,
+/// Puts bytes into a file at a path, instead of one that stands there: into a new file beside it,
 /// then the old one is removed and the new one renamed. `FileLong` where no file is so long,
 /// `Reserved` where the path is that of an unfinished file, `Left` where an unfinished file stands
 /// there already, `Directory` where a directory stands at the path, `Refused` where a request was
@@ -90,12 +90,12 @@ fn write_file<F: Flash>(
 ///
 /// `Path` where the text is no path, `Refused` for RootFixed, NotFound, `Memory`: nothing is
 /// removed. `Refused` where another request was refused: what was removed by then stays removed.
-/// `place` is left with the path at which it stopped.
+/// `reached` is left with the path at which it stopped.
 pub(crate) fn remove_all<F: Flash>(
     alloc: Global,
     session: &mut Session<F>,
     text: &str,
-    place: &mut String,
+    reached: &mut String,
 ) -> Result<(), VolumeFault> {
     let path = Path::parse(alloc, text)?;
     if path.names().is_empty() {
@@ -106,11 +106,11 @@ pub(crate) fn remove_all<F: Flash>(
     };
     let all = below(alloc, session.tree(), text, inode)?;
     for found in all.iter().rev() {
-        place.clear();
-        place.push_str(found.path.as_str())?;
+        reached.clear();
+        reached.push_str(found.path.as_str())?;
         session.ask(Wish::Remove(Path::parse(alloc, found.path.as_str())?))?;
     }
-    place.clear();
+    reached.clear();
     Ok(())
 }
 

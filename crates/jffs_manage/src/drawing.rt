@@ -153,7 +153,7 @@ fn draw_rect<W: Write>(left: u32, top: u32, width: u32, held: Held, out: &mut W)
     )
 }
 
-/// Writes a word into a picture, behind a number if there is one.
+/// Writes a word into a picture, after a number if there is one.
 fn draw_text<W: Write>(
     left: u32,
     top: u32,

@@ -20,23 +20,23 @@ use std::rt::Files;
 /// `Dots` where a name on the volume is `.` or `..`: nothing is written. `HostTaken` where
 /// something stands in the way, `HostMissing` where the directory that should hold it isn't there,
 /// `HostMake`, `HostWrite`, `Memory`: what was written stays, the file at which it stopped with a
-/// first part of its bytes. `place` is left with the path at which it stopped, or empty.
+/// first part of its bytes. `reached` is left with the path at which it stopped, or empty.
 pub(crate) fn save<Rt: Files + AllocGlobal>(
     rt: &Rt,
     tree: &Tree,
     directory: &str,
-    place: &mut String,
+    reached: &mut String,
 ) -> Result<(), VolumeFault> {
     let all = below(rt.alloc(), tree, "", ROOT_INODE)?;
     for found in all.iter() {
         if has_dots(found.path.as_str()) {
-            set(place, found.path.as_str())?;
+            set(reached, found.path.as_str())?;
             return Err(VolumeFault::Dots);
         }
     }
     for found in all.iter() {
         let path = found.path.as_str();
-        set(place, path)?;
+        set(reached, path)?;
         let target = format!(in rt.alloc(); "{directory}{path}")?;
         if tree.is_directory(found.inode) {
             make_directory(rt, target.as_str())?;
@@ -44,7 +44,7 @@ pub(crate) fn save<Rt: Files + AllocGlobal>(
             save_file(rt, tree, found.inode, target.as_str())?;
         }
     }
-    place.clear();
+    reached.clear();
     Ok(())
 }
 
@@ -53,9 +53,9 @@ fn has_dots(path: &str) -> bool {
     path.ends_with("/.") || path.ends_with("/..")
 }
 
-fn set(place: &mut String, path: &str) -> Result<(), AllocError> {
-    place.clear();
-    place.push_str(path)
+fn set(reached: &mut String, path: &str) -> Result<(), AllocError> {
+    reached.clear();
+    reached.push_str(path)
 }
 
 /// Makes a directory on the host, unless one stands there.
@@ -86,17 +86,17 @@ fn save_file<Rt: Files>(rt: &Rt, tree: &Tree, inode: u32, path: &str) -> Result<
 /// All names are looked at first. `Path` where one can't be on a volume, `Reserved` where it is
 /// that of an unfinished file, `Special` where it is neither a file nor a directory, `HostMissing`,
 /// `HostRead`: nothing is changed. Where a file can't be read, or a directory or file can't be put,
-/// what was put stays. `place` is left with the path at which it stopped, or empty.
+/// what was put stays. `reached` is left with the path at which it stopped, or empty.
 pub(crate) fn load<Rt: Files + AllocGlobal + Clone + Drop, F: Flash>(
     rt: &Rt,
     session: &mut Session<F>,
     directory: &str,
-    place: &mut String,
+    reached: &mut String,
 ) -> Result<(), VolumeFault> {
     let alloc = rt.alloc();
-    for (path, is_directory) in host_paths(rt, directory, place)?.iter() {
+    for (path, is_directory) in host_paths(rt, directory, reached)?.iter() {
         let path = path.as_str();
-        set(place, path)?;
+        set(reached, path)?;
         if *is_directory {
             keep_directory(alloc, session, path)?;
         } else {
@@ -104,7 +104,7 @@ pub(crate) fn load<Rt: Files + AllocGlobal + Clone + Drop, F: Flash>(
             put(alloc, session, path, &read_file(rt, from.as_str())?)?;
         }
     }
-    place.clear();
+    reached.clear();
     Ok(())
 }
 
@@ -132,19 +132,19 @@ fn read_file<Rt: Files + AllocGlobal>(rt: &Rt, path: &str) -> Result<Vec<u8>, Vo
 fn host_paths<Rt: Files + AllocGlobal + Clone + Drop>(
     rt: &Rt,
     directory: &str,
-    place: &mut String,
+    reached: &mut String,
 ) -> Result<Vec<(String, bool)>, VolumeFault> {
     let alloc = rt.alloc();
     let mut found = Vec::new(alloc);
-    add_paths(rt, directory, "", &mut found, place)?;
+    add_paths(rt, directory, "", &mut found, reached)?;
     for at in 0..usize::MAX {
         let path = match found.get(at) {
             Some((path, true)) => path.clone()?,
             Some((_, false)) => continue,
             None => break,
         };
-        set(place, path.as_str())?;
-        add_paths(rt, directory, path.as_str(), &mut found, place)?;
+        set(reached, path.as_str())?;
+        add_paths(rt, directory, path.as_str(), &mut found, reached)?;
     }
     found.sort()?;
     Ok(found)
@@ -156,7 +156,7 @@ fn add_paths<Rt: Files + AllocGlobal + Clone + Drop>(
     directory: &str,
     inside: &str,
     found: &mut Vec<(String, bool)>,
-    place: &mut String,
+    reached: &mut String,
 ) -> Result<(), VolumeFault> {
     let alloc = rt.alloc();
     let from = format!(in alloc; "{directory}{inside}")?;
@@ -165,7 +165,7 @@ fn add_paths<Rt: Files + AllocGlobal + Clone + Drop>(
         let entry = entry.map_err(VolumeFault::of_host_read)?;
         let name = entry.file_name();
         let path = format!(in alloc; "{inside}/{name}")?;
-        set(place, path.as_str())?;
+        set(reached, path.as_str())?;
         let _ = Path::parse(alloc, path.as_str())?;
         if name == UNFINISHED {
             return Err(VolumeFault::Reserved);

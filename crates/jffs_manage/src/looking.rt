@@ -5,14 +5,14 @@ ghost use Rattle.std.specs.Io.KnownBytes.{Appends};
 ghost use Rattle.jffs_tree.specs.State.{resolve, is_directory_in};
 ghost use Rattle.jffs_tree.specs.Origin.{state_in};
 ghost use Rattle.jffs_tree.specs.Look.{bytes_in, size_of};
-ghost use Rattle.jffs_log.specs.Book.{weight_in, log_in};
+ghost use Rattle.jffs_log.specs.LogIndex.{weight_in, log_in};
 ghost use Rattle.jffs_log.specs.Room.{heavy};
 ghost use Rattle.jffs_manage.specs.Weights.{live_bytes_in};
 
 use crate::fault::VolumeFault;
 use jffs_core::Core;
 use jffs_flash::Flash;
-use jffs_log::Kept;
+use jffs_log::RecordRef;
 use jffs_node::{HEADER_LEN, Name, Path};
 use jffs_tree::Tree;
 use std::collections::VecDeque;
@@ -62,7 +62,7 @@ pub(crate) fn list<F: Flash, W: Write>(
 fn sight_of<F: Flash>(core: &Core<F>, inode: u32, long: bool) -> Sight
     ensures kind { result.directory ≡ is_directory_in (state_in core.now.tree) inode }
     ensures size { result.size ≡ unwrap_or (size_of core.now.tree inode) 0 }
-    ensures live { long ≡ true → length core.now.book.records.items < 2 ^ 32 → result.live ≡ live_bytes_in core.now.tree inode core.now.book.records.items }
+    ensures live { long ≡ true → length core.now.index.records.items < 2 ^ 32 → result.live ≡ live_bytes_in core.now.tree inode core.now.index.records.items }
 {
     let tree = core.tree();
     Sight {
@@ -77,7 +77,7 @@ fn sight_of<F: Flash>(core: &Core<F>, inode: u32, long: bool) -> Sight
 }
 
 /// The lengths of the live records of an inode together, in bytes. No log has 2^32 records.
-fn live_bytes(records: &VecDeque<Kept>, tree: &Tree, inode: u32) -> u64
+fn live_bytes(records: &VecDeque<RecordRef>, tree: &Tree, inode: u32) -> u64
     ensures { length records.now.items < 2 ^ 32 → result ≡ live_bytes_in tree.now inode records.now.items }
 {
     if records.len() <= u32::MAX as usize {
@@ -87,14 +87,14 @@ fn live_bytes(records: &VecDeque<Kept>, tree: &Tree, inode: u32) -> u64
     }
 }
 
-fn sum_of_live(records: &VecDeque<Kept>, tree: &Tree, inode: u32) -> u64
+fn sum_of_live(records: &VecDeque<RecordRef>, tree: &Tree, inode: u32) -> u64
     requires { length records.now.items < 2 ^ 32 }
     ensures { result ≡ live_bytes_in tree.now inode records.now.items }
 {
     records
         .iter()
-        .filter(|kept| kept.inode == inode && tree.live(inode, kept.version))
-        .map(|kept| u64::from(kept.length))
+        .filter(|record| record.inode == inode && tree.live(inode, record.version))
+        .map(|record| u64::from(record.length))
         .sum()
 }
 
@@ -170,10 +170,10 @@ struct Fullness {
 }
 
 fn fullness_of<F: Flash>(core: &Core<F>) -> Fullness
-    ensures sizes { (result.sectors ≡ core.now.book.sectors) × (result.sector_size ≡ core.now.book.sector_size) }
-    ensures erased { result.erased ≡ core.now.book.sectors - core.now.book.held }
-    ensures weight { core.now.failed ≡ false → result.weight ≡ weight_in core.now.tree (log_in core.now.image core.now.book) }
-    ensures sure { result.sure ≡ heavy core.now.book.sectors core.now.book.sector_size }
+    ensures sizes { (result.sectors ≡ core.now.index.sectors) × (result.sector_size ≡ core.now.index.sector_size) }
+    ensures erased { result.erased ≡ core.now.index.sectors - core.now.index.held }
+    ensures weight { core.now.failed ≡ false → result.weight ≡ weight_in core.now.tree (log_in core.now.image core.now.index) }
+    ensures sure { result.sure ≡ heavy core.now.index.sectors core.now.index.sector_size }
 {
     let log = core.log();
     let sectors = log.sectors();

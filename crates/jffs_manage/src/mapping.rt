@@ -1,12 +1,12 @@
 //! What each sector of a volume holds.
 
 ghost use Rattle.std.specs.Prelude.{◌≡◌, ◌-◌, ◌<◌, ◌^◌, false, length};
-ghost use Rattle.jffs_log.specs.Book.{weight_in, log_in};
+ghost use Rattle.jffs_log.specs.LogIndex.{weight_in, log_in};
 ghost use Rattle.jffs_manage.specs.Weights.{recorded_in};
 
 use jffs_core::Core;
 use jffs_flash::{ERASED_BYTE, Flash};
-use jffs_log::{Kept, Log};
+use jffs_log::{Log, RecordRef};
 use std::alloc::{AllocFailed, Global};
 use std::collections::VecDeque;
 
@@ -109,7 +109,7 @@ fn tail_of<F: Flash>(log: &Log<F>, image: &[u8]) -> Option<Tail> {
         at.saturating_sub(log.sectors())
     };
     let used = match log.records().back() {
-        Some(kept) if kept.sector == sector => kept.place.saturating_add(kept.length),
+        Some(record) if record.sector == sector => record.offset.saturating_add(record.length),
         _ => 0,
     };
     let size = u64::from(log.sector_size());
@@ -153,13 +153,16 @@ fn part_of<F: Flash>(log: &Log<F>, sector: u32, tail: Option<Tail>) -> Part {
 /// Sets the cells of a sector in which its records stand.
 fn paint<F: Flash>(core: &Core<F>, sector: u32, cell_len: u32, cells: &mut [Held; CELLS]) {
     let cell_len = cell_len.max(1);
-    for kept in core.log().records().iter() {
-        if kept.sector != sector {
+    for record in core.log().records().iter() {
+        if record.sector != sector {
             continue;
         }
-        let live = core.tree().live(kept.inode, kept.version);
-        let end = kept.place.saturating_add(kept.length).div_ceil(cell_len);
-        for at in kept.place / cell_len..end {
+        let live = core.tree().live(record.inode, record.version);
+        let end = record
+            .offset
+            .saturating_add(record.length)
+            .div_ceil(cell_len);
+        for at in record.offset / cell_len..end {
             match cells.get_mut(at as usize) {
                 Some(cell) if live => *cell = Held::Live,
                 Some(cell) if *cell != Held::Live => *cell = Held::Dead,
@@ -171,8 +174,8 @@ fn paint<F: Flash>(core: &Core<F>, sector: u32, cell_len: u32, cells: &mut [Held
 
 /// How many bytes hold what.
 fn totals_of<F: Flash>(core: &Core<F>, tail: Option<Tail>) -> Totals
-    ensures live { core.now.failed ≡ false → result.live ≡ weight_in core.now.tree (log_in core.now.image core.now.book) }
-    ensures dead { length core.now.book.records.items < 2 ^ 32 → result.dead ≡ recorded_in core.now.book.records.items - result.live }
+    ensures live { core.now.failed ≡ false → result.live ≡ weight_in core.now.tree (log_in core.now.image core.now.index) }
+    ensures dead { length core.now.index.records.items < 2 ^ 32 → result.dead ≡ recorded_in core.now.index.records.items - result.live }
 {
     let log = core.log();
     let size = u64::from(log.sector_size());
@@ -198,7 +201,7 @@ fn totals_of<F: Flash>(core: &Core<F>, tail: Option<Tail>) -> Totals
 }
 
 /// The lengths of all records together, in bytes. No log has 2^32 records.
-fn recorded(records: &VecDeque<Kept>) -> u64
+fn recorded(records: &VecDeque<RecordRef>) -> u64
     ensures { length records.now.items < 2 ^ 32 → result ≡ recorded_in records.now.items }
 {
     if records.len() <= u32::MAX as usize {
@@ -208,9 +211,9 @@ fn recorded(records: &VecDeque<Kept>) -> u64
     }
 }
 
-fn sum_of_all(records: &VecDeque<Kept>) -> u64
+fn sum_of_all(records: &VecDeque<RecordRef>) -> u64
     requires { length records.now.items < 2 ^ 32 }
     ensures { result ≡ recorded_in records.now.items }
 {
-    records.iter().map(|kept| u64::from(kept.length)).sum()
+    records.iter().map(|record| u64::from(record.length)).sum()
 }

@@ -76,7 +76,7 @@ fn refused(why: ScanWhy) -> VolumeFault {
     }
 }
 
-/// How many sectors of this size so many bytes have room for.
+/// How many sectors of this size `len` bytes have room for.
 fn sectors_in(len: usize, sector_size: u32) -> u32 {
     if sector_size == 0 {
         return 0;

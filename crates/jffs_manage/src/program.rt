@@ -44,32 +44,32 @@ pub fn run_volume<Rt: Files + AllocGlobal + Clone + Drop, R: Read, W: Write, E: 
             };
         }
     };
-    let mut place = String::new(rt.alloc());
+    let mut reached = String::new(rt.alloc());
     let done = match call {
         Call::Help => write_text(HELP, out),
         Call::Version => write_text(VERSION, out),
-        Call::Do(work) => carry_out(rt, work, input, out, coloured, &mut place),
+        Call::Do(work) => carry_out(rt, work, input, out, coloured, &mut reached),
     };
     match done {
         Ok(()) => DONE,
         Err(fault) => {
-            let _ = tell(call, place.as_str(), fault, errors);
+            let _ = tell(call, reached.as_str(), fault, errors);
             fault.status()
         }
     }
 }
 
-/// Writes what a call ended with, behind the words that it is about and the path at which it
+/// Writes what a call ended with, after the words that it is about and the path at which it
 /// stopped.
 fn tell<E: Write>(
     call: Call<'_>,
-    place: &str,
+    reached: &str,
     fault: VolumeFault,
     errors: &mut E,
 ) -> io::Result<()> {
     errors.write_all(b"jffs_volume: ")?;
     if let Call::Do(work) = call {
-        for word in [work.file, work.first, work.second, place] {
+        for word in [work.file, work.first, work.second, reached] {
             if !word.is_empty() {
                 write!(errors, "{word}: ")?;
             }
@@ -84,14 +84,14 @@ fn write_text<W: Write>(text: &str, out: &mut W) -> Result<(), VolumeFault> {
     Ok(())
 }
 
-/// Does what a call asks for. `place` is left with the path at which a walk stopped.
+/// Does what a call asks for. `reached` is left with the path at which a walk stopped.
 fn carry_out<Rt: Files + AllocGlobal + Clone + Drop, R: Read, W: Write>(
     rt: &Rt,
     work: Work<'_>,
     input: &mut R,
     out: &mut W,
     coloured: bool,
-    place: &mut String,
+    reached: &mut String,
 ) -> Result<(), VolumeFault> {
     match work.task {
         Task::Format {
@@ -101,10 +101,10 @@ fn carry_out<Rt: Files + AllocGlobal + Clone + Drop, R: Read, W: Write>(
             let _ = create_image(rt, work.file, sectors, sector_size)?;
         }
         Task::Look(asked) => look(rt, &work, asked, out, coloured)?,
-        Task::Change(asked) => change(rt, &work, asked, input, place)?,
+        Task::Change(asked) => change(rt, &work, asked, input, reached)?,
         Task::Save(directory) => {
             let core = mount(rt, work.file, work.sector_size)?;
-            save(rt, core.tree(), directory, place)?;
+            save(rt, core.tree(), directory, reached)?;
         }
     }
     out.flush()?;
@@ -167,10 +167,10 @@ fn change<Rt: Files + AllocGlobal + Clone + Drop, R: Read>(
     work: &Work<'_>,
     asked: Change<'_>,
     input: &mut R,
-    place: &mut String,
+    reached: &mut String,
 ) -> Result<(), VolumeFault> {
     let mut session = Session::new(mount(rt, work.file, work.sector_size)?);
-    let changed = change_in(rt, &mut session, asked, input, place);
+    let changed = change_in(rt, &mut session, asked, input, reached);
     let (flash, closed) = session.close();
     changed?;
     closed?;
@@ -184,7 +184,7 @@ fn change_in<Rt: Files + AllocGlobal + Clone + Drop, F: Flash, R: Read>(
     session: &mut Session<F>,
     asked: Change<'_>,
     input: &mut R,
-    place: &mut String,
+    reached: &mut String,
 ) -> Result<(), VolumeFault> {
     let alloc = rt.alloc();
     match asked {
@@ -195,7 +195,7 @@ fn change_in<Rt: Files + AllocGlobal + Clone + Drop, F: Flash, R: Read>(
             to: Path::parse(alloc, to)?,
         }),
         Change::Remove(path) => session.ask(Wish::Remove(Path::parse(alloc, path)?)),
-        Change::RemoveAll(path) => remove_all(alloc, session, path, place),
-        Change::Load(directory) => load(rt, session, directory, place),
+        Change::RemoveAll(path) => remove_all(alloc, session, path, reached),
+        Change::Load(directory) => load(rt, session, directory, reached),
     }
 }

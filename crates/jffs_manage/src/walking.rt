@@ -7,7 +7,7 @@ use std::alloc::Global;
 
 /// Something on a volume: its path, and its inode.
 #[derive(Drop)]
-pub(crate) struct Place {
+pub(crate) struct Entry {
     /// The path; for the root it is empty.
     pub path: String,
     pub inode: u32,
@@ -20,17 +20,17 @@ pub(crate) fn below(
     tree: &Tree,
     path: &str,
     inode: u32,
-) -> Result<Vec<Place>, VolumeFault> {
+) -> Result<Vec<Entry>, VolumeFault> {
     let mut found = Vec::new(alloc);
     let path = String::from_str(alloc, path)?;
-    found.push(Place { path, inode })?;
+    found.push(Entry { path, inode })?;
     for at in 0..usize::MAX {
         let (path, inode) = match found.get(at) {
-            Some(place) => (place.path.clone()?, place.inode),
+            Some(above) => (above.path.clone()?, above.inode),
             None => break,
         };
         for (name, inode) in tree.names(inode)?.iter() {
-            found.push(Place {
+            found.push(Entry {
                 path: joined(alloc, path.as_str(), name)?,
                 inode: *inode,
             })?;

@@ -1,4 +1,4 @@
--- What is found at a place, by its parts.
+-- What is found at an offset, by its parts.
 use Rattle.std.proofs.Common.{◌≡◌, ℕ, ◌≤◌, ◌<◌, Bool, true, false, cond, not, ◌||◌, ltb, eqb, List, length, drop, get_or, Option, Some, None, Ok, Err, refl, sym, ap, subst, ◌∙◌}
 use Rattle.jffs_node.specs.declared.read.Why.{Why}
 use Rattle.jffs_node.specs.declared.read.Read.{Read}
@@ -7,18 +7,18 @@ use Rattle.jffs_node.specs.declared.header.Head.{Head}
 use Rattle.jffs_node.specs.Laws.{IsClosedExactly}
 use Rattle.jffs_node.specs.Reading.{rules, broken_rule, byte_at, data_len, node_at, is_erased, closed_or_bad, found}
 use Rattle.std.proofs.lemmas.Bool.{and_parts, or_parts, ltb-false, not-true, not-false}
-use Rattle.jffs_node.specs.Record.{numbers_hold, has_place, len_of_data, record_len, BeginsWith}
+use Rattle.jffs_node.specs.Record.{numbers_hold, fits_rest, len_of_data, record_len, BeginsWith}
 use Rattle.jffs_node.specs.Header.{head_at, head_or_why}
 use Rattle.jffs_node.proofs.Found.{records_are_found}
 use Rattle.jffs_node.proofs.Sound.{all_hold, found_are_records}
-use Rattle.jffs_node.proofs.Rules.{place_parts, ok_differs, ok_same, err_same}
+use Rattle.jffs_node.proofs.Rules.{fits_rest_parts, ok_differs, ok_same, err_same}
 
 -- so is one that breaks no rule
 pub record_fits : (rest : List ℕ) (record_max : ℕ) → broken_rule record_max rest ≡ None → (len_of_data (data_len rest) ≤ record_max) × (len_of_data (data_len rest) ≤ length rest)
 record_fits rest record_max h =
     let hold = all_hold (rules record_max rest) h in
-    let size = and_parts (numbers_hold (node_at rest) (data_len rest)) (has_place (node_at rest).kind (data_len rest) record_max (length rest)) hold.1.1.1.1.1.1.0 in
-    let parts = place_parts (node_at rest).kind (data_len rest) record_max (length rest) size.1 in
+    let size = and_parts (numbers_hold (node_at rest) (data_len rest)) (fits_rest (node_at rest).kind (data_len rest) record_max (length rest)) hold.1.1.1.1.1.1.0 in
+    let parts = fits_rest_parts (node_at rest).kind (data_len rest) record_max (length rest) size.1 in
     (parts.0, parts.1)
 
 -- What a head that was read says of the record.
@@ -32,7 +32,7 @@ head_refused rest (Some v) w h = ap (λ x. Some x) (sym (err_same {A = Head} v w
 
 -- What is found, by its parts.
 
--- a closed gate stands behind a whole header
+-- a closed gate stands after a whole header
 pub closed_long : (rest : List ℕ) (closed : Bool) → closed ≡ not (ltb (length rest) 64 || not (eqb (byte_at 7 rest) 0)) → closed ≡ true → 64 ≤ length rest
 closed_long rest closed e h = ltb-false (length rest) 64 (or_parts (ltb (length rest) 64) (not (eqb (byte_at 7 rest) 0)) (not-true _ (sym e ∙ h))).0
 

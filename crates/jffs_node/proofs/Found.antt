@@ -8,11 +8,11 @@ use Rattle.jffs_node.specs.declared.node.Kind.TheVariants.{File}
 use Rattle.jffs_node.specs.declared.read.Why.{Why}
 use Rattle.jffs_node.specs.declared.read.Read.TheVariants.{Closed, Free, Torn}
 use Rattle.jffs_node.specs.Name.{is_name}
-use Rattle.jffs_node.specs.Record.{spelling, record_len, len_of_data, flags_byte, name_bytes, form_number, dsize, fill_len, is_file, is_unmount, suits_kind, fits_fields, numbers_hold, has_place, is_lawful}
+use Rattle.jffs_node.specs.Record.{spelling, record_len, len_of_data, flags_byte, name_bytes, form_number, dsize, fill_len, is_file, is_unmount, suits_kind, fits_fields, numbers_hold, fits_rest, is_lawful}
 use Rattle.jffs_node.specs.Reading.{number_at, form_at, name_at, data_len, node_at, flags_hold, name_holds, form_holds, spare_holds, size_holds, padding_holds, first_broken, rules, broken_rule, closed_or_bad, is_erased, found}
 use Rattle.jffs_node.specs.Laws.{RecordsAreFound}
 use Rattle.jffs_node.proofs.Names.{long_enough}
-use Rattle.jffs_node.proofs.Rules.{place_parts}
+use Rattle.jffs_node.proofs.Rules.{fits_rest_parts}
 use Rattle.jffs_node.proofs.Lawfulness.{FitsFields, fields_of, SuitsRules, rules_of}
 use Rattle.jffs_node.proofs.Fields.{inode_field, parent_field, version_field, offset_field, data_field, rsize_field, writer_field, form_field, seq_field, size_field, kind_field, name_found, name_end, data_found, padding_found, length-spelling}
 
@@ -134,11 +134,11 @@ module _ (n : Node) (after : List ℕ) (lawful : is_lawful n ≡ true) where
       ap (λ f. eqb f 2 || eqb (number_at w32 40 (spelling n ++ after)) 0) (form_field n after)
       ∙ spare_passes n.size (number_at w32 40 (spelling n ++ after)) (size_field n after fields.size)
 
-  size_rule : (record_max : ℕ) → has_place n.kind (dsize n) record_max (length (spelling n ++ after)) ≡ true → size_holds record_max (spelling n ++ after) ≡ true
-  size_rule record_max place = and_from _ _
+  size_rule : (record_max : ℕ) → fits_rest n.kind (dsize n) record_max (length (spelling n ++ after)) ≡ true → size_holds record_max (spelling n ++ after) ≡ true
+  size_rule record_max room = and_from _ _
       (ap (λ m. numbers_hold m (data_len (spelling n ++ after))) node_found ∙ ap (λ d. numbers_hold n d) (data_field n after fields.amount) ∙ (and_parts (fits_fields n && suits_kind n) (numbers_hold n (dsize n)) lawful).1)
-      (ap (λ k. has_place k (data_len (spelling n ++ after)) record_max (length (spelling n ++ after))) kind_found
-      ∙ ap (λ d. has_place n.kind d record_max (length (spelling n ++ after))) (data_field n after fields.amount) ∙ place)
+      (ap (λ k. fits_rest k (data_len (spelling n ++ after)) record_max (length (spelling n ++ after))) kind_found
+      ∙ ap (λ d. fits_rest n.kind d record_max (length (spelling n ++ after))) (data_field n after fields.amount) ∙ room)
 
   padding_rule : padding_holds (spelling n ++ after) ≡ true
   padding_rule =
@@ -146,28 +146,28 @@ module _ (n : Node) (after : List ℕ) (lawful : is_lawful n ≡ true) where
       ∙ ap (λ (xs : List ℕ). list_all (λ b. eqb b 255) xs) (padding_found n after short)
       ∙ all_same (fill_len (dsize n)) 255
 
-  no_rule_broken : (record_max : ℕ) → has_place n.kind (dsize n) record_max (length (spelling n ++ after)) ≡ true → broken_rule record_max (spelling n ++ after) ≡ None
-  no_rule_broken record_max place =
+  no_rule_broken : (record_max : ℕ) → fits_rest n.kind (dsize n) record_max (length (spelling n ++ after)) ≡ true → broken_rule record_max (spelling n ++ after) ≡ None
+  no_rule_broken record_max room =
       none_broken (rules record_max (spelling n ++ after))
-      (refl, (ap is_some (kind_field n after), (flags_rule, (name_rule, (form_rule, (spare_rule, (size_rule record_max place, (padding_rule, tt))))))))
+      (refl, (ap is_some (kind_field n after), (flags_rule, (name_rule, (form_rule, (spare_rule, (size_rule record_max room, (padding_rule, tt))))))))
 
-  long_rest : (record_max : ℕ) → has_place n.kind (dsize n) record_max (length (spelling n ++ after)) ≡ true → ltb (length (spelling n ++ after)) 64 ≡ false
-  long_rest record_max place =
+  long_rest : (record_max : ℕ) → fits_rest n.kind (dsize n) record_max (length (spelling n ++ after)) ≡ true → ltb (length (spelling n ++ after)) 64 ≡ false
+  long_rest record_max room =
       let rest = length (spelling n ++ after) in
-      let fits = (place_parts n.kind (dsize n) record_max rest place).1 in
+      let fits = (fits_rest_parts n.kind (dsize n) record_max rest room).1 in
       le-ltb rest 64 (omega arith)
 
-  found_closed : (record_max : ℕ) → has_place n.kind (dsize n) record_max (length (spelling n ++ after)) ≡ true → found record_max (spelling n ++ after) ≡ Closed n (record_len n)
-  found_closed record_max place =
-      ap (λ t. cond (t || false) (cond (is_erased (spelling n ++ after)) Free Torn) (closed_or_bad (spelling n ++ after) (broken_rule record_max (spelling n ++ after)))) (long_rest record_max place)
-      ∙ ap (λ o. closed_or_bad (spelling n ++ after) o) (no_rule_broken record_max place)
+  found_closed : (record_max : ℕ) → fits_rest n.kind (dsize n) record_max (length (spelling n ++ after)) ≡ true → found record_max (spelling n ++ after) ≡ Closed n (record_len n)
+  found_closed record_max room =
+      ap (λ t. cond (t || false) (cond (is_erased (spelling n ++ after)) Free Torn) (closed_or_bad (spelling n ++ after) (broken_rule record_max (spelling n ++ after)))) (long_rest record_max room)
+      ∙ ap (λ o. closed_or_bad (spelling n ++ after) o) (no_rule_broken record_max room)
       ∙ ap (λ m. Closed m (len_of_data (data_len (spelling n ++ after)))) node_found
       ∙ ap (λ d. Closed n (len_of_data d)) (data_field n after fields.amount)
 
 pub records_are_found : RecordsAreFound
 records_are_found rest record_max n after h =
-    let place = subst (λ (xs : List ℕ). has_place n.kind (dsize n) record_max (length xs) ≡ true) h.spelled h.placed in
-    ap (λ (xs : List ℕ). found record_max xs) h.spelled ∙ found_closed n after h.lawful record_max place
+    let room = subst (λ (xs : List ℕ). fits_rest n.kind (dsize n) record_max (length xs) ≡ true) h.spelled h.placed in
+    ap (λ (xs : List ℕ). found record_max xs) h.spelled ∙ found_closed n after h.lawful record_max room
 
 -- The record of a lawful node is as long as the node says.
 pub length_spelled : (n : Node) → is_lawful n ≡ true → length (spelling n) ≡ record_len n

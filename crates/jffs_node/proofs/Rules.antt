@@ -9,7 +9,7 @@ use Rattle.jffs_node.specs.declared.header.Labels.{Labels}
 use Rattle.jffs_node.specs.declared.node.Node.{Node}
 use Rattle.jffs_node.specs.declared.node.Kind.{Kind}
 use Rattle.jffs_node.specs.declared.node.Kind.TheVariants.{File, Directory, Unmount}
-use Rattle.jffs_node.specs.Record.{kind_numbers, has_no_range, size_numbers, numbers_hold, len_of_data, is_unmount, has_place}
+use Rattle.jffs_node.specs.Record.{kind_numbers, has_no_range, size_numbers, numbers_hold, len_of_data, is_unmount, fits_rest}
 use Rattle.jffs_node.specs.Header.{checked, labels_at, labels_or_why}
 
 pub ok_differs : {A E : Type 0} (w : E) (y : A) → ◌≡◌ {A = Result A E} (Ok y) (Err w) → ⊥
@@ -65,10 +65,10 @@ pub numbers_without_data : (n : Node) (amount : ℕ) → numbers_hold (record n 
 numbers_without_data n amount =
     ap (λ b. leb 1 n.version && b && (not n.deleted || has_no_range n amount) && (not n.copy || eqb n.rsize amount) && size_numbers n amount) (kinds_without_data n.kind n amount)
 
--- a record that has its place is no longer than allowed, fits, and leaves room for an unmount node
-pub place_parts : (kind : Kind) (amount record_max rest : ℕ) → has_place kind amount record_max rest ≡ true
+-- a record that fits is no longer than allowed, fits, and leaves room for an unmount node
+pub fits_rest_parts : (kind : Kind) (amount record_max rest : ℕ) → fits_rest kind amount record_max rest ≡ true
     → (len_of_data amount ≤ record_max) × (len_of_data amount ≤ rest) × ((is_unmount kind || leb (len_of_data amount + 64) rest) ≡ true)
-place_parts kind amount record_max rest h =
+fits_rest_parts kind amount record_max rest h =
     let a = and_parts (leb (len_of_data amount) record_max && leb (len_of_data amount) rest) (is_unmount kind || leb (len_of_data amount + 64) rest) h in
     let b = and_parts (leb (len_of_data amount) record_max) (leb (len_of_data amount) rest) a.0 in
     (leb-true (len_of_data amount) record_max b.0, leb-true (len_of_data amount) rest b.1, a.1)

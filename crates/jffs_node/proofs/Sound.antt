@@ -13,12 +13,12 @@ use Rattle.jffs_node.specs.declared.node.Kind.TheVariants.{File, Directory, Unmo
 use Rattle.jffs_node.specs.declared.read.Why.{Why}
 use Rattle.jffs_node.specs.declared.read.Read.TheVariants.{Closed, Free, Torn, Bad}
 use Rattle.jffs_node.specs.Name.{is_name, padded_name}
-use Rattle.jffs_node.specs.Record.{header, spelling, magic, record_len, len_of_data, kind_byte, flags_byte, name_bytes, form_number, dsize, fill_len, is_file, is_unmount, numbers_hold, has_place, is_lawful, BeginsWith}
+use Rattle.jffs_node.specs.Record.{header, spelling, magic, record_len, len_of_data, kind_byte, flags_byte, name_bytes, form_number, dsize, fill_len, is_file, is_unmount, numbers_hold, fits_rest, is_lawful, BeginsWith}
 use Rattle.jffs_node.specs.Reading.{number_at, byte_at, form_at, name_field, name_at, data_len, data_at, node_at, first_broken, rules, broken_rule, closed_or_bad, is_erased}
 use Rattle.jffs_node.specs.Laws.{FoundAreRecords}
 use Rattle.jffs_node.proofs.Fitting.{small_bytes}
 use Rattle.jffs_node.proofs.Names.{long_enough}
-use Rattle.jffs_node.proofs.Rules.{place_parts}
+use Rattle.jffs_node.proofs.Rules.{fits_rest_parts}
 
 pub all_hold : (rules : List (Bool × Why)) → first_broken rules ≡ None → AllByRecursion (λ r. r.0 ≡ true) rules
 all_hold [] h = tt
@@ -82,7 +82,7 @@ four_small xs h = let a = h 0 in let b = h 1 in let c = h 2 in let d = h 3 in om
 two_small : (xs : List ℕ) → ((i : ℕ) → get_or xs i 0 < 256) → from_be_bytes w16 xs < 2 ^ 16
 two_small xs h = let a = h 0 in let b = h 1 in omega arith
 
--- a front that is known, and the piece behind it
+-- a front that is known, and the piece after it
 longer_front : (rest front piece : List ℕ) (at k : ℕ) → take at rest ≡ front → take k (drop at rest) ≡ piece → take (at + k) rest ≡ front ++ piece
 longer_front rest front piece at k f p = take-add at k rest ∙ (λ i. f i ++ p i)
 
@@ -137,11 +137,11 @@ size_number_is f k h = ⊎_elim
     (cases_Bool (eqb f 2))
 
 module _ (rest : List ℕ) (record_max : ℕ) (bytes : (i : ℕ) → get_or rest i 0 < 256) (long : 64 ≤ length rest) (gate : byte_at 7 rest ≡ 0) (hold : AllByRecursion (λ r. r.0 ≡ true) (rules record_max rest)) where
-  size_part : (numbers_hold (node_at rest) (data_len rest) ≡ true) × (has_place (node_at rest).kind (data_len rest) record_max (length rest) ≡ true)
+  size_part : (numbers_hold (node_at rest) (data_len rest) ≡ true) × (fits_rest (node_at rest).kind (data_len rest) record_max (length rest) ≡ true)
   size_part = and_parts _ _ hold.1.1.1.1.1.1.0
 
   fits : len_of_data (data_len rest) ≤ length rest
-  fits = (place_parts (node_at rest).kind (data_len rest) record_max (length rest) size_part.1).1
+  fits = (fits_rest_parts (node_at rest).kind (data_len rest) record_max (length rest) size_part.1).1
 
   dsize_is : dsize (node_at rest) ≡ data_len rest
   dsize_is = part_len rest 64 (data_len rest) (let f = fits in omega arith)
@@ -245,7 +245,7 @@ module _ (rest : List ℕ) (record_max : ℕ) (bytes : (i : ℕ) → get_or rest
   begins_here = record {
     spelled = spelled_here;
     lawful = lawful_here;
-    placed = ap (λ k. has_place (node_at rest).kind k record_max (length rest)) dsize_is ∙ size_part.1;
+    placed = ap (λ k. fits_rest (node_at rest).kind k record_max (length rest)) dsize_is ∙ size_part.1;
   }
 
 no_erased_record : (rest : List ℕ) (n : Node) (len : ℕ) → cond (is_erased rest) Free Torn ≡ Closed n len → ⊥

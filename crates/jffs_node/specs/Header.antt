@@ -18,7 +18,7 @@ checked holds rule found = if holds then Ok found else Err rule
 abbrev pub flags_at : List ℕ → Flags
 flags_at rest = record { deleted = (node_at rest).deleted; copy = (node_at rest).copy }
 
--- what the header says beside its numbers
+-- what the header says besides its numbers
 abbrev pub labels_at : List ℕ → Labels
 labels_at rest = record { kind = (node_at rest).kind; flags = flags_at rest; name = (node_at rest).name; size = (node_at rest).size }
 

@@ -19,7 +19,7 @@ pub(crate) struct Head {
     pub(crate) amount: u32,
 }
 
-/// What a header says beside its numbers.
+/// What a header says besides its numbers.
 #[derive(Clone, Copy)]
 pub(crate) struct Labels {
     kind: Kind,
@@ -28,7 +28,7 @@ pub(crate) struct Labels {
     size: Option<u32>,
 }
 
-/// What a header says beside its numbers, or the first rule on it that is broken.
+/// What a header says besides its numbers, or the first rule on it that is broken.
 #[tactic(none)]
 pub(crate) fn labels_of(rest: &[u8]) -> Result<Labels, Why>
     requires { 64 ≤ length rest.now }
@@ -161,7 +161,7 @@ fn states_size(kind: Kind, deleted: bool, rest: &[u8]) -> Result<bool, Why>
     }
 }
 
-/// The size that the record states, or zeros in its place.
+/// The size that the record states, or zeros instead.
 fn size_of(stated: bool, rest: &[u8]) -> Result<Option<u32>, Why>
     requires long { 64 ≤ length rest.now }
     requires stated { stated ≡ (form_at rest.now == 2) }

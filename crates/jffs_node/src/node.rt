@@ -18,9 +18,9 @@ pub const FIRST_INODE: u32 = 2;
 /// What a node is about.
 #[derive(Clone, Copy, Debug, PartialEq, Eq)]
 pub enum Kind {
-    /// A file: its place in the tree, and a range of its bytes.
+    /// A file: its parent and name, and a range of its bytes.
     File,
-    /// A directory: its place in the tree.
+    /// A directory: its parent and name.
     Directory,
     /// The end of a session that was closed in order. It is about no inode.
     Unmount,

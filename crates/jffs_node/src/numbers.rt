@@ -1,7 +1,7 @@
 //! The rules on the numbers of a record.
 
 ghost use Rattle.std.specs.Prelude.{◌≡◌, ◌+◌, ◌==◌, ◌&&◌, ◌||◌, nat_le};
-ghost use Rattle.jffs_node.specs.Record.{has_no_range as no_range_test, kind_numbers as kind_numbers_test, size_numbers as size_numbers_test, numbers_hold as numbers_test, has_place as place_test, len_of_data, file_max};
+ghost use Rattle.jffs_node.specs.Record.{has_no_range as no_range_test, kind_numbers as kind_numbers_test, size_numbers as size_numbers_test, numbers_hold as numbers_test, fits_rest as fits_rest_test, len_of_data, file_max};
 ghost use Rattle.jffs_node.specs.Header.{checked};
 
 use crate::layout::{HEADER_LEN, RECORD_ALIGN};
@@ -23,9 +23,9 @@ pub(crate) fn check_numbers(
     record_max: u32,
     rest: usize,
 ) -> Result<(), Why>
-    ensures { result ≡ checked (numbers_test node.now amount && place_test node.now.kind amount record_max rest) Why.Size tt }
+    ensures { result ≡ checked (numbers_test node.now amount && fits_rest_test node.now.kind amount record_max rest) Why.Size tt }
 {
-    if numbers_hold(node, amount) && has_place(node.kind, amount, record_max, rest) {
+    if numbers_hold(node, amount) && fits_rest(node.kind, amount, record_max, rest) {
         Ok(())
     } else {
         Err(Why::Size)
@@ -98,8 +98,8 @@ fn ends_within(offset: u32, len: u32, end: u32) -> bool
 
 /// Whether a record with so much data may stand at the head of the last `rest` bytes of its sector: only an unmount
 /// record may leave no room for another.
-fn has_place(kind: Kind, amount: u32, record_max: u32, rest: usize) -> bool
-    ensures { result ≡ place_test kind amount record_max rest }
+fn fits_rest(kind: Kind, amount: u32, record_max: u32, rest: usize) -> bool
+    ensures { result ≡ fits_rest_test kind amount record_max rest }
 {
     let len = len_with_data(amount);
     let rest = rest as u64;

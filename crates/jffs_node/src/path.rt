@@ -71,7 +71,7 @@ impl<T: Drop> From<AllocFailed<T>> for PathFault {
 impl Path {
     /// The path that a text spells: a slash before each name, and a slash alone for the root.
     ///
-    /// `Memory` if allocation failed for the names; it may come in place of a fault further to the
+    /// `Memory` if allocation failed for the names; it may come instead of a fault further to the
     /// right. Every other fault is that of the text.
     pub fn parse(alloc: Global, text: &str) -> Result<Path, PathFault>
         ensures { result ≢ Err PathFault.Memory → result ≡ path_of text.now }

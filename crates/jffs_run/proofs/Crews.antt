@@ -9,7 +9,7 @@ module _ {H : Type 0} (g : Hand.Ghosts H) where
   pub same_end : (a b : H) → g.sender a ≡ g.sender b → g.line a ≡ g.line b → end_of g a ≡ end_of g b
   same_end a b sender line = ap₂ (λ (s : ℕ) (l : Line). let e : End = (s, l) in e) sender line
 
-  -- hands with the same ends, and the two behind them
+  -- hands with the same ends, and the two after them
   pub same_ends :
       (hands before : List H) (cleaner cleaner' control control' : H)
       → map (end_of g) hands ≡ map (end_of g) before → end_of g cleaner ≡ end_of g cleaner' → end_of g control ≡ end_of g control'

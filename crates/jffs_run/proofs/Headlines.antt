@@ -25,8 +25,8 @@ use Rattle.jffs_core.specs.Past.{IsLeftBy}
 use Rattle.jffs_run.specs.Account.{Account}
 use Rattle.jffs_run.specs.Headline.{IsRun, requests_in, numbers_of}
 use Rattle.jffs_node.specs.declared.node.Node.{Node}
-use Rattle.jffs_core.specs.Standing.{Standing}
-use Rattle.jffs_core.specs.Past.{StandsFor}
+use Rattle.jffs_core.specs.CoreState.{CoreState}
+use Rattle.jffs_core.specs.Past.{Represents}
 use Rattle.jffs_core.specs.declared.answer.Answer.{Answer}
 use Rattle.jffs_serve.specs.Answered.{RunsTo}
 
@@ -62,31 +62,31 @@ counted_first n (suc count) (x ∷ xs) ys is =
     let rest : xs ++ ys ≡ range_with_len (n + 1) count = cc in
     ap (λ (k : ℕ). k ∷ xs) first ∙ ap (λ (tail : List ℕ). n ∷ tail) (counted_first (n + 1) count xs ys rest)
 
--- the numbers of a writers' hands and those behind them
+-- the numbers of a writers' hands and those after them
 split_senders : {H : Type 0} (sender : H → ℕ) (a n : ℕ) (hands tail : List H) (others : List ℕ)
     → length hands ≡ n → map sender (hands ++ tail) ≡ range_with_len a n ++ others
-    → EachFrom (λ place hand. sender hand ≡ place + a) 0 hands × (map sender tail ≡ others)
+    → EachFrom (λ slot hand. sender hand ≡ slot + a) 0 hands × (map sender tail ≡ others)
 split_senders {H} sender a n hands tail others count is = by 0 a n hands (omega arith) count is
   where
-    by : (place at n : ℕ) (hands : List H) → at ≡ place + a → length hands ≡ n → map sender (hands ++ tail) ≡ range_with_len at n ++ others → EachFrom (λ place hand. sender hand ≡ place + a) place hands × (map sender tail ≡ others)
-    by place at zero [] here count is = (tt, is)
-    by place at (suc n) [] here count is = absurd (omega arith)
-    by place at zero (hand ∷ hands) here count is = absurd (omega arith)
-    by place at (suc n) (hand ∷ hands) here count is =
+    by : (slot at n : ℕ) (hands : List H) → at ≡ slot + a → length hands ≡ n → map sender (hands ++ tail) ≡ range_with_len at n ++ others → EachFrom (λ slot hand. sender hand ≡ slot + a) slot hands × (map sender tail ≡ others)
+    by slot at zero [] here count is = (tt, is)
+    by slot at (suc n) [] here count is = absurd (omega arith)
+    by slot at zero (hand ∷ hands) here count is = absurd (omega arith)
+    by slot at (suc n) (hand ∷ hands) here count is =
         let first : sender hand ≡ at = cc in
         let rest : map sender (hands ++ tail) ≡ range_with_len (at + 1) n ++ others = cc in
-        let more = by (place + 1) (at + 1) n hands (omega arith) (omega arith) rest in
+        let more = by (slot + 1) (at + 1) n hands (omega arith) (omega arith) rest in
         ((first ∙ here, more.0), more.1)
 
 module _ {H : Type 0} (g : Hand.Ghosts H) where
-  -- the hand of the writer at this place, with its number
-  record AtPlace (script : List Writer) (place : ℕ) (hand : H) : Type 0 where
-    sender : g.sender hand ≡ place + 1
-    first : HandedIn g script place hand
+  -- the hand of the writer at this slot, with its number
+  record AtSlot (script : List Writer) (slot : ℕ) (hand : H) : Type 0 where
+    sender : g.sender hand ≡ slot + 1
+    first : HandedIn g script slot hand
 
-  at_places : (script : List Writer) (n : ℕ) (hands : List H) → EachFrom (λ place hand. g.sender hand ≡ place + 1) n hands → EachFrom (HandedIn g script) n hands → EachFrom (AtPlace script) n hands
-  at_places script n [] numbers first = tt
-  at_places script n (hand ∷ hands) numbers first = (record { sender = numbers.0; first = first.0 }, at_places script (n + 1) hands numbers.1 first.1)
+  at_slots : (script : List Writer) (n : ℕ) (hands : List H) → EachFrom (λ slot hand. g.sender hand ≡ slot + 1) n hands → EachFrom (HandedIn g script) n hands → EachFrom (AtSlot script) n hands
+  at_slots script n [] numbers first = tt
+  at_slots script n (hand ∷ hands) numbers first = (record { sender = numbers.0; first = first.0 }, at_slots script (n + 1) hands numbers.1 first.1)
 
   -- what the first of the hands accepted, where it is this sender's
   found : (sender : ℕ) (hand : H) (hands : List H) → g.sender hand ≡ sender → accepted_by g sender (hand ∷ hands) ≡ g.accepted hand
@@ -96,25 +96,25 @@ module _ {H : Type 0} (g : Hand.Ghosts H) where
   passed : (sender : ℕ) (hand : H) (hands : List H) → g.sender hand ≢ sender → accepted_by g sender (hand ∷ hands) ≡ accepted_by g sender hands
   passed sender hand hands not = cond-false _ _ _ (ne_eqb (g.sender hand) sender not)
 
-  -- what the hand at a place accepted is found by its sender
+  -- what the hand at a slot accepted is found by its sender
   accepted_at :
-      (script : List Writer) (n : ℕ) (hands tail : List H) → EachFrom (AtPlace script) n hands
-      → (place : ℕ) → n ≤ place → place < n + length hands
-      → (hand : H) × AtPlace script place hand × (accepted_by g (place + 1) (hands ++ tail) ≡ g.accepted hand) × (EachFrom (HandedInAll g script) n hands → HandedInAll g script place hand)
-  accepted_at script n [] tail each place from below = absurd (let none : length {A = H} [] ≡ 0 = refl in omega arith)
-  accepted_at script n (hand ∷ hands) tail each place from below =
-      elim (eqb_tells (g.sender hand) (place + 1)) [
+      (script : List Writer) (n : ℕ) (hands tail : List H) → EachFrom (AtSlot script) n hands
+      → (slot : ℕ) → n ≤ slot → slot < n + length hands
+      → (hand : H) × AtSlot script slot hand × (accepted_by g (slot + 1) (hands ++ tail) ≡ g.accepted hand) × (EachFrom (HandedInAll g script) n hands → HandedInAll g script slot hand)
+  accepted_at script n [] tail each slot from below = absurd (let none : length {A = H} [] ≡ 0 = refl in omega arith)
+  accepted_at script n (hand ∷ hands) tail each slot from below =
+      elim (eqb_tells (g.sender hand) (slot + 1)) [
         | inl same ↦
-            let here : n ≡ place = let s = each.0.sender in let t = same.1 in omega arith in (
+            let here : n ≡ slot = let s = each.0.sender in let t = same.1 in omega arith in (
               hand,
-              subst (λ (k : ℕ). AtPlace script k hand) here each.0,
+              subst (λ (k : ℕ). AtSlot script k hand) here each.0,
               cond-true _ _ _ same.0,
               λ all. subst (λ (k : ℕ). HandedInAll g script k hand) here all.0,
             )
         | inr other ↦
-            let later : n + 1 ≤ place = let s = each.0.sender in let t = other.1 in omega arith in
-            let below' : place < (n + 1) + length hands = let c : length (hand ∷ hands) ≡ length hands + 1 = omega arith in omega arith in
-            let rest = accepted_at script (n + 1) hands tail each.1 place later below' in (
+            let later : n + 1 ≤ slot = let s = each.0.sender in let t = other.1 in omega arith in
+            let below' : slot < (n + 1) + length hands = let c : length (hand ∷ hands) ≡ length hands + 1 = omega arith in omega arith in
+            let rest = accepted_at script (n + 1) hands tail each.1 slot later below' in (
               rest.0,
               rest.1,
               cond-false _ _ _ other.0 ∙ rest.2,
@@ -124,15 +124,15 @@ module _ {H : Type 0} (g : Hand.Ghosts H) where
 
   -- what a sender accepted that has none of these hands
   accepted_elsewhere :
-      (script : List Writer) (n : ℕ) (hands tail : List H) → EachFrom (AtPlace script) n hands
-      → (sender : ℕ) → ((place : ℕ) → place < n + length hands → sender ≢ place + 1)
+      (script : List Writer) (n : ℕ) (hands tail : List H) → EachFrom (AtSlot script) n hands
+      → (sender : ℕ) → ((slot : ℕ) → slot < n + length hands → sender ≢ slot + 1)
       → accepted_by g sender (hands ++ tail) ≡ accepted_by g sender tail
   accepted_elsewhere script n [] tail each sender other = refl
   accepted_elsewhere script n (hand ∷ hands) tail each sender other =
       elim (eqb_tells (g.sender hand) sender) [
         | inl same ↦ absurd (let s = each.0.sender in other n (let c : length (hand ∷ hands) ≡ length hands + 1 = omega arith in omega arith) (sym same.1 ∙ s))
         | inr differs ↦
-            let rest = accepted_elsewhere script (n + 1) hands tail each.1 sender (λ place below. other place (let c : length (hand ∷ hands) ≡ length hands + 1 = omega arith in omega arith)) in
+            let rest = accepted_elsewhere script (n + 1) hands tail each.1 sender (λ slot below. other slot (let c : length (hand ∷ hands) ≡ length hands + 1 = omega arith in omega arith)) in
             cond-false _ _ _ differs.0 ∙ rest
       ]
 
@@ -182,7 +182,7 @@ module _ {H : Type 0} (g : Hand.Ghosts H) where
 
   -- what all threads did makes a run
   pub is_run :
-      (start core : Standing) (script : List Writer) (statements : List ReaderStatement) (hands : Hands H) (replies : List Reply) (waiting : List Request) (ends : List ReaderEnd) (served : Served) (device : Device)
+      (start core : CoreState) (script : List Writer) (statements : List ReaderStatement) (hands : Hands H) (replies : List Reply) (waiting : List Request) (ends : List ReaderEnd) (served : Served) (device : Device)
       → length script ≤ 8 → length hands.writers.items ≡ length script
       → map g.sender (all_hands g hands) ≡ senders (length script)
       → EachFrom (HandedIn g script) 0 hands.writers.items
@@ -194,7 +194,7 @@ module _ {H : Type 0} (g : Hand.Ghosts H) where
       → All (λ hand. IsNumbered (g.accepted hand)) (all_hands g hands)
       → ((sender : ℕ) → (Contains (map g.sender (all_hands g hands)) sender → ⊥) → of sender (requests_in replies) ++ of sender waiting ≡ [])
       → EachFrom (HasSeen (record { opening = start.tree; steps = map (λ (r : Reply). r.step) replies }) statements) 0 ends
-      → IsLeftBy core device → ((mounted past : List Node) → StandsFor mounted past start → RunsTo start core mounted past replies)
+      → IsLeftBy core device → ((mounted past : List Node) → Represents mounted past start → RunsTo start core mounted past replies)
       → FitsServed served (any_closed (map answer_in replies)) replies
       → IsRun start (account_with script statements hands (map answer_in replies) waiting ends served device)
   is_run start core script statements hands replies waiting ends served device eight count numbers first whole copies unmounts replied settled counted others seen left lawful ending =
@@ -204,15 +204,15 @@ module _ {H : Type 0} (g : Hand.Ghosts H) where
       let split = split_senders g.sender 1 (length script) writers tail (9 ∷ 10 ∷ []) count numbers in
       let nine : g.sender hands.cleaner ≡ 9 = let e = split.1 in cc in
       let ten : g.sender hands.control.hand ≡ 10 = let e = split.1 in cc in
-      let placed = at_places script 0 writers split.0 first in
-      let at : (place : ℕ) → place < length script → (hand : H) × AtPlace script place hand × (accepted (place + 1) ≡ g.accepted hand) × (EachFrom (HandedInAll g script) 0 writers → HandedInAll g script place hand) =
-      λ place below. accepted_at script 0 writers tail placed place (omega arith) (let c = count in omega arith) in
-      let elsewhere : (sender : ℕ) → ((place : ℕ) → place < length script → sender ≢ place + 1) → accepted sender ≡ accepted_by g sender tail =
-      λ sender other. accepted_elsewhere script 0 writers tail placed sender (λ place below. other place (let c = count in omega arith)) in
+      let placed = at_slots script 0 writers split.0 first in
+      let at : (slot : ℕ) → slot < length script → (hand : H) × AtSlot script slot hand × (accepted (slot + 1) ≡ g.accepted hand) × (EachFrom (HandedInAll g script) 0 writers → HandedInAll g script slot hand) =
+      λ slot below. accepted_at script 0 writers tail placed slot (omega arith) (let c = count in omega arith) in
+      let elsewhere : (sender : ℕ) → ((slot : ℕ) → slot < length script → sender ≢ slot + 1) → accepted sender ≡ accepted_by g sender tail =
+      λ sender other. accepted_elsewhere script 0 writers tail placed sender (λ slot below. other slot (let c = count in omega arith)) in
       let cleaner_is : accepted 9 ≡ g.accepted hands.cleaner =
-      elsewhere 9 (λ place below nine_is. absurd (omega arith)) ∙ found 9 hands.cleaner (hands.control.hand ∷ []) nine in
+      elsewhere 9 (λ slot below nine_is. absurd (omega arith)) ∙ found 9 hands.cleaner (hands.control.hand ∷ []) nine in
       let control_is : accepted 10 ≡ g.accepted hands.control.hand =
-      elsewhere 10 (λ place below ten_is. absurd (omega arith))
+      elsewhere 10 (λ slot below ten_is. absurd (omega arith))
       ∙ (passed 10 hands.cleaner (hands.control.hand ∷ []) (λ is. absurd (omega arith)) ∙ found 10 hands.control.hand [] ten) in
       let each : (sender : ℕ) → of sender (requests_in replies) ++ of sender waiting ≡ accepted sender =
       λ sender. each_settled (requests_in replies) waiting (all_hands g hands) settled sender (others sender) in
@@ -232,14 +232,14 @@ module _ {H : Type 0} (g : Hand.Ghosts H) where
             sym (map-append (λ (r : Request). r.seq) mine (of sender waiting)) ∙ (ap seqs (each sender) ∙ each_numbered (all_hands g hands) counted sender) in
             let begins = counted_first 1 (length (accepted sender)) (seqs mine) (seqs (of sender waiting)) both in
             same_numbers sender replies replied ∙ (begins ∙ ap (range_with_len 1) (length-map mine (λ (r : Request). r.seq)));
-        writers = λ place below.
-            let it = at place below in
-            let written : g.accepted it.0 ≡ numbered (place + 1) 1 (take (length (g.accepted it.0)) (wishes_of (commands_at script place))) =
-            it.1.first ∙ ap (λ (w : ℕ). numbered w 1 (take (length (g.accepted it.0)) (wishes_of (commands_at script place)))) it.1.sender in
-            it.2 ∙ (written ∙ ap (λ (k : ℕ). numbered (place + 1) 1 (take k (wishes_of (commands_at script place)))) (ap (length {A = Request}) (sym it.2)));
+        writers = λ slot below.
+            let it = at slot below in
+            let written : g.accepted it.0 ≡ numbered (slot + 1) 1 (take (length (g.accepted it.0)) (wishes_of (commands_at script slot))) =
+            it.1.first ∙ ap (λ (w : ℕ). numbered w 1 (take (length (g.accepted it.0)) (wishes_of (commands_at script slot)))) it.1.sender in
+            it.2 ∙ (written ∙ ap (λ (k : ℕ). numbered (slot + 1) 1 (take k (wishes_of (commands_at script slot)))) (ap (length {A = Request}) (sym it.2)));
         offered = elim whole [
           | inl idle ↦ inl (control_is ∙ idle)
-          | inr handed ↦ inr (λ place below. let it = at place below in ap (length {A = Request}) it.2 ∙ it.3 handed)
+          | inr handed ↦ inr (λ slot below. let it = at slot below in ap (length {A = Request}) it.2 ∙ it.3 handed)
         ];
         control = elim unmounts [
           | inl none ↦ inl (control_is ∙ none)

@@ -1,4 +1,4 @@
-pub mod Places
+pub mod Slots
 pub mod Numbers
 pub mod Writers
 pub mod Headlines

@@ -11,7 +11,7 @@ use Rattle.jffs_line.specs.Requests.{of, IsNumbered}
 use Rattle.jffs_line.specs.declared.hand.Hand as Hand
 use Rattle.jffs_line.specs.declared.hand.Hands.{Hands}
 use Rattle.jffs_line.proofs.Lists.{All-left, All-right}
-use Rattle.jffs_core.specs.Standing.{Standing}
+use Rattle.jffs_core.specs.CoreState.{CoreState}
 use Rattle.jffs_tree.specs.Origin.{Tree}
 use Rattle.jffs_index.specs.declared.step.Step.{Step}
 use Rattle.jffs_index.specs.declared.rule.History.{History}
@@ -19,8 +19,8 @@ use Rattle.jffs_index.specs.Histories.{view_of}
 use Rattle.jffs_index.specs.Shown.{opened}
 use Rattle.jffs_index.proofs.Fronts.{prefix_whole}
 use Rattle.jffs_index.proofs.Kept.{answered-fold}
-use Rattle.jffs_serve.specs.declared.session.Kept.{Kept}
-use Rattle.jffs_serve.specs.Kept.{unput}
+use Rattle.jffs_serve.specs.declared.session.PendingStep.{PendingStep}
+use Rattle.jffs_serve.specs.PendingStep.{unput}
 use Rattle.jffs_serve.specs.declared.session.Served.{Served}
 use Rattle.jffs_serve.specs.Replies.{Reply, answer_in, any_closed, FitsServed}
 use Rattle.jffs_serve.specs.Answered.{Start, HasReplied}
@@ -66,35 +66,35 @@ module _ {H : Type 0} (g : Hand.Ghosts H) where
   -- what was handed in, answered, seen and settled is a run
   pub whole_run :
       (script : List Writer) (statements : List ReaderStatement) (crew : Crew H) (hands : Hands H)
-      (core : Standing) (kept : Option Kept) (published : History) (pending : List Step)
+      (core : CoreState) (unsent : Option PendingStep) (published : History) (pending : List Step)
       (start : Start) (taken : ℕ → List Request) (replies : List Reply) (waiting : List Request) (ends : List ReaderEnd) (served : Served) (device : Device)
       → length script ≤ 8 → map g.sender (crew_hands g crew) ≡ senders (length script)
       → HasHandedIn g script crew hands
-      → ((w : ℕ) → start.taken w ≡ []) → start.standing.answers ≡ [] → start.put ≡ [] → published.opening ≡ start.standing.tree
-      → HasReplied start core kept (published.steps ++ pending) taken replies
+      → ((w : ℕ) → start.taken w ≡ []) → start.core.answers ≡ [] → start.put ≡ [] → published.opening ≡ start.core.tree
+      → HasReplied start core unsent (published.steps ++ pending) taken replies
       → All (λ hand. taken (g.sender hand) ++ of (g.sender hand) waiting ≡ g.accepted hand) (all_hands g hands)
       → All (λ hand. IsNumbered (g.accepted hand)) (all_hands g hands)
       → ((w : ℕ) → (Contains (map g.sender (all_hands g hands)) w → ⊥) → taken w ++ of w waiting ≡ [])
       → ((history : History) → IsWhole published (length core.answers) history → EachFrom (HasSeen history statements) 0 ends)
       → IsLeftBy core device
       → FitsServed served core.closed replies
-      → IsRun start.standing (account_with g script statements hands core.answers waiting ends served device)
-  whole_run script statements crew hands core kept published pending start taken replies waiting ends served device eight numbers handed untaken unanswered unput_before opened_is has settled numbered others seen left ending =
+      → IsRun start.core (account_with g script statements hands core.answers waiting ends served device)
+  whole_run script statements crew hands core unsent published pending start taken replies waiting ends served device eight numbers handed untaken unanswered unput_before opened_is has settled numbered others seen left ending =
       let answers_are : core.answers ≡ map answer_in replies = has.answered ∙ ap (λ (l : List Answer). l ++ map answer_in replies) unanswered in
       let taken_is : (w : ℕ) → taken w ≡ of w (requests_in replies) = λ w. has.all_taken w ∙ ap (λ (l : List Request). l ++ of w (requests_in replies)) (untaken w) in
       let now = same_senders (all_hands g hands) (crew_hands g crew) handed.ends ∙ numbers in
       let steps : List Step = map (λ (r : Reply). r.step) replies in
-      let history : History = record { opening = start.standing.tree; steps = steps } in
-      let put : published.steps ++ (pending ++ unput kept) ≡ steps =
-      sym (append_assoc published.steps pending (unput kept)) ∙ (has.sent ∙ ap (λ (l : List Step). l ++ steps) unput_before) in
+      let history : History = record { opening = start.core.tree; steps = steps } in
+      let put : published.steps ++ (pending ++ unput unsent) ≡ steps =
+      sym (append_assoc published.steps pending (unput unsent)) ∙ (has.sent ∙ ap (λ (l : List Step). l ++ steps) unput_before) in
       let whole : IsWhole published (length core.answers) history = λ counted.
       let many : (view_of published).answered ≡ 0 + length published.steps = answered-fold (opened published.opening) published.steps in
       let answers : length core.answers ≡ length (map answer_in replies) = ap (length {A = Answer}) answers_are in
       let replies_many : length (map answer_in replies) ≡ length replies = length-map replies answer_in in
       let steps_many : length steps ≡ length replies = length-map replies (λ (r : Reply). r.step) in
-      ap₂ (λ (t : Tree) (l : List Step). let h : History = record { opening = t; steps = l } in h) (sym opened_is) (sym (prefix_whole published.steps steps (pending ++ unput kept, put) (omega arith))) in
-      subst (λ (answers : List Answer). IsRun start.standing (account_with g script statements hands answers waiting ends served device)) (sym answers_are)
-      (is_run g start.standing core script statements hands replies waiting ends served device eight
+      ap₂ (λ (t : Tree) (l : List Step). let h : History = record { opening = t; steps = l } in h) (sym opened_is) (sym (prefix_whole published.steps steps (pending ++ unput unsent, put) (omega arith))) in
+      subst (λ (answers : List Answer). IsRun start.core (account_with g script statements hands answers waiting ends served device)) (sym answers_are)
+      (is_run g start.core core script statements hands replies waiting ends served device eight
       (count_writers hands.writers.items hands.cleaner hands.control.hand (length script) now) now
       handed.first handed.whole handed.cleaner handed.control has.reply
       (λ k d below. let w : ℕ = g.sender (get_or (all_hands g hands) k d) in ap (λ (l : List Request). l ++ of w waiting) (sym (taken_is w)) ∙ settled k d below)

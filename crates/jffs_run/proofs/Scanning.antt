@@ -6,7 +6,7 @@ use Rattle.jffs_log.specs.Image.{past_of}
 use Rattle.jffs_log.specs.Volume.{split}
 use Rattle.jffs_log.specs.Scan.{scan}
 use Rattle.jffs_core.specs.Run.{IsLawful}
-use Rattle.jffs_core.specs.Standing.{Standing}
+use Rattle.jffs_core.specs.CoreState.{CoreState}
 use Rattle.jffs_core.specs.declared.answer.Answer.{Answer}
 use Rattle.jffs_core.proofs.Scanning.{scans_find, failed_finds_with}
 use Rattle.jffs_serve.specs.Answered.{RunsTo, volume_of, IsRequested, any_failure}
@@ -21,14 +21,14 @@ use Rattle.jffs_run.specs.Scanned.{RunsLeaveContents, FailedRunsLeaveHistory, Ru
 
 -- from the log that was mounted, the answers are lawful for the requests
 lawful_answers :
-    (start core : Standing) (mounted : List Node) (replies : List Reply) (answers : List Answer)
+    (start core : CoreState) (mounted : List Node) (replies : List Reply) (answers : List Answer)
     → AllReply replies → answers ≡ map answer_in replies → (ran : RunsTo start core mounted mounted replies)
     → IsLawful (volume_of start) mounted (requests_in replies) answers ran.after
 lawful_answers start core mounted replies answers all are ran =
     subst (λ (given : List Answer). IsLawful (volume_of start) mounted (requests_in replies) given ran.after) (sym are) (replies_are_lawful start core mounted mounted replies all ran)
 
 -- a scan of the device is one of the core's image
-same_scan : (core : Standing) (device : Device) → IsLeftBy core device → scan_of device ≡ scan core.book.sector_size (split core.book.sectors core.book.sector_size core.image)
+same_scan : (core : CoreState) (device : Device) → IsLeftBy core device → scan_of device ≡ scan core.index.sector_size (split core.index.sectors core.index.sector_size core.image)
 same_scan core device left = λ i. scan (left.sizes.1 i) (split (left.sizes.0 i) (left.sizes.1 i) (left.image_is i))
 
 pub runs_leave_contents : RunsLeaveContents

@@ -16,14 +16,14 @@ use Rattle.jffs_run.specs.Started.{IsLooking}
 
 -- what is left of a reader's end after the last look is what its path reads in a beginning of the history
 pub has_seen :
-    (published history told : History) (answered : ℕ) (index : Index) (statements : List ReaderStatement) (place : ℕ)
+    (published history told : History) (answered : ℕ) (index : Index) (statements : List ReaderStatement) (slot : ℕ)
     (handle : PromisedHandle ReaderStop Looks) (stop : ReaderStop) (result : ReaderEnd)
-    → IsLooking index statements place handle
+    → IsLooking index statements slot handle
     → FitsView (view_of (known stop.reader)) handle.promise.statement.now stop.end
     → told ≡ published → IsWhole published answered history
     → (result ≡ NotSeen) ⊎ ((result ≡ stop.end) × BeginsWith told (known stop.reader) × ((view_of told).answered ≡ answered))
-    → HasSeen history statements place result
-has_seen published history told answered index statements place handle stop result looking fits is whole ends =
+    → HasSeen history statements slot result
+has_seen published history told answered index statements slot handle stop result looking fits is whole ends =
     let statement : ReaderStatement = handle.promise.statement.now in
     elim ends [
       | inl unseen ↦ (statement, looking.1, subst (SeenIn history statement) (sym unseen) (history, begins_self history, tt))

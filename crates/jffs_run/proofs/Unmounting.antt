@@ -16,7 +16,7 @@ use Rattle.jffs_tree.proofs.Wishes.{unmount_wish}
 use Rattle.jffs_line.specs.declared.request.Request.{Request}
 use Rattle.jffs_line.specs.Requests.{of, request}
 use Rattle.jffs_log.specs.Image.{past_of}
-use Rattle.jffs_core.specs.Standing.{Standing}
+use Rattle.jffs_core.specs.CoreState.{CoreState}
 use Rattle.jffs_core.specs.Answering.{is_closed}
 use Rattle.jffs_core.specs.Step.{Volume, Turn, OutcomeIs}
 use Rattle.jffs_core.specs.Run.{AreAnswered}
@@ -123,7 +123,7 @@ asked (r ∷ replies) outcome answers none = elim answers [
       | inr other ↦ sym (cond-false _ _ _ other.0) ∙ none
     ]
 
-module _ {start : Standing} {account : Account} (run : IsRun start account) where
+module _ {start : CoreState} {account : Account} (run : IsRun start account) where
   -- each request for an Unmount that was accepted is the control's
   accepted_unmounts : (sender : ℕ) → AllByRecursion IsControls (account.accepted sender)
   accepted_unmounts sender =
@@ -139,13 +139,13 @@ module _ {start : Standing} {account : Account} (run : IsRun start account) wher
       ]
     where
       of_writers : (sender : ℕ) → sender ≢ 9 → sender ≢ 10 → AllByRecursion IsControls (account.accepted sender)
-      of_writers zero not_nine not_ten = subst (AllByRecursion IsControls) (sym (run.others zero (λ place below is. absurd (omega arith)) not_nine not_ten)) tt
-      of_writers (suc place) not_nine not_ten = elim (cases_lt place (length account.script)) [
+      of_writers zero not_nine not_ten = subst (AllByRecursion IsControls) (sym (run.others zero (λ slot below is. absurd (omega arith)) not_nine not_ten)) tt
+      of_writers (suc slot) not_nine not_ten = elim (cases_lt slot (length account.script)) [
         | inl below ↦
-            let same : place + 1 ≡ suc place = omega arith in
+            let same : slot + 1 ≡ suc slot = omega arith in
             subst (λ (s : ℕ). AllByRecursion IsControls (account.accepted s)) same
-            (subst (AllByRecursion IsControls) (sym (run.writers place below)) (of_commands (place + 1) 1 (length (account.accepted (place + 1))) (commands_at account.script place)))
-        | inr beyond ↦ subst (AllByRecursion IsControls) (sym (run.others (suc place) (λ other below is. absurd (omega arith)) not_nine not_ten)) tt
+            (subst (AllByRecursion IsControls) (sym (run.writers slot below)) (of_commands (slot + 1) 1 (length (account.accepted (slot + 1))) (commands_at account.script slot)))
+        | inr beyond ↦ subst (AllByRecursion IsControls) (sym (run.others (suc slot) (λ other below is. absurd (omega arith)) not_nine not_ten)) tt
       ]
 
   answered_unmounts : AllByRecursion IsControls (requests_in run.replies)
@@ -156,10 +156,10 @@ module _ {start : Standing} {account : Account} (run : IsRun start account) wher
   took_all : (outcome : Outcome) → AnswersUnmount run.replies outcome → TookAll account.script account.accepted
   took_all outcome answers = elim run.offered [
     | inl idle ↦ absurd (asked run.replies outcome answers (append-eq-nil_iff.0 (run.each 10 ∙ idle)).0)
-    | inr all ↦ λ place below.
-        let wishes : List Wish = wishes_of (commands_at account.script place) in
-        let many : length (account.accepted (place + 1)) ≡ length wishes = all place below ∙ sym (length-map (commands_at account.script place) wish_of) in
-        run.writers place below ∙ ap (numbered (place + 1) 1) (ap (λ (k : ℕ). take k wishes) many ∙ take-length wishes)
+    | inr all ↦ λ slot below.
+        let wishes : List Wish = wishes_of (commands_at account.script slot) in
+        let many : length (account.accepted (slot + 1)) ≡ length wishes = all slot below ∙ sym (length-map (commands_at account.script slot) wish_of) in
+        run.writers slot below ∙ ap (numbered (slot + 1) 1) (ap (λ (k : ℕ). take k wishes) many ∙ take-length wishes)
   ]
 
 pub runs_end_unmounted : RunsEndUnmounted

@@ -48,4 +48,4 @@ module _ {H : Type 0} (g : Hand.Ghosts H) where
 
 -- an empty vector that takes `count` elements without memory
 abbrev pub HasRoom : {X A : Type 0} → ℕ → Vec X A → Type 0
-HasRoom count places = (places.items ≡ []) × (count ≤ vec_capacity places)
+HasRoom count reserved = (reserved.items ≡ []) × (count ≤ vec_capacity reserved)

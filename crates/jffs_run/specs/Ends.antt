@@ -11,7 +11,7 @@ use Rattle.jffs_serve.specs.Copies.{IsCopy}
 use Rattle.jffs_text.specs.Wishes.{wishes_of}
 use Rattle.jffs_run.specs.Numbered.{numbered}
 
--- each element has the property, at its place counted from n on
+-- each element has the property, at its slot counted from n on
 abbrev pub EachFrom : {X : Type 0} → (ℕ → X → Type 0) → ℕ → List X → Type 0
 EachFrom P n [] = Unit {0}
 EachFrom P n (x ∷ xs) = P n x × EachFrom P (n + 1) xs
@@ -20,18 +20,18 @@ EachFrom P n (x ∷ xs) = P n x × EachFrom P (n + 1) xs
 abbrev pub AreCopies : List Request → Type 0
 AreCopies requests = AllByRecursion (λ (r : Request). IsCopy r.wish) requests
 
--- the element at this place
+-- the element at this slot
 abbrev pub HasAt : {X : Type 0} → List X → ℕ → X → Type 0
-HasAt xs place x = (place < length xs) × (slice_index_or xs place x ≡ x)
+HasAt xs slot x = (slot < length xs) × (slice_index_or xs slot x ≡ x)
 
 -- the commands of each writer
 abbrev pub commands_of : List Writer → List (List Command)
 commands_of [] = []
 commands_of (writer ∷ writers) = writer.commands.items ∷ commands_of writers
 
--- the commands of the writer at this place
+-- the commands of the writer at this slot
 abbrev pub commands_at : List Writer → ℕ → List Command
-commands_at script place = slice_index_or (commands_of script) place []
+commands_at script slot = slice_index_or (commands_of script) slot []
 
 module _ {H : Type 0} (g : Hand.Ghosts H) where
   abbrev pub end_of : H → End
@@ -46,10 +46,10 @@ module _ {H : Type 0} (g : Hand.Ghosts H) where
   accepted_by sender [] = []
   accepted_by sender (hand ∷ hands) = cond (eqb (g.sender hand) sender) (g.accepted hand) (accepted_by sender hands)
 
-  -- the hand of the writer at this place handed in the first of its commands
+  -- the hand of the writer at this slot handed in the first of its commands
   abbrev pub HandedIn : List Writer → ℕ → H → Type 0
-  HandedIn script place hand = g.accepted hand ≡ numbered (g.sender hand) 1 (take (length (g.accepted hand)) (wishes_of (commands_at script place)))
+  HandedIn script slot hand = g.accepted hand ≡ numbered (g.sender hand) 1 (take (length (g.accepted hand)) (wishes_of (commands_at script slot)))
 
   -- it handed in all of them
   abbrev pub HandedInAll : List Writer → ℕ → H → Type 0
-  HandedInAll script place hand = length (g.accepted hand) ≡ length (commands_at script place)
+  HandedInAll script slot hand = length (g.accepted hand) ≡ length (commands_at script slot)

@@ -5,8 +5,8 @@ use Rattle.jffs_tree.specs.declared.wish.Wish.TheVariants.{Unmount}
 use Rattle.jffs_line.specs.declared.request.Request.{Request}
 use Rattle.jffs_line.specs.Requests.{of, request}
 use Rattle.jffs_node.specs.declared.node.Node.{Node}
-use Rattle.jffs_core.specs.Standing.{Standing}
-use Rattle.jffs_core.specs.Past.{StandsFor}
+use Rattle.jffs_core.specs.CoreState.{CoreState}
+use Rattle.jffs_core.specs.Past.{Represents}
 use Rattle.jffs_core.specs.declared.answer.Answer.{Answer}
 use Rattle.jffs_serve.specs.Answered.{RunsTo}
 use Rattle.jffs_serve.specs.Replies.{Reply, AllReply, answer_in, any_closed, FitsServed}
@@ -28,22 +28,22 @@ numbers_of sender (answer ∷ answers) = cond (eqb answer.writer sender) (answer
 
 -- Some order of the accepted requests was answered, each once, and what each sender has waiting is what it had accepted beyond that, so that its answers are numbered 1, 2, 3, ..
 -- Of each writer the first of its commands were accepted, and every one if an Unmount was; of the control one Unmount at most, of the cleaner copies alone, and no others
--- From whatever history the core stood for at the start, the answers are lawful for these requests, and the core at the end, which left the device as it is, stands for the history after them
+-- From whatever history the core represented at the start, the answers are lawful for these requests, and the core at the end, which left the device as it is, represents the history after them
 -- What was served is determined by the answers
 -- Each reader saw what its path reads after a beginning of the answers, from the tree at the start on, or counts as one that saw nothing
-pub record IsRun (start : Standing) (account : Account) : Type 0 where
+pub record IsRun (start : CoreState) (account : Account) : Type 0 where
   pub replies : List Reply
   pub each_replies : AllReply replies
   pub answers_are : account.answers ≡ map answer_in replies
   pub each : (sender : ℕ) → of sender (requests_in replies) ++ of sender account.waiting ≡ account.accepted sender
   pub numbers : (sender : ℕ) → numbers_of sender account.answers ≡ range_with_len 1 (length (of sender (requests_in replies)))
-  pub writers : (place : ℕ) → place < length account.script → account.accepted (place + 1) ≡ numbered (place + 1) 1 (take (length (account.accepted (place + 1))) (wishes_of (commands_at account.script place)))
-  pub offered : (account.accepted 10 ≡ []) ⊎ ((place : ℕ) → place < length account.script → length (account.accepted (place + 1)) ≡ length (commands_at account.script place))
+  pub writers : (slot : ℕ) → slot < length account.script → account.accepted (slot + 1) ≡ numbered (slot + 1) 1 (take (length (account.accepted (slot + 1))) (wishes_of (commands_at account.script slot)))
+  pub offered : (account.accepted 10 ≡ []) ⊎ ((slot : ℕ) → slot < length account.script → length (account.accepted (slot + 1)) ≡ length (commands_at account.script slot))
   pub control : (account.accepted 10 ≡ []) ⊎ (account.accepted 10 ≡ request 10 1 Unmount ∷ [])
   pub cleaner : AreCopies (account.accepted 9)
-  pub others : (sender : ℕ) → ((place : ℕ) → place < length account.script → sender ≢ place + 1) → sender ≢ 9 → sender ≢ 10 → account.accepted sender ≡ []
-  pub core : Standing
+  pub others : (sender : ℕ) → ((slot : ℕ) → slot < length account.script → sender ≢ slot + 1) → sender ≢ 9 → sender ≢ 10 → account.accepted sender ≡ []
+  pub core : CoreState
   pub left : IsLeftBy core account.device
-  pub lawful : (mounted past : List Node) → StandsFor mounted past start → RunsTo start core mounted past replies
+  pub lawful : (mounted past : List Node) → Represents mounted past start → RunsTo start core mounted past replies
   pub ending : FitsServed account.served (any_closed account.answers) replies
   pub seen : EachFrom (HasSeen (record { opening = start.tree; steps = map (λ (r : Reply). r.step) replies }) account.statements) 0 account.ends

@@ -37,9 +37,9 @@ FitsView shown statement end = ShowsAnswer shown statement × FitsPath shown sta
 abbrev pub SeenIn : History → ReaderStatement → ReaderEnd → Type 0
 SeenIn history statement end = (first : History) × BeginsWith history first × FitsView (view_of first) statement end
 
--- so did the reader of the statement at this place
+-- so did the reader of the statement at this slot
 abbrev pub HasSeen : History → List ReaderStatement → ℕ → ReaderEnd → Type 0
-HasSeen history statements place end = (statement : ReaderStatement) × HasAt statements place statement × SeenIn history statement end
+HasSeen history statements slot end = (statement : ReaderStatement) × HasAt statements slot statement × SeenIn history statement end
 
 -- where as many answers were published as were given, this is the published history
 abbrev pub IsWhole : History → ℕ → History → Type 0

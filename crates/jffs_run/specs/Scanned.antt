@@ -5,7 +5,7 @@ use Rattle.jffs_tree.specs.Origin.{state_in}
 use Rattle.jffs_log.specs.Image.{past_of}
 use Rattle.jffs_log.specs.Scan.{Scanned}
 use Rattle.jffs_line.specs.declared.request.Request.{Request}
-use Rattle.jffs_core.specs.Standing.{Standing}
+use Rattle.jffs_core.specs.CoreState.{CoreState}
 use Rattle.jffs_core.specs.History.{contents}
 use Rattle.jffs_core.specs.Finding.{FindsWith}
 use Rattle.jffs_core.specs.Run.{IsLawful}
@@ -18,7 +18,7 @@ use Rattle.jffs_run.specs.Account.{Account}
 use Rattle.jffs_run.specs.Headline.{IsRun, requests_in}
 
 -- From the log that was mounted, the answers are lawful for the requests; and a scan of the image finds what the fresh nodes appended since made of it.
-pub record LeavesContents (start : Standing) (mounted : List Node) (requests : List Request) (account : Account) : Type 0 where
+pub record LeavesContents (start : CoreState) (mounted : List Node) (requests : List Request) (account : Account) : Type 0 where
   pub after : List Node
   pub lawful : IsLawful (volume_of start) mounted requests account.answers after
   pub added : List Node
@@ -28,22 +28,22 @@ pub record LeavesContents (start : Standing) (mounted : List Node) (requests : L
   pub state_is : state_in scanned.tree ≡ contents mounted added
 
 -- The same where the device failed: the scan finds that, or what the node of the request that was answered Device makes of it.
-pub record LeavesHistory (start : Standing) (mounted : List Node) (replies : List Reply) (account : Account) : Type 0 where
+pub record LeavesHistory (start : CoreState) (mounted : List Node) (replies : List Reply) (account : Account) : Type 0 where
   pub after : List Node
   pub lawful : IsLawful (volume_of start) mounted (requests_in replies) account.answers after
   pub finds : FindsWith (IsRequested (volume_of start) replies after) mounted after account.device.sectors account.device.sector_size account.device.image
 
 -- A run from a mount on, over a device that works, leaves the contents.
 abbrev pub RunsLeaveContents : Type 0
-RunsLeaveContents = (before : Device) (start : Standing) (account : Account) (fresh : IsFresh before start) (run : IsRun start account)
+RunsLeaveContents = (before : Device) (start : CoreState) (account : Account) (fresh : IsFresh before start) (run : IsRun start account)
     → run.core.failed ≡ false → LeavesContents start (past_of fresh.scanned.log) (requests_in run.replies) account
 
 -- Over a device that failed, but not in an erase, it leaves the state before the request that was in hand, or that after it.
 abbrev pub FailedRunsLeaveHistory : Type 0
-FailedRunsLeaveHistory = (before : Device) (start : Standing) (account : Account) (fresh : IsFresh before start) (run : IsRun start account)
+FailedRunsLeaveHistory = (before : Device) (start : CoreState) (account : Account) (fresh : IsFresh before start) (run : IsRun start account)
     → run.core.failed ≡ true → account.device.erase_failed ≡ false → LeavesHistory start (past_of fresh.scanned.log) run.replies account
 
 -- Where the device's count of faults is at the end what it was at the mount, nothing was answered Device or Failed, and the run leaves the contents.
 abbrev pub RunsWithoutFaults : Type 0
-RunsWithoutFaults = (before : Device) (start : Standing) (account : Account) (fresh : IsFresh before start) (run : IsRun start account)
+RunsWithoutFaults = (before : Device) (start : CoreState) (account : Account) (fresh : IsFresh before start) (run : IsRun start account)
     → account.device.faults ≡ before.faults → (any_failure account.answers ≡ false) × LeavesContents start (past_of fresh.scanned.log) (requests_in run.replies) account

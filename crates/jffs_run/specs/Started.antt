@@ -15,13 +15,13 @@ use Rattle.jffs_run.specs.declared.promise.Cleaning.{Cleaning}
 use Rattle.jffs_run.specs.declared.promise.Cleaning.TheVariants.{Thread, Rest}
 use Rattle.jffs_run.specs.Ends.{HasAt, commands_at, end_of}
 
--- the thread of the reader at this place, which looks at this index for its statement
+-- the thread of the reader at this slot, which looks at this index for its statement
 abbrev pub IsLooking : Index → List ReaderStatement → ℕ → PromisedHandle ReaderStop Looks → Type 0
-IsLooking index statements place handle = (index_of handle.promise.reader.value ≡ index) × HasAt statements place handle.promise.statement.now
+IsLooking index statements slot handle = (index_of handle.promise.reader.value ≡ index) × HasAt statements slot handle.promise.statement.now
 
--- the thread of the writer at this place, which hands in its commands
+-- the thread of the writer at this slot, which hands in its commands
 abbrev pub IsStarted : {H : Type 0} → List Writer → ℕ → PromisedHandle (WriterEnd H) (Writes H) → Type 0
-IsStarted script place handle = handle.promise.commands.now ≡ commands_at script place
+IsStarted script slot handle = handle.promise.commands.now ≡ commands_at script slot
 
 module _ {H : Type 0} (g : Hand.Ghosts H) where
   -- the end of the hand that a writer's thread was given

@@ -5,7 +5,7 @@ use Rattle.jffs_tree.specs.declared.wish.Outcome.{Outcome}
 use Rattle.jffs_tree.specs.declared.wish.Outcome.TheVariants.{Closed, Refused}
 use Rattle.jffs_line.specs.declared.request.Request.{Request}
 use Rattle.jffs_line.specs.Requests.{request}
-use Rattle.jffs_core.specs.Standing.{Standing}
+use Rattle.jffs_core.specs.CoreState.{CoreState}
 use Rattle.jffs_serve.specs.declared.session.Served.{Served}
 use Rattle.jffs_serve.specs.declared.session.Served.TheVariants as served
 use Rattle.jffs_serve.specs.Replies.{Reply}
@@ -20,7 +20,7 @@ use Rattle.jffs_run.specs.Headline.{IsRun}
 
 -- all commands of every writer were accepted
 abbrev pub TookAll : List Writer → (ℕ → List Request) → Type 0
-TookAll script accepted = (place : ℕ) → place < length script → accepted (place + 1) ≡ numbered (place + 1) 1 (wishes_of (commands_at script place))
+TookAll script accepted = (slot : ℕ) → slot < length script → accepted (slot + 1) ≡ numbered (slot + 1) 1 (wishes_of (commands_at script slot))
 
 -- the control's Unmount was answered so
 abbrev pub AnswersUnmount : List Reply → Outcome → Type 0
@@ -36,5 +36,5 @@ FitsEnd served.Memory script accepted replies = Unit {0}
 
 -- Each run from a mount on ends so.
 abbrev pub RunsEndUnmounted : Type 0
-RunsEndUnmounted = (before : Device) (start : Standing) (account : Account) (fresh : IsFresh before start) (run : IsRun start account)
+RunsEndUnmounted = (before : Device) (start : CoreState) (account : Account) (fresh : IsFresh before start) (run : IsRun start account)
     → FitsEnd account.served account.script account.accepted run.replies

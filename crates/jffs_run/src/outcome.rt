@@ -36,7 +36,7 @@ pub struct Run<F, A = AcceptedBy> {
 impl<F> Run<F, ()> {
     ghost use Rattle.std.specs.Prelude.{◌≡◌};
 
-    /// The same run, beside what the hands had accepted.
+    /// The same run, and besides what the hands had accepted.
     pub(crate) fn with_accepted<A>(self, accepted: A) -> Run<F, A>
         ensures { result ≡ record { accepted = accepted; answers = self.answers; waiting = self.waiting; readers = self.readers; served = self.served; flash = self.flash } }
     {

@@ -30,23 +30,23 @@ use std::sync::Wait;
 use std::thread;
 use std::thread::{Scope, Threads};
 
-/// The places for what is started and joined, so that between the first start and the last join
+/// Capacity for what is started and joined, so that between the first start and the last join
 /// no memory is needed.
 #[derive(Drop)]
-struct Places<'s, H: Hand> {
+struct Reserved<'s, H: Hand> {
     writers: Vec<WriterHandle<'s, H>>,
     hands: Vec<H>,
     readers: Vec<ReaderHandle<'s>>,
     ends: Vec<ReaderEnd>,
 }
 
-impl<'s, H: Hand> Places<'s, H> {
+impl<'s, H: Hand> Reserved<'s, H> {
     ghost use Rattle.jffs_run.specs.Crew.{HasRoom};
 
-    fn reserve(alloc: Global, writers: usize, readers: usize) -> Result<Places<'s, H>, AllocError>
-        ensures { IfOk result (λ places. HasRoom writers places.writers × HasRoom writers places.hands × HasRoom readers places.readers × HasRoom readers places.ends) }
+    fn reserve(alloc: Global, writers: usize, readers: usize) -> Result<Reserved<'s, H>, AllocError>
+        ensures { IfOk result (λ reserved. HasRoom writers reserved.writers × HasRoom writers reserved.hands × HasRoom readers reserved.readers × HasRoom readers reserved.ends) }
     {
-        Ok(Places {
+        Ok(Reserved {
             writers: Vec::with_capacity(alloc, writers)?,
             hands: Vec::with_capacity(alloc, writers)?,
             readers: Vec::with_capacity(alloc, readers)?,
@@ -90,7 +90,7 @@ fn run_in<
         control,
         readers,
     } = crew;
-    let Ok(places) = Places::reserve(alloc, writers.len(), readers.len()) else {
+    let Ok(reserved) = Reserved::reserve(alloc, writers.len(), readers.len()) else {
         return Err(RunFault::with_flash(RunWhy::Memory, flash_of(side)));
     };
     let Some(log) = start_log(rt, scope, side, ended) else {
@@ -104,7 +104,7 @@ fn run_in<
         rt,
         scope,
         alloc,
-        places.readers,
+        reserved.readers,
         readers,
         &script.readers,
         ended,
@@ -113,13 +113,13 @@ fn run_in<
         rt,
         scope,
         alloc,
-        places.writers,
+        reserved.writers,
         writers,
         &script.writers,
         gate,
         ended,
     );
-    let joined = join_writers(rt, writing.handles, places.hands);
+    let joined = join_writers(rt, writing.handles, reserved.hands);
     let control = ask_unmount(rt, control, joined.stops.log_ended, ended);
     let log = log.join(rt);
     let answered = log.side.session.core().answers().len() as u64;
@@ -128,7 +128,7 @@ fn run_in<
         looking.handles,
         &log.side.publisher,
         answered,
-        places.ends,
+        reserved.ends,
     );
     let Some(cleaner) = join_cleaner(rt, cleaning) else {
         return Err(RunFault::with_flash(RunWhy::Spawn, flash_of(log.side)));

@@ -7,7 +7,7 @@ ghost use Rattle.jffs_index.specs.Ends.{published, pending, publisher_index, ind
 ghost use Rattle.jffs_line.specs.Requests.{of, IsNumbered};
 ghost use Rattle.jffs_run.specs.Ends.{all_hands, accepted_by, end_of};
 ghost use Rattle.jffs_run.specs.Crew.{IsNewLine};
-ghost use Rattle.jffs_core.specs.Standing.{Standing};
+ghost use Rattle.jffs_core.specs.CoreState.{CoreState};
 ghost use Rattle.jffs_core.specs.Past.{IsFresh, IsLeftBy};
 ghost use Rattle.jffs_run.specs.Account.{account_of};
 ghost use Rattle.jffs_run.specs.Headline.{IsRun};
@@ -171,7 +171,7 @@ pub fn run_threads<R: Threads + Wait + Sync, F: Flash + Send + Drop, G: Gate + S
     gate: &G,
 ) -> Result<Run<F>, RunFault<F>>
     ensures fault { IfErr result (λ fault. fault.flash ≡ None → fault.why ≡ RunWhy.Spawn) }
-    ensures run { IfOk result (λ run. (start : Standing) × IsFresh (F.device flash) start × IsRun start (account_of F.Flash script.now (accepted_of run.accepted) run)) }
+    ensures run { IfOk result (λ run. (start : CoreState) × IsFresh (F.device flash) start × IsRun start (account_of F.Flash script.now (accepted_of run.accepted) run)) }
 {
     let core = match Core::mount(alloc, flash) {
         Ok(core) => core,

@@ -3,21 +3,21 @@ use Rattle.std.proofs.Common.{◌≡◌, ◌+◌, ◌*◌, ℕ, inl, inr, true, 
 use Rattle.std.proofs.Math.Nat.{add-mul}
 use Rattle.std.proofs.lemmas.Bool.{both_ways, cases_Bool}
 use Rattle.jffs_tree.specs.declared.wish.Outcome.{Outcome}
-use Rattle.jffs_core.specs.Standing.{Standing}
+use Rattle.jffs_core.specs.CoreState.{CoreState}
 use Rattle.jffs_core.specs.Answering.{KeepsAnswer}
 use Rattle.jffs_core.specs.Erases.{ErasesAtMost}
 use Rattle.jffs_serve.specs.Replies.{Reply}
 use Rattle.jffs_serve.specs.Answered.{ErasesSince, KeepsHistory}
 
 -- nothing was answered yet
-pub since_start : (start : Standing) → ErasesSince start 0 start
+pub since_start : (start : CoreState) → ErasesSince start 0 start
 since_start start = record { erases = omega arith; held = λ works. omega arith }
 
--- a call of a core that worked erased so many sectors more
-since_worked : (start old new : Standing) (answers more : ℕ) → old.failed ≡ false → ErasesSince start answers old → ErasesAtMost (more * start.book.sectors) old new → ErasesSince start (answers + more) new
+-- a call of a core that worked, which erased no more than `more` answers may
+since_worked : (start old new : CoreState) (answers more : ℕ) → old.failed ≡ false → ErasesSince start answers old → ErasesAtMost (more * start.index.sectors) old new → ErasesSince start (answers + more) new
 since_worked start old new answers more works was erased =
     let before = was.held works in
-    let both : (answers + more) * start.book.sectors ≡ answers * start.book.sectors + more * start.book.sectors = add-mul answers more start.book.sectors in
+    let both : (answers + more) * start.index.sectors ≡ answers * start.index.sectors + more * start.index.sectors = add-mul answers more start.index.sectors in
     record {
       erases = let now = erased.erases in omega (arith, before, both, now);
       held = λ still. let now = erased.held still in omega (arith, before, both, now);
@@ -25,15 +25,15 @@ since_worked start old new answers more works was erased =
 
 -- one request was answered
 pub since_answer :
-    (start old new : Standing) (replies : List Reply) (r : Reply) (writer seq : ℕ) (o : Outcome)
-    → start.book.sectors ≡ old.book.sectors → (old.failed ≡ true → KeepsAnswer writer seq o old new)
-    → ErasesSince start (length replies) old → ErasesAtMost old.book.sectors old new → ErasesSince start (length (replies ++ r ∷ [])) new
+    (start old new : CoreState) (replies : List Reply) (r : Reply) (writer seq : ℕ) (o : Outcome)
+    → start.index.sectors ≡ old.index.sectors → (old.failed ≡ true → KeepsAnswer writer seq o old new)
+    → ErasesSince start (length replies) old → ErasesAtMost old.index.sectors old new → ErasesSince start (length (replies ++ r ∷ [])) new
 since_answer start old new replies r writer seq o same kept was erased =
     let many : length replies + 1 ≡ length (replies ++ r ∷ []) = sym (length-append replies (r ∷ [])) in
     subst (λ (k : ℕ). ErasesSince start k new) many (elim (cases_Bool old.failed) [
       | inl had ↦ of_failed had
       | inr works ↦
-          let once : old.book.sectors ≡ 1 * start.book.sectors = omega (arith, same) in
+          let once : old.index.sectors ≡ 1 * start.index.sectors = omega (arith, same) in
           since_worked start old new (length replies) 1 works was (subst (λ (k : ℕ). ErasesAtMost k old new) once erased)
     ])
   where
@@ -41,13 +41,13 @@ since_answer start old new replies r writer seq o same kept was erased =
     of_failed had = subst (ErasesSince start (length replies + 1)) (sym (kept had)) (record {
       erases =
           let before = was.erases in
-          let both : (length replies + 1) * start.book.sectors ≡ length replies * start.book.sectors + 1 * start.book.sectors = add-mul (length replies) 1 start.book.sectors in
+          let both : (length replies + 1) * start.index.sectors ≡ length replies * start.index.sectors + 1 * start.index.sectors = add-mul (length replies) 1 start.index.sectors in
           omega (arith, before, both);
       held = λ works. absurd (both_ways old.failed works had);
     })
 
 -- nothing was answered meanwhile
-pub since_same : (start old new : Standing) (answers : ℕ) → KeepsHistory old new → ErasesSince start answers old → ErasesSince start answers new
+pub since_same : (start old new : CoreState) (answers : ℕ) → KeepsHistory old new → ErasesSince start answers old → ErasesSince start answers new
 since_same start old new answers keeps was = elim (cases_Bool old.failed) [
   | inl had ↦ subst (ErasesSince start answers) (sym (keeps.failed had)) (record { erases = was.erases; held = was.held })
   | inr works ↦

@@ -1,13 +1,13 @@
--- Calls after which the core stands for the history that it stood for.
+-- Calls after which the core represents the history that it represented.
 use Rattle.std.proofs.Common.{◌≡◌, ◌⊎◌, ◌<◌, ℕ, List, inl, inr, ⊎_elim, true, false, not, refl, sym, ap, subst, ◌∙◌, arith, Result, Ok, Err, OnOk, IfOk, IfErr}
 use Rattle.std.proofs.lemmas.Bool.{and_parts, both_ways, cases_Bool, false_from_ne_true, not-true}
 use Rattle.jffs_node.specs.declared.node.Node.{Node}
 use Rattle.jffs_tree.specs.declared.wish.Cause.{Cause}
 use Rattle.jffs_tree.specs.declared.wish.Cause.TheVariants as causes
-use Rattle.jffs_log.specs.Book.{HasSizes}
-use Rattle.jffs_core.specs.Standing.{Standing, IsSameButPlaces}
+use Rattle.jffs_log.specs.LogIndex.{HasSizes}
+use Rattle.jffs_core.specs.CoreState.{CoreState, IsSameButCapacity}
 use Rattle.jffs_core.specs.History.{IsOwnCopy, MayFollow}
-use Rattle.jffs_core.specs.Past.{Knows, StandsFor, HasFailed}
+use Rattle.jffs_core.specs.Past.{RepresentsWorking, Represents, HasFailed}
 use Rattle.jffs_core.specs.Calls.{FailsIn}
 use Rattle.jffs_core.specs.Cleaning.{ErasesDead, StopIs}
 use Rattle.jffs_core.specs.Erases.{ErasesAtMost}
@@ -18,20 +18,20 @@ use Rattle.jffs_core.proofs.Refusing.{works_past, fails_past}
 use Rattle.jffs_serve.specs.Answered.{KeepsHistory}
 
 -- a core that had failed has failed still
-pub stays_failed : (old new : Standing) → KeepsHistory old new → old.failed ≡ true → new.failed ≡ true
-stays_failed old new keeps had = ap (λ (c : Standing). c.failed) (keeps.failed had) ∙ had
+pub stays_failed : (old new : CoreState) → KeepsHistory old new → old.failed ≡ true → new.failed ≡ true
+stays_failed old new keeps had = ap (λ (c : CoreState). c.failed) (keeps.failed had) ∙ had
 
 -- a core that works on had not failed
-pub keeps_worked : (old new : Standing) → KeepsHistory old new → new.failed ≡ false → old.failed ≡ false
+pub keeps_worked : (old new : CoreState) → KeepsHistory old new → new.failed ≡ false → old.failed ≡ false
 keeps_worked old new keeps works = false_from_ne_true old.failed (λ had. both_ways new.failed works (stays_failed old new keeps had))
 
--- Of a core that failed, nothing that is said depends on the places.
-pub failed_but_places : (More : Node → Type 0) (past : List Node) (old new : Standing) → IsSameButPlaces old new → HasFailed More past old → HasFailed More past new
-failed_but_places More past old new same h = subst (HasFailed More past) (sym same) (record { clean = h.clean; tree = h.tree; left = h.left })
+-- Of a core that failed, nothing that is said depends on the capacity.
+pub failed_but_capacity : (More : Node → Type 0) (past : List Node) (old new : CoreState) → IsSameButCapacity old new → HasFailed More past old → HasFailed More past new
+failed_but_capacity More past old new same h = subst (HasFailed More past) (sym same) (record { clean = h.clean; tree = h.tree; left = h.left })
 
 -- A call that changed nothing that a history says of a core.
-pub same_but_places : (old new : Standing) → IsSameButPlaces old new → KeepsHistory old new
-same_but_places old new same = subst (KeepsHistory old) (sym same) (record {
+pub same_but_capacity : (old new : CoreState) → IsSameButCapacity old new → KeepsHistory old new
+same_but_capacity old new same = subst (KeepsHistory old) (sym same) (record {
   sizes = (refl, refl);
   erases = record { erases = omega arith; held = λ w. omega arith };
   failed = λ f. refl;
@@ -42,76 +42,76 @@ same_but_places old new same = subst (KeepsHistory old) (sym same) (record {
     grown = s.grown;
     stands = record {
       working = λ w. s.stands.working w;
-      broken = λ f. failed_but_places (MayFollow past) past old (record old { places = new.places }) refl (s.stands.broken f);
+      broken = λ f. failed_but_capacity (MayFollow past) past old (record old { capacity = new.capacity }) refl (s.stands.broken f);
     };
   };
 })
 
--- what a core that works knows it stands for
-standing : (past : List Node) (c : Standing) → c.failed ≡ false → Knows past c → StandsFor past past c
-standing past c works known = record { grown = no_growth past; stands = works_past past c works known }
+-- a core that works represents its history, with that as the mounted log
+represents_itself : (past : List Node) (c : CoreState) → c.failed ≡ false → RepresentsWorking past c → Represents past past c
+represents_itself past c works known = record { grown = no_growth past; stands = works_past past c works known }
 
 -- a core that works on knows the same history
-knows_still : (old new : Standing) → KeepsHistory old new → new.failed ≡ false → (past : List Node) → Knows past old → Knows past new
-knows_still old new keeps works past known = (keeps.stands past past (standing past old (keeps_worked old new keeps works) known)).stands.working works
+represents_still : (old new : CoreState) → KeepsHistory old new → new.failed ≡ false → (past : List Node) → RepresentsWorking past old → RepresentsWorking past new
+represents_still old new keeps works past known = (keeps.stands past past (represents_itself past old (keeps_worked old new keeps works) known)).stands.working works
 
-erased_along : (a b c : Standing) → KeepsHistory a b → KeepsHistory b c → ErasesAtMost 0 a c
+erased_along : (a b c : CoreState) → KeepsHistory a b → KeepsHistory b c → ErasesAtMost 0 a c
 erased_along a b c h k =
     let first = h.erases in
     let second = k.erases in
     record {
       erases = elim (cases_Bool b.failed) [
-        | inl had ↦ let e = first.erases in let s = ap (λ (s : Standing). s.book.erases) (k.failed had) in omega arith
+        | inl had ↦ let e = first.erases in let s = ap (λ (s : CoreState). s.index.erases) (k.failed had) in omega arith
         | inr works ↦ let e = first.held works in let f = second.erases in omega arith
       ];
       held = λ works. let e = first.held (keeps_worked b c k works) in let f = second.held works in omega arith;
     }
 
 -- two such calls are one
-pub keeps_along : (a b c : Standing) → KeepsHistory a b → KeepsHistory b c → KeepsHistory a c
+pub keeps_along : (a b c : CoreState) → KeepsHistory a b → KeepsHistory b c → KeepsHistory a c
 keeps_along a b c h k = record {
   sizes = (h.sizes.0 ∙ k.sizes.0, h.sizes.1 ∙ k.sizes.1);
   erases = erased_along a b c h k;
-  failed = λ f. k.failed (stays_failed a b h f) ∙ ap (λ (s : Standing). record s { places = c.places }) (h.failed f);
+  failed = λ f. k.failed (stays_failed a b h f) ∙ ap (λ (s : CoreState). record s { capacity = c.capacity }) (h.failed f);
   faults = λ works past known.
       let between = keeps_worked b c k works in
-      k.faults works past (knows_still a b h between past known) ∙ h.faults between past known;
+      k.faults works past (represents_still a b h between past known) ∙ h.faults between past known;
   two = λ works past known two.
       let between = keeps_worked b c k works in
-      k.two works past (knows_still a b h between past known) (h.two between past known two);
+      k.two works past (represents_still a b h between past known) (h.two between past known two);
   fails = λ works f past known. ⊎_elim
       (λ had.
       let g = h.fails works had past known in
       record {
         fails = f;
-        faults = subst (λ (n : ℕ). a.faults < n) (sym (ap (λ (s : Standing). s.faults) (k.failed had))) g.faults;
-        left = failed_but_places (IsOwnCopy past) past b c (k.failed had) g.left;
+        faults = subst (λ (n : ℕ). a.faults < n) (sym (ap (λ (s : CoreState). s.faults) (k.failed had))) g.faults;
+        left = failed_but_capacity (IsOwnCopy past) past b c (k.failed had) g.left;
       })
       (λ between.
-      let g = k.fails between f past (knows_still a b h between past known) in
+      let g = k.fails between f past (represents_still a b h between past known) in
       record { fails = f; faults = subst (λ (n : ℕ). n < c.faults) (h.faults between past known) g.faults; left = g.left })
       (cases_Bool b.failed);
   stands = λ mounted past s. k.stands mounted past (h.stands mounted past s);
 }
 
 -- a cleaner is wanted only where the device works
-pub wanted_works : (core : Standing) → wants_cleaning core ≡ true → core.failed ≡ false
+pub wanted_works : (core : CoreState) → wants_cleaning core ≡ true → core.failed ≡ false
 wanted_works core wanted = not-true core.failed (and_parts (not core.failed) _ wanted).0
 
 -- nothing was changed
-unchanged : (old new : Standing) → new ≡ old → KeepsHistory old new
-unchanged old new same = subst (KeepsHistory old) (sym same) (same_but_places old old refl)
+unchanged : (old new : CoreState) → new ≡ old → KeepsHistory old new
+unchanged old new same = subst (KeepsHistory old) (sym same) (same_but_capacity old old refl)
 
 -- a read failed of a core that had worked
-read_failed : (old new : Standing) → old.failed ≡ false → new ≡ record old { failed = new.failed; faults = new.faults } → new.failed ≡ true → old.faults < new.faults → KeepsHistory old new
+read_failed : (old new : CoreState) → old.failed ≡ false → new ≡ record old { failed = new.failed; faults = new.faults } → new.failed ≡ true → old.faults < new.faults → KeepsHistory old new
 read_failed old new works same now risen =
-    let left : (past : List Node) → Knows past old → (More : Node → Type 0) → HasFailed More past new = λ past k More. subst (HasFailed More past) (sym same) (record {
-      clean = λ is. clean_ends past old.image old.book old.tree old.limits old.clean k is;
+    let left : (past : List Node) → RepresentsWorking past old → (More : Node → Type 0) → HasFailed More past new = λ past k More. subst (HasFailed More past) (sym same) (record {
+      clean = λ is. clean_ends past old.image old.index old.tree old.limits old.clean k is;
       tree = inl k.tree_is;
       left = λ e. inl k.history;
     }) in
     record {
-      sizes = subst (λ (c : Standing). HasSizes old.book.sectors old.book.sector_size c.book) (sym same) (refl, refl);
+      sizes = subst (λ (c : CoreState). HasSizes old.index.sectors old.index.sector_size c.index) (sym same) (refl, refl);
       erases = subst (ErasesAtMost 0 old) (sym same) (record { erases = omega arith; held = λ w. omega arith });
       failed = λ f. absurd (both_ways old.failed works f);
       faults = λ w past k. absurd (both_ways new.failed w now);
@@ -125,7 +125,7 @@ read_failed old new works same now risen =
 
 -- the oldest sector was read, or not
 pub read_kept :
-    {A : Type 0} (old new : Standing) (result : Result A Cause) → old.failed ≡ false → new ≡ record old { failed = new.failed; faults = new.faults }
+    {A : Type 0} (old new : CoreState) (result : Result A Cause) → old.failed ≡ false → new ≡ record old { failed = new.failed; faults = new.faults }
     → OnOk result ((new.failed ≡ false) × (new ≡ old)) → IfErr result (λ cause. ReadRefused cause old new) → KeepsHistory old new
 read_kept old new (Ok bytes) works same ok refused = unchanged old new ok.1
 read_kept old new (Err cause) works same ok refused = by_cause cause refused
@@ -138,14 +138,14 @@ read_kept old new (Err cause) works same ok refused = by_cause cause refused
 
 -- dead sectors were erased, as far as that went
 pub erased_dead :
-    (old new : Standing) (result : Result ℕ Cause) → old.failed ≡ false → HasSizes old.book.sectors old.book.sector_size new.book
-    → IfOk result (λ count. (mounted past : List Node) → StandsFor mounted past old → ErasesDead mounted past count old new)
-    → IfErr result (λ cause. (mounted past : List Node) → StandsFor mounted past old → StandsFor mounted past new × StopIs cause past old new)
+    (old new : CoreState) (result : Result ℕ Cause) → old.failed ≡ false → HasSizes old.index.sectors old.index.sector_size new.index
+    → IfOk result (λ count. (mounted past : List Node) → Represents mounted past old → ErasesDead mounted past count old new)
+    → IfErr result (λ cause. (mounted past : List Node) → Represents mounted past old → Represents mounted past new × StopIs cause past old new)
     → IfErr result (λ cause. (cause ≡ causes.Device) ⊎ (cause ≡ causes.Failed))
     → ErasesAtMost 0 old new
     → KeepsHistory old new
 erased_dead old new (Ok count) works sizes erased stopped either erases =
-    let did = λ (past : List Node) (known : Knows past old). erased past past (standing past old works known) in
+    let did = λ (past : List Node) (known : RepresentsWorking past old). erased past past (represents_itself past old works known) in
     record {
       sizes = sizes;
       erases = erases;
@@ -172,5 +172,5 @@ erased_dead old new (Err cause) works sizes erased stopped either erases =
       | inr failed ↦ absurd (both_ways old.failed works (subst (λ (c : Cause). StopIs c past old new) failed why).0)
     ]
 
-    fell : (past : List Node) → Knows past old → FailsIn (IsOwnCopy past) past old new
-    fell past known = by_cause past (stopped past past (standing past old works known)).1
+    fell : (past : List Node) → RepresentsWorking past old → FailsIn (IsOwnCopy past) past old new
+    fell past known = by_cause past (stopped past past (represents_itself past old works known)).1

@@ -12,23 +12,23 @@ use Rattle.jffs_tree.specs.declared.wish.Outcome.{Outcome}
 use Rattle.jffs_tree.specs.declared.wish.Outcome.TheVariants.{Closed, Refused}
 use Rattle.jffs_line.specs.declared.request.Request.{Request}
 use Rattle.jffs_line.specs.Requests.{of}
-use Rattle.jffs_log.specs.Book.{HasSizes}
+use Rattle.jffs_log.specs.LogIndex.{HasSizes}
 use Rattle.jffs_index.specs.declared.step.Step.{Step}
-use Rattle.jffs_core.specs.Standing.{Standing, IsSameButPlaces}
-use Rattle.jffs_core.specs.Past.{StandsFor}
+use Rattle.jffs_core.specs.CoreState.{CoreState, IsSameButCapacity}
+use Rattle.jffs_core.specs.Past.{Represents}
 use Rattle.jffs_core.specs.Answering.{AnswersWith, KeepsAnswer, is_closed}
 use Rattle.jffs_core.specs.Erases.{ErasesAtMost}
 use Rattle.jffs_core.specs.Nodes.{HasNode}
 use Rattle.jffs_core.specs.declared.answer.Answer.{Answer}
-use Rattle.jffs_serve.specs.declared.session.Kept.{Kept}
-use Rattle.jffs_serve.specs.declared.session.Kept.TheVariants.{Unput, Unpublished}
+use Rattle.jffs_serve.specs.declared.session.PendingStep.{PendingStep}
+use Rattle.jffs_serve.specs.declared.session.PendingStep.TheVariants.{Unput, Unpublished}
 use Rattle.jffs_serve.specs.declared.session.Served.{Served}
 use Rattle.jffs_serve.specs.declared.session.Served.TheVariants as served
 use Rattle.jffs_serve.specs.declared.session.Session.{Session}
-use Rattle.jffs_serve.specs.Kept.{unput, ending_of, ending_after}
+use Rattle.jffs_serve.specs.PendingStep.{unput, ending_of, ending_after}
 use Rattle.jffs_serve.specs.Replies.{Reply, Replies, AllReply, answer_in, any_closed, RefusesUnmount, FitsServed}
 use Rattle.jffs_serve.specs.Answered.{Start, HasReplied, KeepsHistory, FitsEnding, RepliesMore, HasSameReplies}
-use Rattle.jffs_serve.proofs.Keeping.{same_but_places}
+use Rattle.jffs_serve.proofs.Keeping.{same_but_capacity}
 use Rattle.jffs_serve.proofs.Erasing.{since_start, since_answer, since_same}
 use Rattle.jffs_serve.proofs.Running.{step_of, reply_of, runs_more, runs_same, runs_from}
 
@@ -63,7 +63,7 @@ ends_so _ _ r replies before closed wish is now s ends = absurd (cc)
 
 -- one request more is taken and answered
 pub replied_more :
-    (start : Start) (old new : Standing) (request : Request) (outcome : Outcome) (node : Option Node) (unmounts : Bool)
+    (start : Start) (old new : CoreState) (request : Request) (outcome : Outcome) (node : Option Node) (unmounts : Bool)
     (put : List Step) (before now : ℕ → List Request) (replies : List Reply)
     → old.closed ≡ false
     → new.answers ≡ old.answers ++ record { writer = request.writer; seq = request.seq; outcome = outcome } ∷ []
@@ -71,18 +71,18 @@ pub replied_more :
     → HasNode outcome node
     → (unmounts ≡ true → request.wish ≡ Unmount)
     → ((w : ℕ) → now w ≡ before w ++ of w (request ∷ []))
-    → HasSizes old.book.sectors old.book.sector_size new.book
-    → ((mounted past : List Node) → StandsFor mounted past old → AnswersWith mounted past old new request outcome node)
+    → HasSizes old.index.sectors old.index.sector_size new.index
+    → ((mounted past : List Node) → Represents mounted past old → AnswersWith mounted past old new request outcome node)
     → (old.failed ≡ true → KeepsAnswer request.writer request.seq outcome old new)
-    → ErasesAtMost old.book.sectors old new
+    → ErasesAtMost old.index.sectors old new
     → HasReplied start old None put before replies
     → HasReplied start new (Some (Unput (step_of request outcome node) (ending_after unmounts outcome))) put now (replies ++ reply_of request outcome node ∷ [])
 replied_more start old new request outcome node unmounts put before now replies opened answers closed made wish took sizes acts same erased was =
     let r : Reply = reply_of request outcome node in
     let request_in : Reply → Request = λ (q : Reply). q.request in
-    let none : any_closed (start.standing.answers ++ map answer_in replies) ≡ false = sym (ap any_closed was.answered) ∙ (sym was.closed ∙ opened) in
-    let parted : (any_closed start.standing.answers || any_closed (map answer_in replies)) ≡ false =
-    sym (list_any-append (λ (a : Answer). is_closed a.outcome) start.standing.answers (map answer_in replies)) ∙ none in
+    let none : any_closed (start.core.answers ++ map answer_in replies) ≡ false = sym (ap any_closed was.answered) ∙ (sym was.closed ∙ opened) in
+    let parted : (any_closed start.core.answers || any_closed (map answer_in replies)) ≡ false =
+    sym (list_any-append (λ (a : Answer). is_closed a.outcome) start.core.answers (map answer_in replies)) ∙ none in
     let open_still = (or_parts _ _ parted).1 in
     record {
       all_taken = λ w.
@@ -90,7 +90,7 @@ replied_more start old new request outcome node unmounts put before now replies 
           sym (ap (of w) (map-append request_in replies (r ∷ [])) ∙ filter-append _ (map request_in replies) (request ∷ [])) in
           took w ∙ (ap (λ (l : List Request). l ++ of w (request ∷ [])) (was.all_taken w)
           ∙ (append_assoc (start.taken w) (of w (map request_in replies)) (of w (request ∷ [])) ∙ ap (λ (l : List Request). start.taken w ++ l) both));
-      answered = answers ∙ (ap (λ (l : List Answer). l ++ answer_in r ∷ []) was.answered ∙ map_more answer_in replies r start.standing.answers);
+      answered = answers ∙ (ap (λ (l : List Answer). l ++ answer_in r ∷ []) was.answered ∙ map_more answer_in replies r start.core.answers);
       sent = ap (λ (l : List Step). l ++ r.step ∷ []) (sym (append-nil put) ∙ was.sent) ∙ map_more (λ (q : Reply). q.step) replies r start.put;
       reply = all_reply_more replies r was.reply open_still (refl, refl, made);
       closed = closed
@@ -99,16 +99,16 @@ replied_more start old new request outcome node unmounts put before now replies 
           ∙ (sym (list_any-append (λ (a : Answer). is_closed a.outcome) old.answers (answer_in r ∷ [])) ∙ ap any_closed (sym answers))));
       ending = ends_so unmounts outcome r replies old.closed new.closed wish refl closed;
       sizes = (was.sizes.0 ∙ sizes.0, was.sizes.1 ∙ sizes.1);
-      erases = since_answer start.standing old new replies r request.writer request.seq outcome was.sizes.0 same was.erases erased;
-      lawful = λ mounted past stands. runs_more start.standing old new mounted past request outcome node replies was.sizes was.reply open_still (acts mounted) same (was.lawful mounted past stands);
+      erases = since_answer start.core old new replies r request.writer request.seq outcome was.sizes.0 same was.erases erased;
+      lawful = λ mounted past stands. runs_more start.core old new mounted past request outcome node replies was.sizes was.reply open_still (acts mounted) same (was.lawful mounted past stands);
     }
 
 -- nothing that replies speak of has changed
 replied_same :
-    (start : Start) (old new : Standing) (kept : Option Kept) (put : List Step) (before now : ℕ → List Request) (replies : List Reply)
+    (start : Start) (old new : CoreState) (unsent : Option PendingStep) (put : List Step) (before now : ℕ → List Request) (replies : List Reply)
     → new.answers ≡ old.answers → new.closed ≡ old.closed → KeepsHistory old new → ((w : ℕ) → now w ≡ before w)
-    → HasReplied start old kept put before replies → HasReplied start new kept put now replies
-replied_same start old new kept put before now replies answers closed keeps taken was = record {
+    → HasReplied start old unsent put before replies → HasReplied start new unsent put now replies
+replied_same start old new unsent put before now replies answers closed keeps taken was = record {
   all_taken = λ w. taken w ∙ was.all_taken w;
   answered = answers ∙ was.answered;
   sent = was.sent;
@@ -116,21 +116,21 @@ replied_same start old new kept put before now replies answers closed keeps take
   closed = closed ∙ (was.closed ∙ ap any_closed (sym answers));
   ending = λ s ends. subst (λ (b : Bool). FitsServed s b replies) (sym closed) (was.ending s ends);
   sizes = (was.sizes.0 ∙ keeps.sizes.0, was.sizes.1 ∙ keeps.sizes.1);
-  erases = since_same start.standing old new (length replies) keeps was.erases;
-  lawful = λ mounted past stands. runs_same start.standing old new mounted past replies keeps (was.lawful mounted past stands);
+  erases = since_same start.core old new (length replies) keeps was.erases;
+  lawful = λ mounted past stands. runs_same start.core old new mounted past replies keeps (was.lawful mounted past stands);
 }
 
--- nothing but the places for answers was changed
-pub replied_places :
-    (start : Start) (old new : Standing) (kept : Option Kept) (put : List Step) (before now : ℕ → List Request) (replies : List Reply)
-    → IsSameButPlaces old new → ((w : ℕ) → now w ≡ before w)
-    → HasReplied start old kept put before replies → HasReplied start new kept put now replies
-replied_places start old new kept put before now replies same taken was =
-    replied_same start old new kept put before now replies (ap (λ (s : Standing). s.answers) same) (ap (λ (s : Standing). s.closed) same) (same_but_places old new same) taken was
+-- nothing but the capacity for answers was changed
+pub replied_capacity :
+    (start : Start) (old new : CoreState) (unsent : Option PendingStep) (put : List Step) (before now : ℕ → List Request) (replies : List Reply)
+    → IsSameButCapacity old new → ((w : ℕ) → now w ≡ before w)
+    → HasReplied start old unsent put before replies → HasReplied start new unsent put now replies
+replied_capacity start old new unsent put before now replies same taken was =
+    replied_same start old new unsent put before now replies (ap (λ (s : CoreState). s.answers) same) (ap (λ (s : CoreState). s.closed) same) (same_but_capacity old new same) taken was
 
--- the step that was kept is put
+-- the unsent step is put
 pub replied_put :
-    (start : Start) (core : Standing) (step : Step) (ending : Option Served) (put now : List Step) (taken : ℕ → List Request) (replies : List Reply)
+    (start : Start) (core : CoreState) (step : Step) (ending : Option Served) (put now : List Step) (taken : ℕ → List Request) (replies : List Reply)
     → now ≡ put ++ step ∷ []
     → HasReplied start core (Some (Unput step ending)) put taken replies → HasReplied start core (Some (Unpublished ending)) now taken replies
 replied_put start core step ending put now taken replies is was = record {
@@ -145,12 +145,12 @@ replied_put start core step ending put now taken replies is was = record {
   lawful = was.lawful;
 }
 
--- nothing is kept any more of what was put
+-- nothing is unsent any more of what was put
 pub replied_sent :
-    (start : Start) (core : Standing) (kept : Option Kept) (put : List Step) (taken : ℕ → List Request) (replies : List Reply)
-    → unput kept ≡ []
-    → HasReplied start core kept put taken replies → HasReplied start core None put taken replies
-replied_sent start core kept put taken replies is was = record {
+    (start : Start) (core : CoreState) (unsent : Option PendingStep) (put : List Step) (taken : ℕ → List Request) (replies : List Reply)
+    → unput unsent ≡ []
+    → HasReplied start core unsent put taken replies → HasReplied start core None put taken replies
+replied_sent start core unsent put taken replies is was = record {
   all_taken = was.all_taken;
   answered = was.answered;
   sent = ap (λ (l : List Step). put ++ l) (sym is) ∙ was.sent;
@@ -162,23 +162,23 @@ replied_sent start core kept put taken replies is was = record {
   lawful = was.lawful;
 }
 
--- the ending that is kept fits
-pub kept_fits :
-    (start : Start) (core : Standing) (kept : Option Kept) (put : List Step) (taken : ℕ → List Request) (replies : List Reply) (ending : Option Served)
-    → ending ≡ ending_of kept
-    → HasReplied start core kept put taken replies → FitsEnding ending core replies
-kept_fits start core kept put taken replies None is was = tt
-kept_fits start core kept put taken replies (Some s) is was = was.ending s (sym is)
+-- the ending of the unsent step fits
+pub pending_fits :
+    (start : Start) (core : CoreState) (unsent : Option PendingStep) (put : List Step) (taken : ℕ → List Request) (replies : List Reply) (ending : Option Served)
+    → ending ≡ ending_of unsent
+    → HasReplied start core unsent put taken replies → FitsEnding ending core replies
+pending_fits start core unsent put taken replies None is was = tt
+pending_fits start core unsent put taken replies (Some s) is was = was.ending s (sym is)
 
 -- no reply more
 pub nothing_more :
-    (start : Start) (core : Standing) (kept : Option Kept) (put : List Step) (taken : ℕ → List Request) (replies : List Reply) (ending : Option Served)
-    → HasReplied start core kept put taken replies → FitsEnding ending core replies
-    → (more : List Reply) × HasReplied start core kept put taken (replies ++ more) × FitsEnding ending core (replies ++ more)
-nothing_more start core kept put taken replies ending has fits =
+    (start : Start) (core : CoreState) (unsent : Option PendingStep) (put : List Step) (taken : ℕ → List Request) (replies : List Reply) (ending : Option Served)
+    → HasReplied start core unsent put taken replies → FitsEnding ending core replies
+    → (more : List Reply) × HasReplied start core unsent put taken (replies ++ more) × FitsEnding ending core (replies ++ more)
+nothing_more start core unsent put taken replies ending has fits =
     let same = sym (append-nil replies) in (
       [],
-      subst (λ (all : List Reply). HasReplied start core kept put taken all) same has,
+      subst (λ (all : List Reply). HasReplied start core unsent put taken all) same has,
       subst (λ (all : List Reply). FitsEnding ending core all) same fits,
     )
 
@@ -192,7 +192,7 @@ module _ {F : Type 0} where
       let there = second start (replies ++ here.0) here.1 in
       let same = append_assoc replies here.0 there.0 in (
         here.0 ++ there.0,
-        subst (λ (all : List Reply). HasReplied start c.core c.kept put_c taken_c all) same there.1,
+        subst (λ (all : List Reply). HasReplied start c.core c.unsent put_c taken_c all) same there.1,
         subst (λ (all : List Reply). FitsEnding ending c.core all) same there.2,
       )
 
@@ -207,16 +207,16 @@ module _ {F : Type 0} where
         | Some s ↦ λ h. subst (λ (closed : Bool). FitsServed s closed (replies ++ here.0)) (sym same.1) h
       ] in (
         here.0,
-        replied_same start b.core c.core c.kept put_b taken_b taken_b (replies ++ here.0) same.0 same.1 same.3 (λ _. refl)
-            (subst (λ (k : Option Kept). HasReplied start b.core k put_b taken_b (replies ++ here.0)) (sym same.2) here.1),
+        replied_same start b.core c.core c.unsent put_b taken_b taken_b (replies ++ here.0) same.0 same.1 same.3 (λ _. refl)
+            (subst (λ (k : Option PendingStep). HasReplied start b.core k put_b taken_b (replies ++ here.0)) (sym same.2) here.1),
         fit ending here.2,
       )
 
 -- the beginning: no reply yet
 pub nothing_replied :
-    (core : Standing) (put : List Step) (taken : ℕ → List Request)
+    (core : CoreState) (put : List Step) (taken : ℕ → List Request)
     → core.closed ≡ any_closed core.answers
-    → HasReplied (record { taken = taken; standing = core; put = put }) core None put taken []
+    → HasReplied (record { taken = taken; core = core; put = put }) core None put taken []
 nothing_replied core put taken closed = record {
   all_taken = λ w. sym (append-nil (taken w));
   answered = sym (append-nil core.answers);

@@ -10,12 +10,12 @@ use Rattle.jffs_tree.specs.declared.wish.Cause.TheVariants as causes
 use Rattle.jffs_tree.specs.declared.wish.Outcome.{Outcome}
 use Rattle.jffs_tree.specs.declared.wish.Outcome.TheVariants.{Refused}
 use Rattle.jffs_line.specs.declared.request.Request.{Request}
-use Rattle.jffs_log.specs.Book.{HasSizes}
+use Rattle.jffs_log.specs.LogIndex.{HasSizes}
 use Rattle.jffs_index.specs.declared.step.Step.{Step}
-use Rattle.jffs_core.specs.Standing.{Standing}
+use Rattle.jffs_core.specs.CoreState.{CoreState}
 use Rattle.jffs_core.specs.History.{IsOwnCopy}
 use Rattle.jffs_core.specs.Step.{Volume, IsStep, OutcomeIs, IsInHand}
-use Rattle.jffs_core.specs.Past.{StandsFor, HasFailed}
+use Rattle.jffs_core.specs.Past.{Represents, HasFailed}
 use Rattle.jffs_core.specs.Run.{OnlyCopies, is_failure}
 use Rattle.jffs_core.specs.Answering.{Answers, AnswersWith, KeepsAnswer, turn_of}
 use Rattle.jffs_core.proofs.Refusing.{failed_more}
@@ -23,7 +23,7 @@ use Rattle.jffs_core.specs.declared.answer.Answer.{Answer}
 use Rattle.jffs_serve.specs.Replies.{Reply, AllReply, answer_in, any_closed}
 use Rattle.jffs_serve.specs.Turns.{IsReplied, has_two, all_keep_two}
 use Rattle.jffs_serve.specs.Answered.{IsRequested, RunsTo, KeepsHistory, FailuresAreFaults, any_failure, volume_of}
-use Rattle.jffs_serve.proofs.Keeping.{failed_but_places, keeps_worked, stays_failed}
+use Rattle.jffs_serve.proofs.Keeping.{failed_but_capacity, keeps_worked, stays_failed}
 use Rattle.jffs_serve.proofs.Turns.{replied_further, all_keep_parts, has_two_erased, may_follow, in_order_further}
 
 -- the step of a request
@@ -52,7 +52,7 @@ more_replies volume replies r after n (inr h) = inr (record {
 
 -- a core that had failed
 failed_before :
-    (volume : Volume) (before after : List Node) (old new : Standing) (q : Request) (o : Outcome) (replies : List Reply) (r : Reply)
+    (volume : Volume) (before after : List Node) (old new : CoreState) (q : Request) (o : Outcome) (replies : List Reply) (r : Reply)
     → IsStep (turn_of before old new) q o after → o ≡ Refused causes.Failed → KeepsAnswer q.writer q.seq o old new
     → HasFailed (InHandOf volume replies before) before old → HasFailed (InHandOf volume (replies ++ r ∷ []) after) after new
 failed_before volume before after old new q o replies r step is kept was =
@@ -70,7 +70,7 @@ which_failure (Refused causes.Failed) h = inr refl
 which_failure _ h = cc
 
 fails_now :
-    (volume : Volume) (mounted before : List Node) (old new : Standing) (q : Request) (replies : List Reply) (o : Outcome) (node : Option Node)
+    (volume : Volume) (mounted before : List Node) (old new : CoreState) (q : Request) (replies : List Reply) (o : Outcome) (node : Option Node)
     → (h : Answers mounted before old new q o) → volume_of old ≡ volume → old.failed ≡ false → is_failure o ≡ true
     → HasFailed (InHandOf volume (replies ++ reply_of q o node ∷ []) h.after) h.after new
 fails_now volume mounted before old new q replies o node h same works fails = ⊎_elim
@@ -100,7 +100,7 @@ fails_now volume mounted before old new q replies o node h same works fails = �
 
 -- where a core that worked answers so, the device failed a call
 faults_now :
-    (before after : List Node) (old new : Standing) (q : Request) (o : Outcome)
+    (before after : List Node) (old new : CoreState) (q : Request) (o : Outcome)
     → IsStep (turn_of before old new) q o after → old.failed ≡ false → is_failure o ≡ true → old.faults < new.faults
 faults_now before after old new q o step works fails = ⊎_elim
     (λ device.
@@ -112,11 +112,11 @@ faults_now before after old new q o step works fails = ⊎_elim
 
 -- the next answer is lawful where the core stands
 pub runs_more :
-    (start old new : Standing) (mounted past : List Node) (request : Request) (outcome : Outcome) (node : Option Node) (replies : List Reply)
-    → HasSizes start.book.sectors start.book.sector_size old.book
+    (start old new : CoreState) (mounted past : List Node) (request : Request) (outcome : Outcome) (node : Option Node) (replies : List Reply)
+    → HasSizes start.index.sectors start.index.sector_size old.index
     → AllReply replies
     → any_closed (map answer_in replies) ≡ false
-    → ((past : List Node) → StandsFor mounted past old → AnswersWith mounted past old new request outcome node)
+    → ((past : List Node) → Represents mounted past old → AnswersWith mounted past old new request outcome node)
     → (old.failed ≡ true → KeepsAnswer request.writer request.seq outcome old new)
     → RunsTo start old mounted past replies
     → RunsTo start new mounted past (replies ++ reply_of request outcome node ∷ [])
@@ -146,7 +146,7 @@ runs_more start old new mounted past request outcome node replies sizes all open
           step.two both.1 (was.two both.0 (worked works) two);
       works = λ works. step.faults works ∙ was.works (worked works);
       faults = λ began fails. ⊎_elim
-          (λ had. subst (λ (c : Standing). start.faults < c.faults) (sym (kept had)) (was.faults began had))
+          (λ had. subst (λ (c : CoreState). start.faults < c.faults) (sym (kept had)) (was.faults began had))
           (λ now. subst (λ (n : ℕ). n < new.faults) (was.works now) (faults_now was.after step.after old new request outcome step.step now (sym step.fails ∙ fails)))
           (cases_Bool old.failed);
       failed = λ f. ⊎_elim
@@ -167,7 +167,7 @@ runs_more start old new mounted past request outcome node replies sizes all open
 
 -- it is so still where nothing was answered
 pub runs_same :
-    (start old new : Standing) (mounted past : List Node) (replies : List Reply) → KeepsHistory old new → RunsTo start old mounted past replies → RunsTo start new mounted past replies
+    (start old new : CoreState) (mounted past : List Node) (replies : List Reply) → KeepsHistory old new → RunsTo start old mounted past replies → RunsTo start new mounted past replies
 runs_same start old new mounted past replies keeps run =
     let s = run.stands in
     record {
@@ -182,12 +182,12 @@ runs_same start old new mounted past replies keeps run =
           let worked = keeps_worked old new keeps works in
           keeps.faults works run.after (s.stands.working worked) ∙ run.works worked;
       faults = λ began fails. ⊎_elim
-          (λ had. subst (λ (c : Standing). start.faults < c.faults) (sym (keeps.failed had)) (run.faults began had))
+          (λ had. subst (λ (c : CoreState). start.faults < c.faults) (sym (keeps.failed had)) (run.faults began had))
           (λ now. let f = keeps.fails now fails run.after (s.stands.working now) in subst (λ (n : ℕ). n < new.faults) (run.works now) f.faults)
           (cases_Bool old.failed);
       failed = λ f. stays_failed old new keeps (run.failed f);
       in_hand = λ works fails. ⊎_elim
-          (λ had. failed_but_places (InHandOf (volume_of start) replies run.after) run.after old new (keeps.failed had) (run.in_hand works had))
+          (λ had. failed_but_capacity (InHandOf (volume_of start) replies run.after) run.after old new (keeps.failed had) (run.in_hand works had))
           (λ now.
           let f = keeps.fails now fails run.after (s.stands.working now) in
           failed_more (IsOwnCopy run.after) (InHandOf (volume_of start) replies run.after) (λ n copy. inl copy) run.after new f.left)
@@ -195,7 +195,7 @@ runs_same start old new mounted past replies keeps run =
     }
 
 -- where nothing was answered yet
-pub runs_from : (start : Standing) (mounted past : List Node) → StandsFor mounted past start → RunsTo start start mounted past []
+pub runs_from : (start : CoreState) (mounted past : List Node) → Represents mounted past start → RunsTo start start mounted past []
 runs_from start mounted past stands = record {
   after = past;
   stands = stands;

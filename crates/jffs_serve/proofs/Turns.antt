@@ -10,9 +10,9 @@ use Rattle.jffs_tree.specs.declared.wish.Cause.TheVariants as causes
 use Rattle.jffs_tree.specs.Decide.{with, is_unmount_wish}
 use Rattle.jffs_tree.specs.declared.wish.Outcome.{Outcome}
 use Rattle.jffs_tree.specs.declared.wish.Outcome.TheVariants.{Refused}
-use Rattle.jffs_log.specs.Book.{layout_in}
+use Rattle.jffs_log.specs.LogIndex.{layout_in}
 use Rattle.jffs_log.specs.Room.{heavy, weight}
-use Rattle.jffs_core.specs.Standing.{Standing}
+use Rattle.jffs_core.specs.CoreState.{CoreState}
 use Rattle.jffs_core.specs.Step.{Volume, Turn, IsStep, OutcomeIs}
 use Rattle.jffs_line.specs.declared.request.Request.{Request}
 use Rattle.jffs_core.specs.Run.{OnlyCopies, IsAnswered, AreAnswered, IsInOrder, MayFollowAll, is_failure}
@@ -45,8 +45,8 @@ all_keep_parts replies r keep =
     let parts = and_parts (all_keep_two replies) (keeps_two r.step.outcome && true) (sym (list_all-append keeps replies (r ∷ [])) ∙ keep) in
     (parts.0, sym (and-true (keeps_two r.step.outcome)) ∙ parts.1)
 
-pub has_two_erased : (core : Standing) → has_two core ≡ true → 2 ≤ (layout_in core.image core.book).erased
-has_two_erased core two = leb-true 2 (layout_in core.image core.book).erased two
+pub has_two_erased : (core : CoreState) → has_two core ≡ true → 2 ≤ (layout_in core.image core.index).erased
+has_two_erased core two = leb-true 2 (layout_in core.image core.index).erased two
 
 -- copies there are none
 unchanged : (past after : List Node) → after ≡ past → OnlyCopies past after
@@ -119,7 +119,7 @@ may_follow (a ∷ c ∷ answers) b opened failed =
 
 -- one answer more is in order
 pub in_order_further :
-    (start core : Standing) (mounted past : List Node) (replies : List Reply) (r : Reply) (after : List Node)
+    (start core : CoreState) (mounted past : List Node) (replies : List Reply) (r : Reply) (after : List Node)
     → (run : RunsTo start core mounted past replies) → AllReply replies → MayFollowAll (map answer_in replies) (answer_in r)
     → IsReplied (volume_of start) (has_two start && all_keep_two replies) run.after r after → (r.step.writer ≡ r.request.writer) × (r.step.seq ≡ r.request.seq)
     → IsInOrder (map answer_in (replies ++ r ∷ []))

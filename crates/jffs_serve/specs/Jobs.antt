@@ -2,13 +2,13 @@
 use Rattle.std.specs.Prelude.{◌≡◌, ◌≢◌, ℕ, true, List, [], ◌∷◌, ◌++◌, Option, Some}
 use Rattle.std.specs.Global.{Vec}
 use Rattle.jffs_log.specs.Volume.{sector_bytes}
-use Rattle.jffs_core.specs.Standing.{Standing}
+use Rattle.jffs_core.specs.CoreState.{CoreState}
 use Rattle.jffs_core.specs.Jobs.{wants_cleaning}
 
 -- a cleaner is wanted, and since the last job an erase has given the log another oldest sector
-abbrev pub IsDue : Standing → Option ℕ → Type 0
-IsDue core sent_at = (wants_cleaning core ≡ true) × (sent_at ≢ Some core.book.erases)
+abbrev pub IsDue : CoreState → Option ℕ → Type 0
+IsDue core sent_at = (wants_cleaning core ≡ true) × (sent_at ≢ Some core.index.erases)
 
 -- one image more, that of the oldest sector
-abbrev pub SendsOldest : Standing → List (Vec ℕ) → List (Vec ℕ) → Type 0
-SendsOldest core before now = (image : Vec ℕ) × (now ≡ before ++ image ∷ []) × (image.items ≡ sector_bytes core.book.sector_size core.book.first core.image)
+abbrev pub SendsOldest : CoreState → List (Vec ℕ) → List (Vec ℕ) → Type 0
+SendsOldest core before now = (image : Vec ℕ) × (now ≡ before ++ image ∷ []) × (image.items ≡ sector_bytes core.index.sector_size core.index.first core.image)

@@ -1,4 +1,4 @@
-pub mod Kept
+pub mod PendingStep
 pub mod Replies
 pub mod Turns
 pub mod Answered

@@ -8,17 +8,17 @@ use Rattle.jffs_tree.specs.declared.wish.NewNode.{NewNode}
 use Rattle.jffs_tree.specs.declared.wish.Wish.TheVariants.{Unmount}
 use Rattle.jffs_tree.specs.declared.wish.Outcome.TheVariants.{Refused}
 use Rattle.jffs_tree.specs.Decide.{with}
-use Rattle.jffs_log.specs.Book.{layout_in}
+use Rattle.jffs_log.specs.LogIndex.{layout_in}
 use Rattle.jffs_log.specs.Room.{weight, heavy}
-use Rattle.jffs_core.specs.Standing.{Standing}
+use Rattle.jffs_core.specs.CoreState.{CoreState}
 use Rattle.jffs_core.specs.Step.{Volume, Turn, IsStep, decision}
 use Rattle.jffs_core.specs.Answering.{keeps_two}
 use Rattle.jffs_core.specs.Nodes.{listed}
 use Rattle.jffs_serve.specs.Replies.{Reply}
 
 -- whether at least two sectors are erased
-abbrev pub has_two : Standing → Bool
-has_two core = nat_le 2 (layout_in core.image core.book).erased
+abbrev pub has_two : CoreState → Bool
+has_two core = nat_le 2 (layout_in core.image core.index).erased
 
 -- whether two erased sectors stay erased over all of these answers
 abbrev pub all_keep_two : List Reply → Bool

@@ -1,10 +1,10 @@
 //! What a session does by itself: it answers a request, erases dead sectors, and sends jobs.
 
 ghost use Rattle.std.specs.Prelude.{◌≡◌, true};
-ghost use Rattle.jffs_serve.specs.Kept.{ending_after as ending_word};
+ghost use Rattle.jffs_serve.specs.PendingStep.{ending_after as ending_word};
 
 use crate::jobs::Jobs;
-use crate::session::{Kept, Served, Session};
+use crate::session::{PendingStep, Served, Session};
 use jffs_core::Answered;
 use jffs_flash::Flash;
 use jffs_index::Step;
@@ -21,18 +21,18 @@ impl<F: Flash> Session<F> {
     ghost use Rattle.jffs_core.specs.Trees.{KeepsTree};
     ghost use Rattle.jffs_index.specs.Shown.{Shown};
     ghost use Rattle.jffs_serve.specs.Jobs.{IsDue, SendsOldest};
-    ghost use Rattle.jffs_serve.specs.Kept.{unput, IsReady};
+    ghost use Rattle.jffs_serve.specs.PendingStep.{unput, IsReady};
     ghost use Rattle.jffs_serve.specs.Answered.{RepliesMore, HasSameReplies};
     ghost use Rattle.jffs_serve.specs.Showing.{ShowsCore, IsShown};
 
     /// Answers a request, and keeps the answer's step.
     pub(crate) fn answer(&mut self, request: Request)
-        requires reserved { length self.old.core.answers < self.old.core.places }
+        requires reserved { length self.old.core.answers < self.old.core.capacity }
         requires opened { self.old.core.closed ≡ false }
-        requires sent { self.old.kept ≡ None }
+        requires sent { self.old.unsent ≡ None }
         ensures replies { (put : List Step) (before now : ℕ → List Request) → ((w : ℕ) → now w ≡ before w ++ of w (request ∷ [])) → RepliesMore self.old put before self.new put now None }
-        ensures ready { IsReady self.new.kept [] }
-        ensures shown { (shown : Shown) → ShowsCore shown.tree self.old.core → IsShown self.new.kept shown self.new.core }
+        ensures ready { IsReady self.new.unsent [] }
+        ensures shown { (shown : Shown) → ShowsCore shown.tree self.old.core → IsShown self.new.unsent shown self.new.core }
     {
         let unmounts = request.wish.is_unmount();
         let writer = request.writer;
@@ -44,19 +44,19 @@ impl<F: Flash> Session<F> {
             outcome,
             node,
         };
-        self.kept = Some(Kept::Unput(step, ending_after(unmounts, outcome)));
+        self.unsent = Some(PendingStep::Unput(step, ending_after(unmounts, outcome)));
     }
 
     /// Forgets the step that was published, and answers how serving ends with it, if it does.
     pub(crate) fn take_ending(&mut self) -> Option<Served>
-        requires put { unput self.old.kept ≡ [] }
-        ensures kept { self.new.kept ≡ None }
+        requires put { unput self.old.unsent ≡ [] }
+        ensures unsent { self.new.unsent ≡ None }
         ensures core { self.new.core ≡ self.old.core }
         ensures replies { (put : List Step) (taken : ℕ → List Request) → RepliesMore self.old put taken self.new put taken result }
     {
-        match self.kept.take() {
-            Some(Kept::Unput(_, ending)) => ending,
-            Some(Kept::Unpublished(ending)) => ending,
+        match self.unsent.take() {
+            Some(PendingStep::Unput(_, ending)) => ending,
+            Some(PendingStep::Unpublished(ending)) => ending,
             None => None,
         }
     }
@@ -89,7 +89,7 @@ impl<F: Flash> Session<F> {
         ensures replies { HasSameReplies self.old self.new }
         ensures tree { KeepsTree self.old.core self.new.core }
         ensures job { ((sent jobs.new.producer ≡ sent jobs.old.producer) × (self.new.sent_at ≡ self.old.sent_at))
-            ⊎ (IsDue self.old.core self.old.sent_at × (self.new.sent_at ≡ Some self.old.core.book.erases) × SendsOldest self.old.core (sent jobs.old.producer) (sent jobs.new.producer)) }
+            ⊎ (IsDue self.old.core self.old.sent_at × (self.new.sent_at ≡ Some self.old.core.index.erases) × SendsOldest self.old.core (sent jobs.old.producer) (sent jobs.new.producer)) }
     {
         let erases = self.core.log().erases();
         if !self.is_due(erases) || jobs.is_full() {
@@ -102,7 +102,7 @@ impl<F: Flash> Session<F> {
         }
     }
 
-    /// Whether a cleaner is wanted, and no job was sent since so many erases.
+    /// Whether a cleaner is wanted, and no job was sent since there were `erases` erases.
     fn is_due(&self, erases: u64) -> bool
         ensures { result ≡ true → (wants_cleaning self.now.core ≡ true) × (self.now.sent_at ≢ Some erases) }
     {

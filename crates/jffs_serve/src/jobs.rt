@@ -52,7 +52,7 @@ impl Jobs {
         }
     }
 
-    /// Whether there is no place. The cleaner may make one at any time.
+    /// Whether no slot is free. The cleaner may free one at any time.
     pub(crate) fn is_full(&mut self) -> bool
         ensures { sent self.new.producer ≡ sent self.old.producer }
     {

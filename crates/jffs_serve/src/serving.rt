@@ -6,12 +6,12 @@ ghost use Rattle.jffs_index.specs.Ends.{pending, all_put, publisher_index};
 ghost use Rattle.jffs_index.specs.declared.step.Step.{Step};
 ghost use Rattle.jffs_line.specs.declared.request.Request.{Request};
 ghost use Rattle.jffs_index.specs.Shown.{Shown};
-ghost use Rattle.jffs_serve.specs.Kept.{unput, IsReady};
+ghost use Rattle.jffs_serve.specs.PendingStep.{unput, IsReady};
 ghost use Rattle.jffs_serve.specs.Answered.{RepliesMore};
 ghost use Rattle.jffs_serve.specs.Showing.{IsShown, CanServe};
 
 use crate::jobs::Jobs;
-use crate::session::{Kept, Served, Session};
+use crate::session::{PendingStep, Served, Session};
 use jffs_flash::Flash;
 use jffs_index::Publisher;
 use jffs_line::Taker;
@@ -20,10 +20,10 @@ use std::sync::Wait;
 
 /// Takes requests and answers them, until an Unmount was answered, no hand is left, or allocation
 /// fails; waits for requests and for readers on the way. After Memory a further call goes on: first
-/// it sends the step that is kept.
+/// it sends the unsent step.
 ///
-/// The answers are lawful for the requests, from whatever history the core stood for to the one
-/// that it stands for then, over any number of calls.
+/// The answers are lawful for the requests, from whatever history the core represented to the
+/// one that it represents then, over any number of calls.
 ///
 /// Precondition: what is published has the state of the core's tree, as an index has that was
 /// opened over a copy of it. So each node that the core appends may be applied there.
@@ -37,7 +37,7 @@ pub fn serve<R: Wait, W: Wait + Drop, F: Flash, T: Taker>(
     requires ready { CanServe session.old publisher.old }
     ensures ready { CanServe session.new publisher.new }
     ensures replies { RepliesMore session.old (all_put publisher.old).steps (T.taken taker.old) session.new (all_put publisher.new).steps (T.taken taker.new) (Some result) }
-    ensures published { result ≢ Served.Memory → (session.new.kept ≡ None) × (pending publisher.new ≡ []) }
+    ensures published { result ≢ Served.Memory → (session.new.unsent ≡ None) × (pending publisher.new ≡ []) }
     ensures ends { T.ends taker.new ≡ T.ends taker.old }
     ensures index { publisher_index publisher.new ≡ publisher_index publisher.old }
     ensures opening { (all_put publisher.new).opening ≡ (all_put publisher.old).opening }
@@ -46,7 +46,7 @@ pub fn serve<R: Wait, W: Wait + Drop, F: Flash, T: Taker>(
         if let Err(served) = answer_next(rt, session, taker) {
             return served;
         }
-        let Ok(ending) = send_kept(session, publisher) else {
+        let Ok(ending) = send_pending(session, publisher) else {
             return Served::Memory;
         };
         session.tidy(jobs);
@@ -57,7 +57,7 @@ pub fn serve<R: Wait, W: Wait + Drop, F: Flash, T: Taker>(
     unreachable!()
 }
 
-/// Takes a request and answers it, unless a step is kept. Where it does neither it says how
+/// Takes a request and answers it, unless a step is unsent. Where it does neither it says how
 /// serving ends.
 fn answer_next<R: Wait, F: Flash, T: Taker>(
     rt: &R,
@@ -67,12 +67,12 @@ fn answer_next<R: Wait, F: Flash, T: Taker>(
     ensures replies { (put : List Step) → MatchResult result
         (λ _. RepliesMore session.old put (T.taken taker.old) session.new put (T.taken taker.new) None)
         (λ served. RepliesMore session.old put (T.taken taker.old) session.new put (T.taken taker.new) (Some served)) }
-    ensures ready { (pending : List Step) → IsReady session.old.kept pending → IsReady session.new.kept pending }
-    ensures shown { (shown : Shown) → IsShown session.old.kept shown session.old.core → IsShown session.new.kept shown session.new.core }
-    ensures kept { OnErr result ((session.old.kept ≡ None) × (session.new.kept ≡ None)) }
+    ensures ready { (pending : List Step) → IsReady session.old.unsent pending → IsReady session.new.unsent pending }
+    ensures shown { (shown : Shown) → IsShown session.old.unsent shown session.old.core → IsShown session.new.unsent shown session.new.core }
+    ensures unsent { OnErr result ((session.old.unsent ≡ None) × (session.new.unsent ≡ None)) }
     ensures ends { T.ends taker.new ≡ T.ends taker.old }
 {
-    if session.kept.is_some() {
+    if session.unsent.is_some() {
         return Ok(());
     }
     if session.core.closed() {
@@ -90,9 +90,9 @@ fn answer_next<R: Wait, F: Flash, T: Taker>(
     }
 }
 
-/// Puts and publishes the step that is kept, if one is. Answers how serving ends then, if it does.
-/// If allocation fails, what is still to be done is kept.
-fn send_kept<F: Flash, W: Wait + Drop>(
+/// Puts and publishes the unsent step, if one is. Answers how serving ends then, if it does.
+/// If allocation fails, what is still to be done stays so.
+fn send_pending<F: Flash, W: Wait + Drop>(
     session: &mut Session<F>,
     publisher: &mut Publisher<W>,
 ) -> Result<Option<Served>, NoMemory>
@@ -101,42 +101,42 @@ fn send_kept<F: Flash, W: Wait + Drop>(
     ensures replies { (taken : ℕ → List Request) → MatchResult result
         (λ ending. RepliesMore session.old (all_put publisher.old).steps taken session.new (all_put publisher.new).steps taken ending)
         (λ _. RepliesMore session.old (all_put publisher.old).steps taken session.new (all_put publisher.new).steps taken None) }
-    ensures sent { OnOk result ((session.new.kept ≡ None) × (pending publisher.new ≡ [])) }
+    ensures sent { OnOk result ((session.new.unsent ≡ None) × (pending publisher.new ≡ [])) }
     ensures index { publisher_index publisher.new ≡ publisher_index publisher.old }
     ensures opening { (all_put publisher.new).opening ≡ (all_put publisher.old).opening }
 {
-    put_kept(session, publisher)?;
+    put_pending(session, publisher)?;
     if publisher.publish().is_err() {
         return Err(NoMemory);
     }
     Ok(session.take_ending())
 }
 
-/// Puts the step that is kept, if it is still to be put.
-fn put_kept<F: Flash, W: Wait + Drop>(
+/// Puts the unsent step, if it is still to be put.
+fn put_pending<F: Flash, W: Wait + Drop>(
     session: &mut Session<F>,
     publisher: &mut Publisher<W>,
 ) -> Result<(), NoMemory>
     requires ready { CanServe session.old publisher.old }
     ensures ready { CanServe session.new publisher.new }
     ensures replies { (taken : ℕ → List Request) → RepliesMore session.old (all_put publisher.old).steps taken session.new (all_put publisher.new).steps taken None }
-    ensures put { OnOk result (unput session.new.kept ≡ []) }
+    ensures put { OnOk result (unput session.new.unsent ≡ []) }
     ensures index { publisher_index publisher.new ≡ publisher_index publisher.old }
     ensures opening { (all_put publisher.new).opening ≡ (all_put publisher.old).opening }
 {
-    match session.kept.take() {
-        Some(Kept::Unput(step, ending)) => match publisher.put(step) {
+    match session.unsent.take() {
+        Some(PendingStep::Unput(step, ending)) => match publisher.put(step) {
             Ok(()) => {
-                session.kept = Some(Kept::Unpublished(ending));
+                session.unsent = Some(PendingStep::Unpublished(ending));
                 Ok(())
             }
             Err(step) => {
-                session.kept = Some(Kept::Unput(step, ending));
+                session.unsent = Some(PendingStep::Unput(step, ending));
                 Err(NoMemory)
             }
         },
-        kept => {
-            session.kept = kept;
+        unsent => {
+            session.unsent = unsent;
             Ok(())
         }
     }

@@ -22,7 +22,7 @@ pub enum Served {
 
 /// What is still to be done with the last answer, and how serving ends once it is done, if it does.
 #[derive(Drop)]
-pub(crate) enum Kept {
+pub(crate) enum PendingStep {
     /// The step is still to be put.
     Unput(Step, Option<Served>),
     /// The step was put, and is still to be published.
@@ -33,7 +33,7 @@ pub(crate) enum Kept {
 #[derive(Drop)]
 pub struct Session<F: Flash> {
     pub(crate) core: Core<F>,
-    pub(crate) kept: Option<Kept>,
+    pub(crate) unsent: Option<PendingStep>,
     /// How many erases there had been when the last job was sent: only an erase gives the log
     /// another oldest sector.
     pub(crate) sent_at: Option<u64>,
@@ -43,11 +43,11 @@ impl<F: Flash> Session<F> {
     /// A session over a core, with no step to send.
     pub fn new(core: Core<F>) -> Session<F>
         ensures core { result.core ≡ core }
-        ensures kept { result.kept ≡ None }
+        ensures unsent { result.unsent ≡ None }
     {
         Session {
             core,
-            kept: None,
+            unsent: None,
             sent_at: None,
         }
     }
@@ -65,7 +65,7 @@ impl<F: Flash> Session<F> {
     {
         let Session {
             core,
-            kept: _kept,
+            unsent: _unsent,
             sent_at: _,
         } = self;
         core

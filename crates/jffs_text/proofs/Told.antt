@@ -38,7 +38,7 @@ pub shown_some : (bytes : List ℕ) → 0 < length bytes → shown_bytes bytes �
 shown_some [] h = absurd (omega arith)
 shown_some (b ∷ bytes) h = refl
 
--- A chunk of n bytes was read from the o-th on, into a buffer with other bytes behind it.
+-- A chunk of n bytes was read from the o-th on, into a buffer with other bytes after it.
 module _ (bytes : List ℕ) (o n : ℕ) (behind chunk : List ℕ) (read : chunk ≡ take n (drop o bytes) ++ behind) (inside : n ≤ length bytes - o) (a b c : Option (List ℕ)) (so_far : Appends a b (hex (take o bytes))) where
   chunk_is : take n chunk ≡ take n (drop o bytes)
   chunk_is = ap (take n) read ∙ take_at (take n (drop o bytes)) behind n (length-take-le n (drop o bytes) (let long = length-drop o bytes in omega arith))

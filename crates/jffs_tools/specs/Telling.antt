@@ -2,30 +2,30 @@
 use Rattle.std.specs.Prelude.{ℕ, ◌+◌, ◌*◌, ◌^◌, Bool, true, false, nat_eq, Option, Some, None, if◌then◌else◌}
 use Rattle.jffs_tree.specs.declared.wish.Outcome.{Outcome}
 use Rattle.jffs_tree.specs.declared.wish.Outcome.TheVariants.{Appended, Copied, Closed, Refused}
-use Rattle.jffs_log.specs.declared.book.Kept.{Kept}
-use Rattle.jffs_log.specs.Book.{log_in, weight_in}
+use Rattle.jffs_log.specs.declared.log_index.RecordRef.{RecordRef}
+use Rattle.jffs_log.specs.LogIndex.{log_in, weight_in}
 use Rattle.jffs_log.specs.Image.{erased_count}
 use Rattle.jffs_log.specs.Volume.{sectors_in}
-use Rattle.jffs_core.specs.Standing.{Standing}
+use Rattle.jffs_core.specs.CoreState.{CoreState}
 use Rattle.jffs_tools.specs.declared.did.Did.{Did}
 use Rattle.jffs_tools.specs.declared.did.Did.TheVariants as did
 use Rattle.jffs_tools.specs.declared.did.Totals.{Totals}
 
 -- the byte of the image at which a record begins
-abbrev pub place_of : ℕ → Kept → ℕ
-place_of sector_size k = k.sector * sector_size + k.place
+abbrev pub offset_of : ℕ → RecordRef → ℕ
+offset_of sector_size k = k.sector * sector_size + k.offset
 
 -- the totals of a core that works
-abbrev pub totals_of : Standing → Totals
+abbrev pub totals_of : CoreState → Totals
 totals_of c = record {
-  erased = erased_count (sectors_in c.book.sectors c.book.sector_size c.image);
-  erases = c.book.erases;
-  weight = weight_in c.tree (log_in c.image c.book);
+  erased = erased_count (sectors_in c.index.sectors c.index.sector_size c.image);
+  erases = c.index.erases;
+  weight = weight_in c.tree (log_in c.image c.index);
   limits = c.limits;
 }
 
 -- the totals of a core, unless it failed
-abbrev pub totals_unless : Bool → Standing → Option Totals
+abbrev pub totals_unless : Bool → CoreState → Option Totals
 totals_unless true c = None
 totals_unless false c = Some (totals_of c)
 

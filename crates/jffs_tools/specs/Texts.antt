@@ -1,7 +1,7 @@
 -- The texts that the tools print.
 use Rattle.std.specs.Prelude.{ℕ, zero, suc, ◌+◌, Bool, true, false, nat_eq, nat_lt, List, [], ◌++◌, Option, Some, None, codes, decimal, if◌then◌else◌}
 use Rattle.jffs_tree.specs.declared.wish.Limits.{Limits}
-use Rattle.jffs_log.specs.declared.book.Kept.{Kept}
+use Rattle.jffs_log.specs.declared.log_index.RecordRef.{RecordRef}
 use Rattle.jffs_tools.specs.declared.did.Did.{Did}
 use Rattle.jffs_tools.specs.declared.did.Did.TheVariants.{Appended, Copied, ClosedAt, Closed, Cleaned, OneSector, Erased, Refused}
 use Rattle.jffs_tools.specs.declared.did.Totals.{Totals}
@@ -28,8 +28,8 @@ life_text true = codes "live"
 life_text false = codes "dead"
 
 -- where a record stands, how long it is, its version, and whether it is live
-abbrev pub record_text : Kept → Bool → List ℕ
-record_text k live = codes "record " ++ (decimal k.sector ++ (codes " " ++ (decimal k.place ++ (codes " " ++
+abbrev pub record_text : RecordRef → Bool → List ℕ
+record_text k live = codes "record " ++ (decimal k.sector ++ (codes " " ++ (decimal k.offset ++ (codes " " ++
     (decimal k.length ++ (codes " " ++ (decimal k.version ++ (codes " " ++ life_text live))))))))
 
 -- a refused request

@@ -66,9 +66,9 @@ fn print_mounted<W: Write>(
     print_line(next_text(alloc, &mounted.limits)?.as_str(), out)?;
     let sectors = sectors_text(alloc, log.oldest(), log.held(), log.sectors())?;
     print_line(sectors.as_str(), out)?;
-    for kept in log.records().iter() {
-        let live = mounted.tree.live(kept.inode, kept.version);
-        print_line(record_text(alloc, kept, live)?.as_str(), out)?;
+    for entry in log.records().iter() {
+        let live = mounted.tree.live(entry.inode, entry.version);
+        print_line(record_text(alloc, entry, live)?.as_str(), out)?;
     }
     dump(alloc, &mounted.tree, out)?;
     Ok(())

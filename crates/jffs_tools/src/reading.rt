@@ -9,7 +9,7 @@ use std::alloc::Global;
 use std::io;
 use std::io::{BufRead, Read};
 
-/// How many bytes so many sectors have together.
+/// How many bytes `sectors` sectors of `sector_size` bytes have.
 pub(crate) fn device_length(sectors: u32, sector_size: u32) -> u64
     ensures { result ≡ sectors * sector_size }
 {
@@ -33,7 +33,7 @@ pub(crate) fn read_image<R: Read>(
     Ok(bytes)
 }
 
-/// Reads the next line in place of what `line` held, without its LF. False at the end of the input.
+/// Reads the next line instead of what `line` held, without its LF. False at the end of the input.
 /// Of a line that is longer than any may be, the beginning is read, which is too long as well.
 pub(crate) fn read_line<B: BufRead>(input: &mut B, line: &mut Vec<u8>) -> io::Result<bool> {
     line.clear();

@@ -7,7 +7,7 @@ use crate::did::{Answered, Did};
 use crate::fault::ToolFault;
 use crate::operation::Fuse;
 use crate::reading::device_length;
-use crate::telling::{count_given, did, last_place, own_records, totals};
+use crate::telling::{count_given, did, last_offset, own_records, totals};
 use crate::texts::{digest_text, mounted_next_text, scan_refused_text};
 use jffs_core::{Cleaned, Core};
 use jffs_flash::{ERASED_BYTE, Fail, FuseFlash, Fused, MemoryFlash, VOLUME_MAX};
@@ -48,7 +48,7 @@ impl Replay {
         }
     }
 
-    /// Begins with erased flash of `sectors` sectors of `sector_size` bytes, in place of any that
+    /// Begins with erased flash of `sectors` sectors of `sector_size` bytes, instead of any that
     /// stood there. Flash that is larger than any volume takes no memory: a mount refuses it as
     /// Geometry.
     ///
@@ -63,7 +63,7 @@ impl Replay {
         self.begin(sectors, sector_size, bytes)
     }
 
-    /// Begins with flash that holds these bytes, in place of any that stood there. Where the bytes
+    /// Begins with flash that holds these bytes, instead of any that stood there. Where the bytes
     /// and the flash are larger than any volume they aren't kept, and a mount refuses the flash as
     /// Geometry.
     ///
@@ -81,7 +81,7 @@ impl Replay {
         Ok(())
     }
 
-    /// Puts a fuse round the flash at the next mount, in place of one that waits for it.
+    /// Puts a fuse round the flash at the next mount, instead of one that waits for it.
     pub fn fuse(&mut self, fuse: Fuse) {
         self.fuse = Some(fuse);
     }
@@ -136,7 +136,7 @@ impl Replay {
         let outcome = core.answer(request);
         let appended = count_given(core).saturating_sub(before);
         Ok(Answered {
-            did: did(outcome, appended, last_place(core)),
+            did: did(outcome, appended, last_offset(core)),
             copies: appended.saturating_sub(own_records(outcome, appended)),
             totals: totals(core),
         })

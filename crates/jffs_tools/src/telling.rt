@@ -1,8 +1,8 @@
 //! What is printed of a core.
 
 ghost use Rattle.std.specs.Prelude.{◌≡◌, ◌+◌, ◌*◌, ◌++◌, ◌∷◌, [], List};
-ghost use Rattle.jffs_log.specs.declared.book.Kept.{Kept};
-ghost use Rattle.jffs_tools.specs.Telling.{place_of, totals_unless, count_given as given_before, did_of, own_records as own_of};
+ghost use Rattle.jffs_log.specs.declared.log_index.RecordRef.{RecordRef};
+ghost use Rattle.jffs_tools.specs.Telling.{offset_of, totals_unless, count_given as given_before, did_of, own_records as own_of};
 
 use crate::did::{Did, Totals};
 use jffs_core::Core;
@@ -49,7 +49,7 @@ pub(crate) fn own_records(outcome: Outcome, appended: u64) -> u64
     }
 }
 
-/// What a request did that appended so many records, the newest of which begins at this byte of
+/// What a request did that appended `appended` records, the newest of which begins at byte `at` of
 /// the image.
 pub(crate) fn did(outcome: Outcome, appended: u64, at: u64) -> Did
     ensures { result ≡ did_of outcome appended at }
@@ -69,20 +69,20 @@ pub(crate) fn did(outcome: Outcome, appended: u64, at: u64) -> Did
 }
 
 /// The byte of the image at which the newest record begins; 0 where there is none.
-pub(crate) fn last_place(core: &Core<FuseFlash>) -> u64
-    ensures { (before : List Kept) (k : Kept) → core.now.book.records.items ≡ before ++ (k ∷ []) → result ≡ place_of core.now.book.sector_size k }
+pub(crate) fn last_offset(core: &Core<FuseFlash>) -> u64
+    ensures { (before : List RecordRef) (k : RecordRef) → core.now.index.records.items ≡ before ++ (k ∷ []) → result ≡ offset_of core.now.index.sector_size k }
 {
     let log = core.log();
     match log.records().back() {
-        Some(kept) => place_in_image(kept.sector, log.sector_size(), kept.place),
+        Some(entry) => offset_in_image(entry.sector, log.sector_size(), entry.offset),
         None => 0,
     }
 }
 
-/// The byte of the image at which a place in a sector stands.
-fn place_in_image(sector: u32, sector_size: u32, place: u32) -> u64
-    ensures { result ≡ sector * sector_size + place }
+/// The byte of the image at which an offset in a sector stands.
+fn offset_in_image(sector: u32, sector_size: u32, offset: u32) -> u64
+    ensures { result ≡ sector * sector_size + offset }
 {
     let begin = u64::from(sector) * u64::from(sector_size);
-    begin + u64::from(place)
+    begin + u64::from(offset)
 }

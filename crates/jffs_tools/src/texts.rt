@@ -9,7 +9,7 @@ ghost use Rattle.jffs_tools.specs.Texts.{number_text as text_of_number, next_tex
 
 use crate::did::{Answered, Did, Totals};
 use crate::names::rule_name;
-use jffs_log::{Kept, ScanWhy};
+use jffs_log::{RecordRef, ScanWhy};
 use jffs_text::cause_name;
 use jffs_tree::{Cause, Limits};
 use sha2::{Digest, Sha256};
@@ -119,15 +119,15 @@ fn next_sector(sector: u32, sectors: u32) -> u32
 
 /// `record SECTOR PLACE LENGTH VERSION live`, or with `dead` at its end. The error: allocation
 /// failed.
-pub fn record_text(alloc: Global, kept: &Kept, live: bool) -> Result<String, AllocError>
-    ensures { IfOk result (λ s. string_bytes s ≡ text_of_record kept.now live) }
+pub fn record_text(alloc: Global, entry: &RecordRef, live: bool) -> Result<String, AllocError>
+    ensures { IfOk result (λ s. string_bytes s ≡ text_of_record entry.now live) }
 {
-    let sector = kept.sector;
-    let place = kept.place;
-    let length = kept.length;
-    let version = kept.version;
+    let sector = entry.sector;
+    let offset = entry.offset;
+    let length = entry.length;
+    let version = entry.version;
     let word = life_text(live);
-    format!(in alloc; "record {sector} {place} {length} {version} {word}")
+    format!(in alloc; "record {sector} {offset} {length} {version} {word}")
 }
 
 /// `live` or `dead`.

@@ -1,4 +1,4 @@
--- A node written at the end of a file or past it: its data come behind all fragments.
+-- A node written at the end of a file or past it: its data come after all fragments.
 use Rattle.std.proofs.Common.{◌≡◌, ℕ, max, ◌+◌, ◌<◌, ◌≤◌, true, false, cond, eqb, [], ◌∷◌, ◌++◌, ◌⊎◌, inl, ⊎_elim, Option, Some, None, IfSome, unwrap_or, refl, sym, ap, subst, ◌∙◌, arith, nat_cmp}
 use Rattle.std.specs.List.{AllByRecursion}
 use Rattle.std.specs.Ordering.{match_ordering}

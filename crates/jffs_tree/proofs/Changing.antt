@@ -76,14 +76,14 @@ module _ (past : List Node) (before : IsLawfulPast past) (version writer seq : �
     module _ (copy : Bool) (offset rsize : ℕ) (size : Option ℕ) (bytes : List ℕ) where
       file_node : e.kind ≡ File → (k : ℕ) → size ≡ Some k → k ≤ file_max → offset + length bytes ≤ k → offset + rsize ≤ file_max → (rsize ≤ length bytes) ⊎ (length bytes ≡ 0)
           → (length bytes ≡ rsize) ⊎ (length e.bytes ≤ offset + rsize) → IsFileNode past (with (changed i e copy offset rsize size bytes) version writer seq)
-      file_node file k says most reaches taken fills places = record {
+      file_node file k says most reaches taken fills offsets = record {
         file = file;
         size = k;
         stated = says;
         most = most;
         reaches = reaches;
         range = record { low = (its i e is).low; parent = (its i e is).parent_low; range = omega arith; taken = taken; fills = fills };
-        places = ⊎_elim (λ same. inl same) (λ last. inr (let l = its_size in omega arith)) places;
+        offsets = ⊎_elim (λ same. inl same) (λ last. inr (let l = its_size in omega arith)) offsets;
       }
 
       directory_node : (e.kind ≡ Directory) × (e.parent < i) × (e.bytes ≡ []) → size ≡ None → offset ≡ 0 → rsize ≡ 0 → length bytes ≡ 0
@@ -229,7 +229,7 @@ module _ (past : List Node) (before : IsLawfulPast past) (version writer seq : �
                 most = l.amount;
                 reaches = omega arith;
                 range = record { low = l.low; parent = home_numbers.0; range = omega arith; taken = omega arith; fills = inr refl };
-                places = inl refl;
+                offsets = inl refl;
               }))
               (λ directory. inr (record {
                 directory = directory.0;
@@ -290,7 +290,7 @@ module _ (past : List Node) (before : IsLawfulPast past) (version writer seq : �
         most = omega arith;
         reaches = omega arith;
         range = record { low = new.low; parent = home_numbers.0; range = omega arith; taken = omega arith; fills = inr refl };
-        places = inl refl;
+        offsets = inl refl;
       }))
 
       pub make_directory_keeps : Keeps (plain k (record { kind = Directory; parent = p; name = name; bytes = [] }))

@@ -38,7 +38,7 @@ pub writers_of_cells : (w : ℕ) (bytes : List ℕ) → map writer_of (map (λ b
 writers_of_cells w [] = refl
 writers_of_cells w (b ∷ bytes) = ap (λ x. Some w ∷ x) (writers_of_cells w bytes)
 
--- ---- how many places a version wrote
+-- ---- how many bytes a version wrote
 abbrev pub counted : ℕ → List Cell → ℕ
 counted v c = count_by (λ w. eqb w v) (flat_map option_to_list (map writer_of c))
 

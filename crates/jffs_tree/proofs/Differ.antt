@@ -13,7 +13,7 @@ use Rattle.jffs_tree.specs.Check.{names_differ}
 use Rattle.jffs_tree.specs.Look.{stands_first}
 use Rattle.jffs_tree.proofs.Maps.{t_true, is_less}
 
--- one entry stands in the place of another
+-- one entry stands instead of another
 abbrev same_name : (ℕ × Entry) → (ℕ × Entry) → Bool
 same_name e f = is_child e.1.parent e.1.name f
 
@@ -34,7 +34,7 @@ module _ (e : ℕ × Entry) (s : State) where
   own_first : stands_first (e ∷ s) e ≡ true
   own_first = ap (λ b. option_map_or (λ c. eqb c e.0) (option_map (λ x. x.0) (cond b (Some e) (lists.find (is_child e.1.parent e.1.name) s))) false) (own_name e) ∙ eq-eqb e.0 e.0 refl
 
-  -- behind the first entry
+  -- after the first entry
   later_first : (f : ℕ × Entry) → is_lt (nat_cmp e.0 f.0) ≡ true → stands_first (e ∷ s) f ≡ (not (same_name e f) && stands_first s f)
   later_first f low = by_name (same_name f e) refl
     where

@@ -18,9 +18,9 @@ use Rattle.std.proofs.lemmas.Slice.Eq.{bytes_eq-Decides}
 use Rattle.jffs_tree.specs.State.{Entry, State, is_directory_in}
 use Rattle.jffs_tree.specs.Origin.{Held, Tree, state_in}
 use Rattle.jffs_tree.specs.After.{held_in}
-use Rattle.jffs_tree.specs.Index.{Place, place_cmp, has_place, stands_at, name_under, names_under, IsIndexOf}
+use Rattle.jffs_tree.specs.Index.{ChildKey, key_cmp, has_child, stands_at, name_under, names_under, IsIndexOf}
 use Rattle.jffs_tree.specs.Look.{name_cmp, children, names_in}
-use Rattle.jffs_tree.proofs.PlaceOrder.{same_place, own_place, nat_tied, then_tied}
+use Rattle.jffs_tree.proofs.KeyOrder.{same_key, own_key, nat_tied, then_tied}
 use Rattle.jffs_tree.proofs.Indexed.{names}
 use Rattle.jffs_tree.proofs.Maps.{behind, tail_sorted}
 use Rattle.jffs_tree.proofs.Listed.{by_name}
@@ -59,31 +59,31 @@ absent z tree sorted = by_held (held_in tree z.0) refl
     by_held (Some h) is = let no = behind z tree z.0 h sorted is in absurd (omega arith)
 
 module _ (p : ℕ) (q : List ℕ × ℕ) where
-  abbrev place : Place
-  place = (p, Some q.0, q.1)
+  abbrev key : ChildKey
+  key = (p, Some q.0, q.1)
 
-  -- of one place
-  at_place : (k : Place) → list_any (same_name q) (name_under p k) ≡ is_at (place_cmp place) k
-  at_place k = both_ways (list_any (same_name q) (name_under p k)) (is_at (place_cmp place) k)
-      (by_name p (λ xs. list_any (same_name q) xs ≡ true → is_at (place_cmp place) k ≡ true) k (λ no. cc)
+  -- of one key
+  at_key : (k : ChildKey) → list_any (same_name q) (name_under p k) ≡ is_at (key_cmp key) k
+  at_key k = both_ways (list_any (same_name q) (name_under p k)) (is_at (key_cmp key) k)
+      (by_name p (λ xs. list_any (same_name q) xs ≡ true → is_at (key_cmp key) k ≡ true) k (λ no. cc)
       (λ a at is yes.
       let e = tells q (a, k.2) (sym (or-false (same_name q (a, k.2))) ∙ yes) in
       let x = sym (eqb-true k.0 p at) in
       let y = ap (λ (t : List ℕ × ℕ). Some t.0) e ∙ sym is in
       let z = ap (λ (t : List ℕ × ℕ). t.1) e in
-      let it : place ≡ k = λ i. (x i, y i, z i) in
-      ap (λ t. is_at (place_cmp t) k) it ∙ own_place k))
+      let it : key ≡ k = λ i. (x i, y i, z i) in
+      ap (λ t. is_at (key_cmp t) k) it ∙ own_key k))
       (λ h.
-      ap (λ t. list_any (same_name q) (name_under p t)) (sym (same_place place k h))
+      ap (λ t. list_any (same_name q) (name_under p t)) (sym (same_key key k h))
       ∙ ap (λ b. list_any (same_name q) (cond b ((q.0, q.1) ∷ []) [])) (eq-eqb p p refl)
       ∙ ap (λ b. b || false) (own q))
 
-  in_index : (places : List Place) → list_any (same_name q) (names_under p places) ≡ has_place places place
+  in_index : (keys : List ChildKey) → list_any (same_name q) (names_under p keys) ≡ has_child keys key
   in_index [] = refl
-  in_index (k ∷ places) =
-      list_any-append (same_name q) (name_under p k) (names_under p places)
-      ∙ ap (λ b. b || list_any (same_name q) (names_under p places)) (at_place k)
-      ∙ ap (λ b. is_at (place_cmp place) k || b) (in_index places)
+  in_index (k ∷ keys) =
+      list_any-append (same_name q) (name_under p k) (names_under p keys)
+      ∙ ap (λ b. b || list_any (same_name q) (names_under p keys)) (at_key k)
+      ∙ ap (λ b. is_at (key_cmp key) k || b) (in_index keys)
 
   -- of one inode
   one_child : (b : Bool) (e : ℕ × Entry) (s : State) → list_any (same_name q) (map (λ x. (x.1.name, x.0)) (cond b (e ∷ s) s)) ≡ ((b && same_name q (e.1.name, e.0)) || list_any (same_name q) (map (λ x. (x.1.name, x.0)) s))
@@ -99,7 +99,7 @@ module _ (p : ℕ) (q : List ℕ × ℕ) where
   it_not true b d e = ap (λ x. x || d) e
   it_not false b d e = refl
 
-  in_tree : (tree : Tree) → T (entries.is_sorted nat_cmp tree) → list_any (same_name q) (children p (state_in tree)) ≡ stands_at tree place
+  in_tree : (tree : Tree) → T (entries.is_sorted nat_cmp tree) → list_any (same_name q) (children p (state_in tree)) ≡ stands_at tree key
   in_tree [] sorted = refl
   in_tree (z ∷ tree) sorted =
       let h = z.1.entry in
@@ -144,20 +144,20 @@ module _ (p : ℕ) where
         | false ↦ rest
       ]
 
-  index_lists : (tree : Tree) (places : List Place) → T (entries.is_sorted nat_cmp tree) → IsIndexOf tree places → IsStrictlySortedBy name_cmp (names_under p places)
-      → IsPermutation (children p (state_in tree)) (names_under p places)
-  index_lists tree places sorted index rising =
-      same_members same_name tells own (children p (state_in tree)) (names_under p places) (children_differ tree sorted) (IsDistinct-from_sorted name_cmp (names_under p places) rising)
-      (λ q. in_tree p q tree sorted ∙ sym (index (p, Some q.0, q.1)) ∙ sym (in_index p q places))
+  index_lists : (tree : Tree) (keys : List ChildKey) → T (entries.is_sorted nat_cmp tree) → IsIndexOf tree keys → IsStrictlySortedBy name_cmp (names_under p keys)
+      → IsPermutation (children p (state_in tree)) (names_under p keys)
+  index_lists tree keys sorted index rising =
+      same_members same_name tells own (children p (state_in tree)) (names_under p keys) (children_differ tree sorted) (IsDistinct-from_sorted name_cmp (names_under p keys) rising)
+      (λ q. in_tree p q tree sorted ∙ sym (index (p, Some q.0, q.1)) ∙ sym (in_index p q keys))
 
   -- the list that was read from the index of a tree
-  pub lists_directory : (tree seen : Tree) (places : List Place) (names : List (List ℕ × ℕ)) → tree ≡ seen → IsTrue (entries.is_sorted nat_cmp tree) → IsIndexOf tree places
-      → is_directory_in (state_in seen) p ≡ true → names ≡ names_under p places → IsStrictlySortedBy name_cmp names → IsPermutation (names_in seen p) names
-  lists_directory tree seen places names view sorted index is_dir all rising =
+  pub lists_directory : (tree seen : Tree) (keys : List ChildKey) (names : List (List ℕ × ℕ)) → tree ≡ seen → IsTrue (entries.is_sorted nat_cmp tree) → IsIndexOf tree keys
+      → is_directory_in (state_in seen) p ≡ true → names ≡ names_under p keys → IsStrictlySortedBy name_cmp names → IsPermutation (names_in seen p) names
+  lists_directory tree seen keys names view sorted index is_dir all rising =
       let rises = subst (λ xs. IsStrictlySortedBy name_cmp xs) all rising in
       subst (λ b. IsPermutation (cond b (children p (state_in seen)) []) names) (sym is_dir)
       (subst (λ t. IsPermutation (children p (state_in t)) names) view
-      (subst (λ xs. IsPermutation (children p (state_in tree)) xs) (sym all) (index_lists tree places (subst T (sym sorted) tt) index rises)))
+      (subst (λ xs. IsPermutation (children p (state_in tree)) xs) (sym all) (index_lists tree keys (subst T (sym sorted) tt) index rises)))
 
 pub from_both : {X E : Type 0} (r : Result X E) (P Q R : X → Type 0) → ((x : X) → P x → Q x → R x) → IfOk r P → IfOk r Q → IfOk r R
 from_both (Ok x) P Q R f p q = f x p q

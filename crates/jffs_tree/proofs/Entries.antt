@@ -12,9 +12,9 @@ use Rattle.jffs_node.specs.Name.{is_name}
 use Rattle.jffs_node.specs.Record.{dsize, file_max, is_file, is_unmount, kind_byte, kind_numbers, is_lawful, name_bytes}
 use Rattle.jffs_tree.specs.State.{Entry, bytes_of, sized, written}
 use Rattle.jffs_tree.specs.Origin.{concerns, entry, size_in}
-use Rattle.jffs_tree.specs.Check.{keeps_kind, keeps_places, keeps_form, each_fits}
+use Rattle.jffs_tree.specs.Check.{keeps_kind, keeps_offsets, keeps_form, each_fits}
 use Rattle.jffs_tree.proofs.Applied.{small}
-use Rattle.jffs_tree.proofs.Places.{spliced, length-spliced, length-sized}
+use Rattle.jffs_tree.proofs.Offsets.{spliced, length-spliced, length-sized}
 use Rattle.jffs_tree.proofs.Steps.{not_unmount, its_inode, entry-other, entry-deleted, entry-written, rewritten, where_is, byte_inside, byte_outside}
 use Rattle.jffs_node.proofs.Lawfulness.{fields_of, rules_of, file_numbers, directory_numbers, which_kind, has_name, each_small}
 
@@ -42,8 +42,8 @@ same_byte Unmount Unmount h = refl
 -- no file grows too long
 not_longer : (size : Option ℕ) (c b : List ℕ) (o r : ℕ) → o + length b ≤ file_max → length c ≤ file_max → (length b ≡ r) ⊎ (length c ≤ o + r) → unwrap_or size 0 ≤ file_max
     → length (sized size (spliced c o r b)) ≤ file_max
-not_longer None c b o r range was places stated = let e = length-spliced 0 c o r b in ⊎_elim (λ same. omega arith) (λ last. omega arith) places
-not_longer (Some k) c b o r range was places stated = let e = length-sized 0 k (spliced c o r b) in omega arith
+not_longer None c b o r range was offsets stated = let e = length-spliced 0 c o r b in ⊎_elim (λ same. omega arith) (λ last. omega arith) offsets
+not_longer (Some k) c b o r range was offsets stated = let e = length-sized 0 k (spliced c o r b) in omega arith
 
 -- nothing is put into nothing
 still_empty : (size : Option ℕ) (c b : List ℕ) (o r : ℕ) → size ≡ None → c ≡ [] → o ≡ 0 → length b ≡ 0 → sized size (spliced c o r b) ≡ []
@@ -54,7 +54,7 @@ still_empty None c b o r none was start nothing =
 still_empty (Some k) c b o r none was start nothing = cc
 
 module _ (n : Node) (past : List Node) (lawful : is_lawful n ≡ true) (stands : is_unmount n.kind ≡ false) (d : n.deleted ≡ false)
-    (kind : keeps_kind past n ≡ true) (places : keeps_places past n ≡ true) (was : (e : Entry) → entry past n.inode ≡ Some e → IsLawfulEntry n.inode e) where
+    (kind : keeps_kind past n ≡ true) (offsets : keeps_offsets past n ≡ true) (was : (e : Entry) → entry past n.inode ≡ Some e → IsLawfulEntry n.inode e) where
   old_amount : length (bytes_of (entry past n.inode)) ≤ file_max
   old_amount = by_entry (entry past n.inode) refl
     where
@@ -107,17 +107,17 @@ module _ (n : Node) (past : List Node) (lawful : is_lawful n ≡ true) (stands :
         parent_low = numbers.parent;
         parent_high = fields.parent;
         name = its_name;
-        amount = not_longer n.size (bytes_of (entry past n.inode)) n.bytes n.offset n.rsize numbers.range old_amount places_kept (small n lawful).size;
+        amount = not_longer n.size (bytes_of (entry past n.inode)) n.bytes n.offset n.rsize numbers.range old_amount offsets_kept (small n lawful).size;
         small = new_small;
         kind = inl is;
       }
     where
-      places_kept : (dsize n ≡ n.rsize) ⊎ (length (bytes_of (entry past n.inode)) ≤ n.offset + n.rsize)
-      places_kept = ⊎_elim
+      offsets_kept : (dsize n ≡ n.rsize) ⊎ (length (bytes_of (entry past n.inode)) ≤ n.offset + n.rsize)
+      offsets_kept = ⊎_elim
           (λ same. inl (eqb-true (dsize n) n.rsize same))
           (λ last. inr (leb-true (size_in past n.inode) (n.offset + n.rsize) last))
           (or_cases (eqb (dsize n) n.rsize) (leb (size_in past n.inode) (n.offset + n.rsize))
-          (sym (ap (λ k. (not (is_file k) || eqb (dsize n) n.rsize) || leb (size_in past n.inode) (n.offset + n.rsize)) is) ∙ places))
+          (sym (ap (λ k. (not (is_file k) || eqb (dsize n) n.rsize) || leb (size_in past n.inode) (n.offset + n.rsize)) is) ∙ offsets))
 
   directory_written : n.kind ≡ Directory → IsLawfulEntry n.inode (written n (entry past n.inode))
   directory_written is =
@@ -143,17 +143,17 @@ module _ (n : Node) (past : List Node) (lawful : is_lawful n ≡ true) (stands :
   lawful_written = ⊎_elim (λ file. file_written file) (λ directory. directory_written directory) (which_kind n.kind stands)
 
 -- A node of a list that fits fits at its turn.
-pub fits_parts : (n : Node) (past : List Node) → each_fits (n ∷ past) ≡ true → (each_fits past ≡ true) × (keeps_kind past n ≡ true) × (keeps_places past n ≡ true) × (keeps_form past n ≡ true)
+pub fits_parts : (n : Node) (past : List Node) → each_fits (n ∷ past) ≡ true → (each_fits past ≡ true) × (keeps_kind past n ≡ true) × (keeps_offsets past n ≡ true) × (keeps_form past n ≡ true)
 fits_parts n past h =
-    let a = and_parts (each_fits past && keeps_kind past n && keeps_places past n) (keeps_form past n) h in
-    let b = and_parts (each_fits past && keeps_kind past n) (keeps_places past n) a.0 in
+    let a = and_parts (each_fits past && keeps_kind past n && keeps_offsets past n) (keeps_form past n) h in
+    let b = and_parts (each_fits past && keeps_kind past n) (keeps_offsets past n) a.0 in
     let c = and_parts (each_fits past) (keeps_kind past n) b.0 in
     (c.0, c.1, b.1, a.1)
 
-pub each_fits_from : (n : Node) (past : List Node) → each_fits past ≡ true → keeps_kind past n ≡ true → keeps_places past n ≡ true → keeps_form past n ≡ true → each_fits (n ∷ past) ≡ true
+pub each_fits_from : (n : Node) (past : List Node) → each_fits past ≡ true → keeps_kind past n ≡ true → keeps_offsets past n ≡ true → keeps_form past n ≡ true → each_fits (n ∷ past) ≡ true
 each_fits_from n past a k p f =
-    and_from ((each_fits past && keeps_kind past n) && keeps_places past n) (keeps_form past n)
-    (and_from (each_fits past && keeps_kind past n) (keeps_places past n) (and_from (each_fits past) (keeps_kind past n) a k) p) f
+    and_from ((each_fits past && keeps_kind past n) && keeps_offsets past n) (keeps_form past n)
+    (and_from (each_fits past && keeps_kind past n) (keeps_offsets past n) (and_from (each_fits past) (keeps_kind past n) a k) p) f
 
 pub lawful_entry : (past : List Node) (i : ℕ) (e : Entry) → AllByRecursion (λ n. IsTrue (is_lawful n)) past → each_fits past ≡ true → entry past i ≡ Some e → IsLawfulEntry i e
 lawful_entry [] i e lawful fits is = cc

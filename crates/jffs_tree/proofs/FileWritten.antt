@@ -72,7 +72,7 @@ drop_past k xs l = nil_from_length (drop k xs) (let e = length-drop k xs in omeg
 length_padded : (k : ℕ) (c : List Cell) → length (padded_with None k c) ≡ length c + (k - length c)
 length_padded k c = length-append c (replicate {A = Cell} (k - length c) None) ∙ ap (λ n. length c + n) (length-replicate {A = Cell} (k - length c) None)
 
--- Where no byte behind the range moves: the data cover as much as they remove.
+-- Where no byte after the range moves: the data cover as much as they remove.
 module _ (n : Node) (size : ℕ) (es : Fragments) (h : AreLaid 0 size es) (same : dsize n ≡ n.rsize) (cut : AreCut (n.offset + dsize n) es) where
   pub back_stays : AreLaid (n.offset + dsize n) (max (n.offset + dsize n) size) (from (n.offset + dsize n) es)
   back_stays = ⊎_elim
@@ -100,7 +100,7 @@ module _ (n : Node) (size : ℕ) (es : Fragments) (h : AreLaid 0 size es) (same 
       ∙ ap (drop (n.offset + n.rsize)) (sym (ap (λ k. laid 0 size es ++ replicate {A = Cell} k None) gap ∙ append-nil (laid 0 size es))))
       (cases_lt size (n.offset + dsize n))
 
--- Where the range reaches the end of the file: nothing is behind it.
+-- Where the range reaches the end of the file: nothing is after it.
 module _ (n : Node) (size : ℕ) (es : Fragments) (h : AreLaid 0 size es) (small : size ≤ file_max) (last : size ≤ n.offset + n.rsize) where
   none_left : from file_max es ≡ []
   none_left = none_from 0 size file_max es h small
@@ -147,7 +147,7 @@ pub record Spliced (n : Node) (size : ℕ) (es : Fragments) (after : ℕ) (now :
 pub spliced_moving : (n : Node) (size : ℕ) (es now : Fragments) → AreLaid 0 size es → FitsFile n size → AreCut n.offset es → dsize n ≢ n.rsize → now ≡ overwritten file_max n es
     → Spliced n size es (n.offset + dsize n) now
 spliced_moving n size es now h fits cut moves is =
-    let last = fits.places moves in
+    let last = fits.offsets moves in
     let back = back_gone n size es h fits.small last in
     let rest = rest_gone n size es h fits.small last in
     record {
@@ -170,7 +170,7 @@ spliced_staying n size es now h fits cut end same is =
       cells = ap (laid 0 after) is ∙ overwritten_cells n size (n.offset + dsize n) after es h cut back rest;
     }
 
--- where the range ends: behind all fragments where bytes behind it would move, else behind the data
+-- where the range ends: after all fragments where bytes after it would move, else after the data
 abbrev pub Ends : Node → ℕ → ℕ → Type 0
 Ends n amount end = ((amount ≢ n.rsize) × (end ≡ file_max)) ⊎ ((amount ≡ n.rsize) × (end ≡ n.offset + amount))
 

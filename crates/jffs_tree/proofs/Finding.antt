@@ -63,7 +63,7 @@ module _ (v : ℕ) (y : ℕ × Held) (ys : Tree) where
   first_holds : (b : Bool) → list_any (λ w. eqb w v) (versions_held y) ≡ b → ltb 0 (held_marks (y ∷ ys) v y.0) ≡ b
   first_holds b h = ap (λ n. ltb 0 n) at_first_marks ∙ counts_any (λ w. eqb w v) (versions_held y) ∙ h
 
-  -- marks behind the first are marks of the whole
+  -- marks after the first are marks of the whole
   in_rest : T (entries.is_sorted nat_cmp (y ∷ ys)) → (j : ℕ) → 0 < held_marks ys v j → held_marks (y ∷ ys) v j ≡ held_marks ys v j
   in_rest sorted j some = at_other_marks j (ne_eqb j y.0 (λ same. let none = no_marks v y ys sorted in let e = ap (λ k. held_marks ys v k) same in omega (arith, some, none, e)))
 

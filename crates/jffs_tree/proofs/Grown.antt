@@ -12,11 +12,11 @@ use Rattle.std.proofs.lemmas.List.FromFn.{length-map-range_with_len, get_or-map-
 use Rattle.jffs_node.specs.declared.node.Node.{Node}
 use Rattle.jffs_node.specs.Record.{dsize, is_unmount}
 use Rattle.jffs_tree.specs.State.{Entry, State, at, written, bytes_of, state_of_past}
-use Rattle.jffs_tree.specs.Origin.{Held, Tree, concerns, entry, size_in, place_before, origin, held, writers_of, version_of, has_size, tree_of}
+use Rattle.jffs_tree.specs.Origin.{Held, Tree, concerns, entry, size_in, offset_before, origin, held, writers_of, version_of, has_size, tree_of}
 use Rattle.jffs_tree.specs.After.{spliced_with, held_in, writers_after, held_after, tree_after}
 use Rattle.jffs_tree.proofs.Pointwise.{find-step, sorted-step, at-state, sorted-state}
 use Rattle.jffs_tree.proofs.Steps.{entry-other, entry-deleted, entry-written, newest-other, newest-written, origin-other, origin-written, origin-moved, origin-padding, where_is, Inside, Outside, rewritten}
-use Rattle.jffs_tree.proofs.Places.{same_length, read_sized, read_before, read_written, read_after}
+use Rattle.jffs_tree.proofs.Offsets.{same_length, read_sized, read_before, read_written, read_after}
 
 -- what is held of an inode, after the node
 abbrev found_after : Tree → Node → ℕ → Option Held
@@ -59,7 +59,7 @@ module _ (past : List Node) where
   entry_held i None = refl
   entry_held i (Some e) = refl
 
--- The last writers after a node, place by place.
+-- The last writers after a node, byte by byte.
 pub size_said : (o : Option ℕ) → option_map_or (λ _. true) o false ≡ is_some o
 size_said None = refl
 size_said (Some k) = refl
@@ -87,12 +87,12 @@ module _ (i : ℕ) (n : Node) (past : List Node) (c : concerns i n ≡ true) (d 
       ∙ ap version_of (sym (origin-written i n past p c d w.0)))
       (λ (w : Outside n p).
       moved p w ∙ ⊎_elim
-      (λ there. read_writers past i (place_before n p) there ∙ ap version_of (sym (origin-moved i n past p c d w.0 there)))
-      (λ beyond. get_or_past (writers_of past i) (place_before n p) None (let k = length-writers past i in omega arith) ∙ ap version_of (sym (origin-padding i n past p c d w.0 beyond)))
-      (cases_lt (place_before n p) (size_in past i)))
+      (λ there. read_writers past i (offset_before n p) there ∙ ap version_of (sym (origin-moved i n past p c d w.0 there)))
+      (λ beyond. get_or_past (writers_of past i) (offset_before n p) None (let k = length-writers past i in omega arith) ∙ ap version_of (sym (origin-padding i n past p c d w.0 beyond)))
+      (cases_lt (offset_before n p) (size_in past i)))
       (where_is n p)
     where
-      moved : (p : ℕ) → Outside n p → get_or (spliced_with None n.offset n.rsize (replicate (dsize n) (Some n.version)) (writers_of past i)) p None ≡ get_or (writers_of past i) (place_before n p) None
+      moved : (p : ℕ) → Outside n p → get_or (spliced_with None n.offset n.rsize (replicate (dsize n) (Some n.version)) (writers_of past i)) p None ≡ get_or (writers_of past i) (offset_before n p) None
       moved p w = ⊎_elim
           (λ before. read_before None (writers_of past i) n.offset n.rsize (replicate (dsize n) (Some n.version)) p before.0 ∙ ap (λ q. get_or (writers_of past i) q None) (sym before.1))
           (λ behind.

@@ -14,7 +14,7 @@ use Rattle.jffs_tree.proofs.Copies.{same_bytes}
 use Rattle.std.proofs.lemmas.Slice.Eq.{bytes_eq-Decides}
 use Rattle.std.proofs.lemmas.Option.{same_Some}
 
--- The rules of a state, inode by inode, with so many names at most from the root to an inode.
+-- The rules of a state, inode by inode, with at most `most` names from the root to an inode.
 pub record IsOrderly (most : ℕ) (s : State) : Type 0 where
   pub parents : (j : ℕ) (f : Entry) → at s j ≡ Some f → is_directory_in s f.parent ≡ true
   pub names : (j k : ℕ) (f g : Entry) → at s j ≡ Some f → at s k ≡ Some g → f.parent ≡ g.parent → f.name ≡ g.name → j ≡ k

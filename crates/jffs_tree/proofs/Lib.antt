@@ -5,7 +5,7 @@ pub mod Erasing
 pub mod Live
 pub mod Copies
 pub mod Rules
-mod Places
+mod Offsets
 pub mod Grown
 pub mod Maps
 pub mod Marking
@@ -18,7 +18,7 @@ pub mod Applied
 pub mod Looked
 pub mod There
 pub mod WholeTree
-pub mod PlaceOrder
+pub mod KeyOrder
 pub mod Indexed
 pub mod Listed
 pub mod Members

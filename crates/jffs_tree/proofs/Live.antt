@@ -36,7 +36,7 @@ newest_is_live past i e m is n = live_by past m.version i e is (
     list_any-append (λ w. eqb w m.version) (option_to_list (version_of (newest past i))) (flat_map option_to_list (writers_of past i))
     ∙ or_left _ _ (ap (λ o. list_any (λ w. eqb w m.version) (option_to_list (version_of o))) n ∙ or_left (eqb m.version m.version) false (eq-eqb m.version m.version refl)))
 
--- a version that stands at a place of a range
+-- a version that stands at an offset of a range
 in_range : (f : ℕ → Option ℕ) (v n a p : ℕ) → a ≤ p → p < a + n → f p ≡ Some v → list_any (λ w. eqb w v) (flat_map option_to_list (map f (range_with_len a n))) ≡ true
 in_range f v zero a p low high is = absurd (omega arith)
 in_range f v (suc n) a p low high is =

@@ -51,7 +51,7 @@ module _ {X : Type 0} where
   pub sorted_map : (es : List (ℕ × X)) → IsStrictlySortedBy nat_cmp (map (λ e. e.0) es) → T (entries.is_sorted nat_cmp es)
   sorted_map es h = sorted_by nat_cmp es h
 
-  -- The first entry of a sorted map, and those behind it.
+  -- The first entry of a sorted map, and those after it.
   pub tail_sorted : (e : ℕ × X) (es : List (ℕ × X)) → T (entries.is_sorted nat_cmp (e ∷ es)) → T (entries.is_sorted nat_cmp es)
   tail_sorted e es h = subst T (sym (and_parts (entries.below_all nat_cmp e.0 es) (entries.is_sorted nat_cmp es) (t_true _ h)).1) tt
 

@@ -8,7 +8,7 @@ use Rattle.jffs_node.specs.declared.node.Node.{Node}
 use Rattle.jffs_node.specs.Record.{dsize}
 use Rattle.jffs_tree.specs.Origin.{Held, Tree, versions_held}
 use Rattle.jffs_tree.specs.After.{held_in, held_after, without_inode, IsWritten}
-use Rattle.jffs_tree.specs.Marks.{Counts, mark_of, HaveMore, SameMarks, places_by, brought_by, places_in, MovesMarks, MovesMarksIn, HasPlaces, LosesPlaces, held_marks, AreMarksOf}
+use Rattle.jffs_tree.specs.Marks.{Counts, mark_of, HaveMore, SameMarks, bytes_by, brought_by, bytes_by_in, MovesMarks, MovesMarksIn, HasByteMarks, LosesByteMarks, held_marks, AreMarksOf}
 use Rattle.jffs_tree.proofs.Marking.{turned}
 use Rattle.jffs_tree.proofs.Pointwise.{find_without}
 
@@ -16,10 +16,10 @@ use Rattle.jffs_tree.proofs.Pointwise.{find_without}
 abbrev pub newest_marks : Tree → ℕ → ℕ → ℕ
 newest_marks tree v i = option_map_or (λ h. count_by (λ w. eqb w v) (option_to_list h.newest)) (held_in tree i) 0
 
-pub in_parts : (tree : Tree) (v i : ℕ) → held_marks tree v i ≡ newest_marks tree v i + places_in tree v i
+pub in_parts : (tree : Tree) (v i : ℕ) → held_marks tree v i ≡ newest_marks tree v i + bytes_by_in tree v i
 in_parts tree v i = by_held (held_in tree i)
   where
-    by_held : (o : Option Held) → option_map_or (λ h. count_by (λ w. eqb w v) (versions_held (i, h))) o 0 ≡ option_map_or (λ h. count_by (λ w. eqb w v) (option_to_list h.newest)) o 0 + option_map_or (λ h. places_by v h) o 0
+    by_held : (o : Option Held) → option_map_or (λ h. count_by (λ w. eqb w v) (versions_held (i, h))) o 0 ≡ option_map_or (λ h. count_by (λ w. eqb w v) (option_to_list h.newest)) o 0 + option_map_or (λ h. bytes_by v h) o 0
     by_held None = refl
     by_held (Some h) = sum_by-append (λ w. cond (eqb w v) 1 0) (option_to_list h.newest) (flat_map option_to_list h.writers)
 
@@ -41,7 +41,7 @@ newest_is tree v i k is = by_held (held_in tree i) is
 
 module _ (old : Tree) (n : Node) (m0 m1 : Counts) (marked : AreMarksOf old m0) (raised : HaveMore m0 m1 n.version n.inode (dsize n + 1)) where
   -- what a raise leaves in the node's inode
-  raised_here : (v : ℕ) → mark_of m1 v n.inode ≡ newest_marks old v n.inode + places_in old v n.inode + cond (eqb v n.version) (dsize n + 1) 0
+  raised_here : (v : ℕ) → mark_of m1 v n.inode ≡ newest_marks old v n.inode + bytes_by_in old v n.inode + cond (eqb v n.version) (dsize n + 1) 0
   raised_here v =
       let e : mark_of m0 v n.inode + cond (eqb v n.version && eqb n.inode n.inode) (dsize n + 1) 0 ≡ mark_of m1 v n.inode = raised v n.inode in
       let f : cond (eqb v n.version && eqb n.inode n.inode) (dsize n + 1) 0 ≡ cond (eqb v n.version) (dsize n + 1) 0 = own (eqb v n.version) in
@@ -68,7 +68,7 @@ module _ (old : Tree) (n : Node) (m0 m1 : Counts) (marked : AreMarksOf old m0) (
       none true = refl
       none false = refl
 
-  -- The write took place: the marks are those of the new tree, and of the old newest.
+  -- The write was done: the marks are those of the new tree, and of the old newest.
   module _ (new : Tree) (m2 : Counts) (w : IsWritten old new n) (moved : MovesMarksIn m1 m2 n old new) where
     found_here : held_in new n.inode ≡ Some (held_after n (held_in old n.inode))
     found_here = w.found n.inode ∙ ap (λ b. cond b (Some (held_after n (held_in old n.inode))) (held_in old n.inode)) (eq-eqb n.inode n.inode refl)
@@ -79,8 +79,8 @@ module _ (old : Tree) (n : Node) (m0 m1 : Counts) (marked : AreMarksOf old m0) (
     here : (v : ℕ) → mark_of m2 v n.inode ≡ held_marks new v n.inode + newest_marks old v n.inode
     here v =
         let same = eq-eqb n.inode n.inode refl in
-        let e : mark_of m2 v n.inode + (places_in old v n.inode + brought_by v n) ≡ mark_of m1 v n.inode + places_in new v n.inode =
-        sym (ap (λ b. mark_of m2 v n.inode + cond b (places_in old v n.inode + brought_by v n) 0) same) ∙ moved v n.inode ∙ ap (λ b. mark_of m1 v n.inode + cond b (places_in new v n.inode) 0) same in
+        let e : mark_of m2 v n.inode + (bytes_by_in old v n.inode + brought_by v n) ≡ mark_of m1 v n.inode + bytes_by_in new v n.inode =
+        sym (ap (λ b. mark_of m2 v n.inode + cond b (bytes_by_in old v n.inode + brought_by v n) 0) same) ∙ moved v n.inode ∙ ap (λ b. mark_of m1 v n.inode + cond b (bytes_by_in new v n.inode) 0) same in
         let f = raised_here v in
         let g = by_version (eqb v n.version) in
         let h = newest_here v in
@@ -90,7 +90,7 @@ module _ (old : Tree) (n : Node) (m0 m1 : Counts) (marked : AreMarksOf old m0) (
     others : (v i : ℕ) → eqb i n.inode ≡ false → mark_of m2 v i ≡ held_marks new v i
     others v i other =
         let e : mark_of m2 v i + 0 ≡ mark_of m1 v i + 0 =
-        sym (ap (λ b. mark_of m2 v i + cond b (places_in old v i + brought_by v n) 0) other) ∙ moved v i ∙ ap (λ b. mark_of m1 v i + cond b (places_in new v i) 0) other in
+        sym (ap (λ b. mark_of m2 v i + cond b (bytes_by_in old v i + brought_by v n) 0) other) ∙ moved v i ∙ ap (λ b. mark_of m1 v i + cond b (bytes_by_in new v i) 0) other in
         let f = elsewhere v i other in
         let same : held_in new i ≡ held_in old i = w.found i ∙ ap (λ b. cond b (Some (held_after n (held_in old i))) (held_in old i)) (turned n.inode i ∙ other) in
         let g : held_marks new v i ≡ held_marks old v i = ap (λ (o : Option Held). option_map_or (λ h. count_by (λ w. eqb w v) (versions_held (i, h))) o 0) same in
@@ -134,21 +134,21 @@ same_marks_of tree m n marked same v i = same v i ∙ marked v i
 
 -- An inode that is taken away.
 module _ (old : Tree) (i : ℕ) (h : Held) (k : ℕ) (is : held_in old i ≡ Some h) (newest : h.newest ≡ Some k) (m0 : Counts) (marked : AreMarksOf old m0) where
-  split_here : (v : ℕ) → mark_of m0 v i ≡ cond (eqb v k) 1 0 + places_by v h
+  split_here : (v : ℕ) → mark_of m0 v i ≡ cond (eqb v k) 1 0 + bytes_by v h
   split_here v =
       let e = marked v i in
       let f = in_parts old v i in
       let g = newest_is old v i k (ap (λ o. option_map (λ x. x.newest) o) is ∙ ap (λ o. Some o) newest) in
-      let p : places_in old v i ≡ places_by v h = ap (λ o. option_map_or (λ x. places_by v x) o 0) is in
+      let p : bytes_by_in old v i ≡ bytes_by v h = ap (λ o. option_map_or (λ x. bytes_by v x) o 0) is in
       omega (arith, e, f, g, p)
 
-  pub has_places : HasPlaces m0 i h
-  has_places v = let e = split_here v in omega (arith, e)
+  pub has_byte_marks : HasByteMarks m0 i h
+  has_byte_marks v = let e = split_here v in omega (arith, e)
 
-  module _ (m1 : Counts) (lost : LosesPlaces m0 m1 i h) where
+  module _ (m1 : Counts) (lost : LosesByteMarks m0 m1 i h) where
     lost_here : (v : ℕ) → mark_of m1 v i ≡ cond (eqb v k) 1 0
     lost_here v =
-        let e : mark_of m1 v i + places_by v h ≡ mark_of m0 v i = sym (ap (λ b. mark_of m1 v i + cond b (places_by v h) 0) (eq-eqb i i refl)) ∙ lost v i in
+        let e : mark_of m1 v i + bytes_by v h ≡ mark_of m0 v i = sym (ap (λ b. mark_of m1 v i + cond b (bytes_by v h) 0) (eq-eqb i i refl)) ∙ lost v i in
         let f = split_here v in
         omega (arith, e, f)
 
@@ -168,7 +168,7 @@ module _ (old : Tree) (i : ℕ) (h : Held) (k : ℕ) (is : held_in old i ≡ Som
         (λ other.
         let kept : held_in (without_inode old i) j ≡ held_in old j = find_without i old j ∙ ap (λ b. cond b None (held_in old j)) (turned i j ∙ other) in
         let e : mark_of m2 v j + 0 ≡ mark_of m1 v j = sym (ap (λ b. mark_of m2 v j + cond (eqb v k && b) 1 0) other ∙ none (eqb v k) (mark_of m2 v j)) ∙ less v j in
-        let f : mark_of m1 v j + 0 ≡ mark_of m0 v j = sym (ap (λ b. mark_of m1 v j + cond b (places_by v h) 0) other) ∙ lost v j in
+        let f : mark_of m1 v j + 0 ≡ mark_of m0 v j = sym (ap (λ b. mark_of m1 v j + cond b (bytes_by v h) 0) other) ∙ lost v j in
         let g : held_marks (without_inode old i) v j ≡ held_marks old v j = ap (λ (o : Option Held). option_map_or (λ x. count_by (λ w. eqb w v) (versions_held (j, x))) o 0) kept in
         let r = marked v j in
         omega (arith, e, f, g, r))
@@ -187,25 +187,25 @@ under : (b : Bool) (x y : ℕ) → (b ≡ true → x ≡ y) → cond b x 0 ≡ c
 under true x y h = h refl
 under false x y h = refl
 
--- An inode that is present, written in place.
+-- An inode that is present, written over.
 module _ (old : Tree) (n : Node) (h : Held) (is : held_in old n.inode ≡ Some h) (m : Counts) where
-  places_are : (tree : Tree) (x : Held) → held_in tree n.inode ≡ Some x → (v : ℕ) → places_in tree v n.inode ≡ places_by v x
-  places_are tree x at v = ap (λ o. option_map_or (λ y. places_by v y) o 0) at
+  bytes_by_are : (tree : Tree) (x : Held) → held_in tree n.inode ≡ Some x → (v : ℕ) → bytes_by_in tree v n.inode ≡ bytes_by v x
+  bytes_by_are tree x at v = ap (λ o. option_map_or (λ y. bytes_by v y) o 0) at
 
   pub moved_own : (new : Tree) (x : Held) (k : Counts) → held_in new n.inode ≡ Some x → MovesMarks m k n h x → MovesMarksIn m k n old new
   moved_own new x k at moved v i =
       let e = moved v i in
-      let f = under (eqb i n.inode) (places_in old v i + brought_by v n) (places_by v h + brought_by v n)
-      (λ same. ap (λ j. places_in old v j + brought_by v n) (eqb-true i n.inode same) ∙ ap (λ p. p + brought_by v n) (places_are old h is v)) in
-      let g = under (eqb i n.inode) (places_in new v i) (places_by v x) (λ same. ap (λ j. places_in new v j) (eqb-true i n.inode same) ∙ places_are new x at v) in
+      let f = under (eqb i n.inode) (bytes_by_in old v i + brought_by v n) (bytes_by v h + brought_by v n)
+      (λ same. ap (λ j. bytes_by_in old v j + brought_by v n) (eqb-true i n.inode same) ∙ ap (λ p. p + brought_by v n) (bytes_by_are old h is v)) in
+      let g = under (eqb i n.inode) (bytes_by_in new v i) (bytes_by v x) (λ same. ap (λ j. bytes_by_in new v j) (eqb-true i n.inode same) ∙ bytes_by_are new x at v) in
       omega (arith, e, f, g)
 
--- No version has more marks in an inode than it has places, and one.
-few_places : (v : ℕ) (ws : List (Option ℕ)) → count_by (λ w. eqb w v) (flat_map option_to_list ws) ≤ length ws
-few_places v [] = omega arith
-few_places v (None ∷ ws) = let rest = few_places v ws in omega (arith, rest)
-few_places v (Some w ∷ ws) =
-    let rest = few_places v ws in
+-- No version has more marks in an inode than it has bytes, and one.
+few_bytes : (v : ℕ) (ws : List (Option ℕ)) → count_by (λ w. eqb w v) (flat_map option_to_list ws) ≤ length ws
+few_bytes v [] = omega arith
+few_bytes v (None ∷ ws) = let rest = few_bytes v ws in omega (arith, rest)
+few_bytes v (Some w ∷ ws) =
+    let rest = few_bytes v ws in
     let e = sum_by-cons (λ x. cond (eqb x v) 1 0) w (flat_map option_to_list ws) in
     let one = at_most_one (eqb w v) in
     omega (arith, rest, e, one)
@@ -218,8 +218,8 @@ pub few_marks : (tree : Tree) (v i : ℕ) (h : Held) (k most : ℕ) → held_in 
 few_marks tree v i h k most is newest small =
     let e = in_parts tree v i in
     let f = newest_is tree v i k (ap (λ o. option_map (λ x. x.newest) o) is ∙ ap (λ o. Some o) newest) in
-    let g = few_places v h.writers in
-    let p : places_in tree v i ≡ places_by v h = ap (λ o. option_map_or (λ x. places_by v x) o 0) is in
+    let g = few_bytes v h.writers in
+    let p : bytes_by_in tree v i ≡ bytes_by v h = ap (λ o. option_map_or (λ x. bytes_by v x) o 0) is in
     let one = at_most_one (eqb v k) in
     omega (arith, small, e, f, g, p, one)
   where

@@ -10,7 +10,7 @@ use Rattle.std.specs.BTreeMap.{is_at}
 use Rattle.std.specs.List.Sorted.{IsStrictlySortedBy}
 use Rattle.std.proofs.lemmas.Bool.{cases_Bool, cases_eq, and_parts, eqb-true, eq-eqb, lt-ltb}
 use Rattle.jffs_tree.specs.Marks.{Counts, mark_cmp, mark_of, AreKept, HaveMore}
-use Rattle.jffs_tree.proofs.PlaceOrder.{then_low, nat_low, zero_low}
+use Rattle.jffs_tree.proofs.KeyOrder.{then_low, nat_low, zero_low}
 use Rattle.jffs_tree.proofs.Indexed.{of_first}
 
 pub turned : (a b : ℕ) → eqb a b ≡ eqb b a

@@ -10,7 +10,7 @@ use Rattle.jffs_node.specs.Name.{is_name}
 use Rattle.jffs_node.specs.Record.{dsize, file_max, is_file, is_unmount, is_directory, kind_byte, kind_numbers, is_lawful, has_no_range}
 use Rattle.jffs_tree.specs.State.{Entry, at, written, state_of_past, is_directory_in}
 use Rattle.jffs_tree.specs.Origin.{entry, size_in, tree_of}
-use Rattle.jffs_tree.specs.Check.{keeps_kind, keeps_places, keeps_form, each_fits, is_within, check}
+use Rattle.jffs_tree.specs.Check.{keeps_kind, keeps_offsets, keeps_form, each_fits, is_within, check}
 use Rattle.jffs_tree.specs.Deciding.{IsLawfulPast, AreNumbers}
 use Rattle.jffs_tree.proofs.Pointwise.{at-state}
 use Rattle.jffs_tree.proofs.Steps.{entry-other, entry-deleted, entry-written}
@@ -27,7 +27,7 @@ pub record IsFileNode (past : List Node) (n : Node) : Type 0 where
   pub most : size ≤ file_max
   pub reaches : n.offset + dsize n ≤ size
   pub range : HasRange n
-  pub places : (dsize n ≡ n.rsize) ⊎ (size_in past n.inode ≤ n.offset + n.rsize)
+  pub offsets : (dsize n ≡ n.rsize) ⊎ (size_in past n.inode ≤ n.offset + n.rsize)
 
 pub record IsDirectoryNode (n : Node) : Type 0 where
   pub directory : n.kind ≡ Directory
@@ -125,12 +125,12 @@ module _ (past : List Node) (n : Node) (h : IsPut past n) where
       by_entry None is = refl
       by_entry (Some f) is = eq-eqb (kind_byte f.kind) (kind_byte n.kind) (ap kind_byte (h.was f is).0)
 
-  put_places : keeps_places past n ≡ true
-  put_places = ⊎_elim
+  put_offsets : keeps_offsets past n ≡ true
+  put_offsets = ⊎_elim
       (λ f. ⊎_elim
       (λ same. or_left (not (is_file n.kind) || eqb (dsize n) n.rsize) _ (or_right (not (is_file n.kind)) (eqb (dsize n) n.rsize) (eq-eqb (dsize n) n.rsize same)))
       (λ last. or_right (not (is_file n.kind) || eqb (dsize n) n.rsize) (leb (size_in past n.inode) (n.offset + n.rsize)) (le-leb (size_in past n.inode) (n.offset + n.rsize) last))
-      f.places)
+      f.offsets)
       (λ d. ap (λ k. (not (is_file k) || eqb (dsize n) n.rsize) || leb (size_in past n.inode) (n.offset + n.rsize)) d.directory)
       h.kind
 
@@ -167,7 +167,7 @@ module _ (past : List Node) (n : Node) (h : IsPut past n) where
   put_keeps_past before =
       let parts = and_parts (each_fits past) (check (tree_of past)) before.tree in
       let old = check_parts past parts.1 in
-      keeps_past n past (put_lawful, before.each) (each_fits_from n past parts.0 put_kind put_places put_form) put_sized old.1
+      keeps_past n past (put_lawful, before.each) (each_fits_from n past parts.0 put_kind put_offsets put_form) put_sized old.1
       (put_keeps 7 (state_of_past past) (state_of_past (n ∷ past)) n.inode (written n (entry past n.inode)) old.0 put_in)
 
 -- A node that removes an inode without children.

@@ -9,45 +9,45 @@ use Rattle.jffs_node.specs.declared.node.Node.{Node}
 use Rattle.jffs_tree.specs.Origin.{Held, Tree}
 use Rattle.jffs_tree.specs.After.{held_in, held_after, without_inode, IsWritten}
 use Rattle.jffs_tree.specs.Look.{parent_name_in}
-use Rattle.jffs_tree.specs.Index.{Place, place_cmp, has_place, is_named, stands_at, IsIndexOf}
-use Rattle.jffs_tree.proofs.PlaceOrder.{same_place, own_place}
+use Rattle.jffs_tree.specs.Index.{ChildKey, key_cmp, has_child, is_named, stands_at, IsIndexOf}
+use Rattle.jffs_tree.proofs.KeyOrder.{same_key, own_key}
 use Rattle.jffs_tree.proofs.Indexed.{named_by, names}
 use Rattle.jffs_tree.proofs.Pointwise.{find_without}
 
-abbrev pub tied : Place → Place → Bool
-tied a q = is_at (place_cmp a) q
+abbrev pub tied : ChildKey → ChildKey → Bool
+tied a q = is_at (key_cmp a) q
 
--- where an inode stands is its one place
-own_stand : (p : ℕ) (name : List ℕ) (i : ℕ) (q : Place) → i ≡ q.2 → ((eqb p q.0) && is_named name q.1) ≡ tied (p, Some name, i) q
+-- where an inode stands is its one key
+own_stand : (p : ℕ) (name : List ℕ) (i : ℕ) (q : ChildKey) → i ≡ q.2 → ((eqb p q.0) && is_named name q.1) ≡ tied (p, Some name, i) q
 own_stand p name i q at = both_ways ((eqb p q.0) && is_named name q.1) (tied (p, Some name, i) q)
     (λ h.
     let parts = and_parts (eqb p q.0) (is_named name q.1) h in
     let a = eqb-true p q.0 parts.0 in
     let b = named_by name q.1 parts.1 in
-    ap (λ (x : Place). tied (p, Some name, i) x) (λ j. (sym a j, b j, sym at j)) ∙ own_place (p, Some name, i))
+    ap (λ (x : ChildKey). tied (p, Some name, i) x) (λ j. (sym a j, b j, sym at j)) ∙ own_key (p, Some name, i))
     (λ h.
-    let e = same_place (p, Some name, i) q h in
-    and_from (eqb p q.0) (is_named name q.1) (eq-eqb p q.0 (ap (λ (x : Place). x.0) e)) (ap (λ (x : Place). is_named name x.1) (sym e) ∙ names name))
+    let e = same_key (p, Some name, i) q h in
+    and_from (eqb p q.0) (is_named name q.1) (eq-eqb p q.0 (ap (λ (x : ChildKey). x.0) e)) (ap (λ (x : ChildKey). is_named name x.1) (sym e) ∙ names name))
 
-apart : (a q : Place) → eqb a.2 q.2 ≡ false → tied a q ≡ false
+apart : (a q : ChildKey) → eqb a.2 q.2 ≡ false → tied a q ≡ false
 apart a q other = ⊎_elim
-    (λ yes. let same : eqb a.2 q.2 ≡ true = eq-eqb a.2 q.2 (ap (λ (x : Place). x.2) (same_place a q yes)) in cc)
+    (λ yes. let same : eqb a.2 q.2 ≡ true = eq-eqb a.2 q.2 (ap (λ (x : ChildKey). x.2) (same_key a q yes)) in cc)
     (λ n. n)
     (cases_Bool (tied a q))
 
--- the place where an inode stood
-abbrev stood : Option (ℕ × List ℕ) → ℕ → Place → Bool
+-- the key where an inode stood
+abbrev stood : Option (ℕ × List ℕ) → ℕ → ChildKey → Bool
 stood None i q = false
 stood (Some o) i q = tied (o.0, Some o.1, i) q
 
-stands_there : (tree : Tree) (i : ℕ) (q : Place) → i ≡ q.2 → stands_at tree q ≡ stood (parent_name_in tree i) i q
+stands_there : (tree : Tree) (i : ℕ) (q : ChildKey) → i ≡ q.2 → stands_at tree q ≡ stood (parent_name_in tree i) i q
 stands_there tree i q at = ap (λ k. option_map_or (λ h. (eqb h.entry.parent q.0) && is_named h.entry.name q.1) (held_in tree k) false) (sym at) ∙ by_held (held_in tree i)
   where
     by_held : (o : Option Held) → option_map_or (λ h. (eqb h.entry.parent q.0) && is_named h.entry.name q.1) o false ≡ stood (option_map (λ h. (h.entry.parent, h.entry.name)) o) i q
     by_held None = refl
     by_held (Some h) = own_stand h.entry.parent h.entry.name i q at
 
--- Tests on one place.
+-- Tests on one key.
 added : (t : Bool) → cond t true false ≡ t
 added true = refl
 added false = refl
@@ -66,61 +66,61 @@ gone : (o : Bool) → cond o false o ≡ false
 gone true = refl
 gone false = refl
 
-module _ (old new : Tree) (n : Node) (name : List ℕ) (before : List Place) (index : IsIndexOf old before) where
-  abbrev pub here : Place
+module _ (old new : Tree) (n : Node) (name : List ℕ) (before : List ChildKey) (index : IsIndexOf old before) where
+  abbrev pub here : ChildKey
   here = (n.parent, Some name, n.inode)
 
-  -- what the index has of each place after the inode's new one is entered and its old one is left
-  abbrev pub Left : Option (ℕ × List ℕ) → List Place → Type 0
-  Left None after = (q : Place) → has_place after q ≡ cond (tied here q) true (has_place before q)
-  Left (Some o) after = ((q : Place) → has_place after q ≡ cond (tied (o.0, Some o.1, n.inode) q) false (cond (tied here q) true (has_place before q))) × (tied (o.0, Some o.1, n.inode) here ≡ false)
-      ⊎ ((q : Place) → has_place after q ≡ cond (tied here q) true (has_place before q)) × (◌≡◌ {A = ℕ × List ℕ} o (n.parent, name))
+  -- what the index has of each key after the inode's new one is entered and its old one is left
+  abbrev pub Left : Option (ℕ × List ℕ) → List ChildKey → Type 0
+  Left None after = (q : ChildKey) → has_child after q ≡ cond (tied here q) true (has_child before q)
+  Left (Some o) after = ((q : ChildKey) → has_child after q ≡ cond (tied (o.0, Some o.1, n.inode) q) false (cond (tied here q) true (has_child before q))) × (tied (o.0, Some o.1, n.inode) here ≡ false)
+      ⊎ ((q : ChildKey) → has_child after q ≡ cond (tied here q) true (has_child before q)) × (◌≡◌ {A = ℕ × List ℕ} o (n.parent, name))
 
-  module _ (after : List Place) (is : n.name ≡ Some name) (w : IsWritten old new n) where
-    at_inode : (q : Place) → n.inode ≡ q.2 → stands_at new q ≡ tied here q
+  module _ (after : List ChildKey) (is : n.name ≡ Some name) (w : IsWritten old new n) where
+    at_inode : (q : ChildKey) → n.inode ≡ q.2 → stands_at new q ≡ tied here q
     at_inode q at =
         ap (λ o. option_map_or (λ h. (eqb h.entry.parent q.0) && is_named h.entry.name q.1) o false)
         (w.found q.2 ∙ ap (λ b. cond b (Some (held_after n (held_in old q.2))) (held_in old q.2)) (eq-eqb n.inode q.2 at))
         ∙ ap (λ o. (eqb n.parent q.0) && is_named (unwrap_or o []) q.1) is
         ∙ own_stand n.parent name n.inode q at
 
-    elsewhere : (q : Place) → eqb n.inode q.2 ≡ false → stands_at new q ≡ stands_at old q
+    elsewhere : (q : ChildKey) → eqb n.inode q.2 ≡ false → stands_at new q ≡ stands_at old q
     elsewhere q other = ap (λ o. option_map_or (λ h. (eqb h.entry.parent q.0) && is_named h.entry.name q.1) o false)
         (w.found q.2 ∙ ap (λ b. cond b (Some (held_after n (held_in old q.2))) (held_in old q.2)) other)
 
-    pub by_place : (o : Option (ℕ × List ℕ)) → parent_name_in old n.inode ≡ o → Left o after → IsIndexOf new after
-    by_place None was l q = ⊎_elim
+    pub by_key : (o : Option (ℕ × List ℕ)) → parent_name_in old n.inode ≡ o → Left o after → IsIndexOf new after
+    by_key None was l q = ⊎_elim
         (λ yes.
         let at = eqb-true n.inode q.2 yes in
         l q ∙ ap (λ b. cond (tied here q) true b) (index q ∙ stands_there old n.inode q at ∙ ap (λ x. stood x n.inode q) was) ∙ added (tied here q) ∙ sym (at_inode q at))
-        (λ other. l q ∙ ap (λ b. cond b true (has_place before q)) (apart here q other) ∙ index q ∙ sym (elsewhere q other))
+        (λ other. l q ∙ ap (λ b. cond b true (has_child before q)) (apart here q other) ∙ index q ∙ sym (elsewhere q other))
         (cases_Bool (eqb n.inode q.2))
-    by_place (Some o) was (inl l) q = ⊎_elim
+    by_key (Some o) was (inl l) q = ⊎_elim
         (λ yes.
         let at = eqb-true n.inode q.2 yes in
         l.0 q ∙ ap (λ b. cond (tied (o.0, Some o.1, n.inode) q) false (cond (tied here q) true b)) (index q ∙ stands_there old n.inode q at ∙ ap (λ x. stood x n.inode q) was)
         ∙ moved_on (tied here q) (tied (o.0, Some o.1, n.inode) q) (λ left. ⊎_elim
-        (λ both. let same : tied (o.0, Some o.1, n.inode) here ≡ true = ap (λ (x : Place). tied (o.0, Some o.1, n.inode) x) (same_place here q both) ∙ left in cc)
+        (λ both. let same : tied (o.0, Some o.1, n.inode) here ≡ true = ap (λ (x : ChildKey). tied (o.0, Some o.1, n.inode) x) (same_key here q both) ∙ left in cc)
         (λ n. n)
         (cases_Bool (tied here q)))
         ∙ sym (at_inode q at))
         (λ other.
-        l.0 q ∙ ap (λ b. cond b false (cond (tied here q) true (has_place before q))) (apart (o.0, Some o.1, n.inode) q other)
-        ∙ ap (λ b. cond b true (has_place before q)) (apart here q other) ∙ index q ∙ sym (elsewhere q other))
+        l.0 q ∙ ap (λ b. cond b false (cond (tied here q) true (has_child before q))) (apart (o.0, Some o.1, n.inode) q other)
+        ∙ ap (λ b. cond b true (has_child before q)) (apart here q other) ∙ index q ∙ sym (elsewhere q other))
         (cases_Bool (eqb n.inode q.2))
-    by_place (Some o) was (inr l) q = ⊎_elim
+    by_key (Some o) was (inr l) q = ⊎_elim
         (λ yes.
         let at = eqb-true n.inode q.2 yes in
         l.0 q ∙ ap (λ b. cond (tied here q) true b) (index q ∙ stands_there old n.inode q at ∙ ap (λ x. stood x n.inode q) was ∙ ap (λ (x : ℕ × List ℕ). tied (x.0, Some x.1, n.inode) q) l.1)
         ∙ again (tied here q) ∙ sym (at_inode q at))
-        (λ other. l.0 q ∙ ap (λ b. cond b true (has_place before q)) (apart here q other) ∙ index q ∙ sym (elsewhere q other))
+        (λ other. l.0 q ∙ ap (λ b. cond b true (has_child before q)) (apart here q other) ∙ index q ∙ sym (elsewhere q other))
         (cases_Bool (eqb n.inode q.2))
 
-  -- a place that was entered and taken out again
-  pub restored : (after : List Place) → has_place before here ≡ false → ((q : Place) → has_place after q ≡ cond (tied here q) false (cond (tied here q) true (has_place before q))) → IsIndexOf old after
+  -- a key that was entered and taken out again
+  pub restored : (after : List ChildKey) → has_child before here ≡ false → ((q : ChildKey) → has_child after q ≡ cond (tied here q) false (cond (tied here q) true (has_child before q))) → IsIndexOf old after
   restored after absent back q = back q ∙ ⊎_elim
-      (λ yes. ap (λ b. cond b false (cond b true (has_place before q))) yes ∙ sym (ap (λ (x : Place). has_place before x) (sym (same_place here q yes)) ∙ absent))
-      (λ other. ap (λ b. cond b false (cond b true (has_place before q))) other)
+      (λ yes. ap (λ b. cond b false (cond b true (has_child before q))) yes ∙ sym (ap (λ (x : ChildKey). has_child before x) (sym (same_key here q yes)) ∙ absent))
+      (λ other. ap (λ b. cond b false (cond b true (has_child before q))) other)
       (cases_Bool (tied here q))
       ∙ index q
 
@@ -128,8 +128,8 @@ module _ (old new : Tree) (n : Node) (name : List ℕ) (before : List Place) (in
 pub parted : (p : ℕ) (name : List ℕ) (i : ℕ) (o : ℕ × List ℕ) → ((eqb o.0 p) && is_named name (Some o.1)) ≡ false → tied (o.0, Some o.1, i) (p, Some name, i) ≡ false
 parted p name i o other = ⊎_elim
     (λ yes.
-    let e = same_place (o.0, Some o.1, i) (p, Some name, i) yes in
-    let stays = and_from (eqb o.0 p) (is_named name (Some o.1)) (eq-eqb o.0 p (ap (λ (x : Place). x.0) e)) (ap (λ (x : Place). is_named name x.1) e ∙ names name) in
+    let e = same_key (o.0, Some o.1, i) (p, Some name, i) yes in
+    let stays = and_from (eqb o.0 p) (is_named name (Some o.1)) (eq-eqb o.0 p (ap (λ (x : ChildKey). x.0) e)) (ap (λ (x : ChildKey). is_named name x.1) e ∙ names name) in
     cc)
     (λ n. n)
     (cases_Bool (tied (o.0, Some o.1, i) (p, Some name, i)))
@@ -142,8 +142,8 @@ stayed p name o same =
     λ j. (a j, sym b j)
 
 -- An inode that is taken away.
-pub removed_index : (old new : Tree) (i : ℕ) (o : ℕ × List ℕ) (before after : List Place) → IsIndexOf old before → parent_name_in old i ≡ Some o
-    → new ≡ without_inode old i → ((q : Place) → has_place after q ≡ cond (tied (o.0, Some o.1, i) q) false (has_place before q)) → IsIndexOf new after
+pub removed_index : (old new : Tree) (i : ℕ) (o : ℕ × List ℕ) (before after : List ChildKey) → IsIndexOf old before → parent_name_in old i ≡ Some o
+    → new ≡ without_inode old i → ((q : ChildKey) → has_child after q ≡ cond (tied (o.0, Some o.1, i) q) false (has_child before q)) → IsIndexOf new after
 removed_index old new i o before after index was is left q = ⊎_elim
     (λ yes.
     let at = eqb-true i q.2 yes in
@@ -151,7 +151,7 @@ removed_index old new i o before after index was is left q = ⊎_elim
     ∙ gone (tied (o.0, Some o.1, i) q)
     ∙ sym (ap (λ x. option_map_or (λ h. (eqb h.entry.parent q.0) && is_named h.entry.name q.1) x false) (found q.2 ∙ ap (λ b. cond b None (held_in old q.2)) yes)))
     (λ other.
-    left q ∙ ap (λ b. cond b false (has_place before q)) (apart (o.0, Some o.1, i) q other) ∙ index q
+    left q ∙ ap (λ b. cond b false (has_child before q)) (apart (o.0, Some o.1, i) q other) ∙ index q
     ∙ sym (ap (λ x. option_map_or (λ h. (eqb h.entry.parent q.0) && is_named h.entry.name q.1) x false) (found q.2 ∙ ap (λ b. cond b None (held_in old q.2)) other)))
     (cases_Bool (eqb i q.2))
   where

@@ -1,4 +1,4 @@
--- Fragments that say the same of all places.
+-- Fragments that say the same of all offsets.
 use Rattle.std.proofs.Common.{refl, ◌∙◌}
 use Rattle.jffs_tree.specs.Fragments.{Fragments, SameCells}
 

@@ -5,31 +5,31 @@ use Rattle.std.proofs.lemmas.Bool.{cases_Bool, cases_lt}
 use Rattle.std.proofs.lemmas.List.{get_or_past}
 use Rattle.jffs_node.specs.declared.node.Node.{Node}
 use Rattle.jffs_tree.specs.State.{bytes_of}
-use Rattle.jffs_tree.specs.Origin.{concerns, entry, size_in, writes, place_before, origin, origin_place}
+use Rattle.jffs_tree.specs.Origin.{concerns, entry, size_in, writes, offset_before, origin, origin_offset}
 use Rattle.jffs_tree.specs.Laws.{BytesComeFromOrigins}
 use Rattle.jffs_tree.proofs.Pointwise.{at-state}
 use Rattle.jffs_tree.proofs.Steps.{entry-other, entry-deleted, entry-written, origin-other, origin-written, origin-moved, origin-padding, where_is, rewritten, byte_inside, byte_outside}
 
 -- where in its origin's data a byte stood, one node back
 module _ (i : ℕ) (n : Node) (past : List Node) (p : ℕ) where
-  place-other : concerns i n ≡ false → origin_place (n ∷ past) i p ≡ origin_place past i p
-  place-other c = ap (λ t. cond (not t) (origin_place past i p) (cond (writes n p) (p - n.offset) (origin_place past i (place_before n p)))) c
+  offset-other : concerns i n ≡ false → origin_offset (n ∷ past) i p ≡ origin_offset past i p
+  offset-other c = ap (λ t. cond (not t) (origin_offset past i p) (cond (writes n p) (p - n.offset) (origin_offset past i (offset_before n p)))) c
 
-  place-written : concerns i n ≡ true → writes n p ≡ true → origin_place (n ∷ past) i p ≡ p - n.offset
-  place-written c w =
-      ap (λ t. cond (not t) (origin_place past i p) (cond (writes n p) (p - n.offset) (origin_place past i (place_before n p)))) c
-      ∙ ap (λ t. cond t (p - n.offset) (origin_place past i (place_before n p))) w
+  offset-written : concerns i n ≡ true → writes n p ≡ true → origin_offset (n ∷ past) i p ≡ p - n.offset
+  offset-written c w =
+      ap (λ t. cond (not t) (origin_offset past i p) (cond (writes n p) (p - n.offset) (origin_offset past i (offset_before n p)))) c
+      ∙ ap (λ t. cond t (p - n.offset) (origin_offset past i (offset_before n p))) w
 
-  place-moved : concerns i n ≡ true → writes n p ≡ false → origin_place (n ∷ past) i p ≡ origin_place past i (place_before n p)
-  place-moved c w =
-      ap (λ t. cond (not t) (origin_place past i p) (cond (writes n p) (p - n.offset) (origin_place past i (place_before n p)))) c
-      ∙ ap (λ t. cond t (p - n.offset) (origin_place past i (place_before n p))) w
+  offset-moved : concerns i n ≡ true → writes n p ≡ false → origin_offset (n ∷ past) i p ≡ origin_offset past i (offset_before n p)
+  offset-moved c w =
+      ap (λ t. cond (not t) (origin_offset past i p) (cond (writes n p) (p - n.offset) (origin_offset past i (offset_before n p)))) c
+      ∙ ap (λ t. cond t (p - n.offset) (origin_offset past i (offset_before n p))) w
 
--- the byte at a place of the data of a node, or 0 without a node
+-- the byte at an offset of the data of a node, or 0 without a node
 abbrev byte_at : Option Node → ℕ → ℕ
 byte_at o q = option_map_or (λ n. get_or n.bytes q 0) o 0
 
-sourced : (past : List Node) (i p : ℕ) → p < size_in past i → get_or (bytes_of (entry past i)) p 0 ≡ byte_at (origin past i p) (origin_place past i p)
+sourced : (past : List Node) (i p : ℕ) → p < size_in past i → get_or (bytes_of (entry past i)) p 0 ≡ byte_at (origin past i p) (origin_offset past i p)
 sourced [] i p l = absurd (omega arith)
 sourced (n ∷ past) i p l = ⊎_elim
     (λ c. ⊎_elim
@@ -39,23 +39,23 @@ sourced (n ∷ past) i p l = ⊎_elim
     let long : p < length (rewritten n (bytes_of (entry past i))) = (let e = ap (λ (x : List ℕ). length x) after in omega arith) in
     ap (λ (x : List ℕ). get_or x p 0) after ∙ ⊎_elim
     (λ w. byte_inside n (bytes_of (entry past i)) p w long
-    ∙ ap (λ q. get_or n.bytes q 0) (sym (place-written i n past p c w.0))
-    ∙ ap (λ o. byte_at o (origin_place (n ∷ past) i p)) (sym (origin-written i n past p c d w.0)))
+    ∙ ap (λ q. get_or n.bytes q 0) (sym (offset-written i n past p c w.0))
+    ∙ ap (λ o. byte_at o (origin_offset (n ∷ past) i p)) (sym (origin-written i n past p c d w.0)))
     (λ w. byte_outside n (bytes_of (entry past i)) p w long ∙ ⊎_elim
-    (λ there. sourced past i (place_before n p) there
-    ∙ ap (λ q. byte_at (origin past i (place_before n p)) q) (sym (place-moved i n past p c w.0))
-    ∙ ap (λ o. byte_at o (origin_place (n ∷ past) i p)) (sym (origin-moved i n past p c d w.0 there)))
-    (λ beyond. get_or_past (bytes_of (entry past i)) (place_before n p) 0 beyond
-    ∙ ap (λ o. byte_at o (origin_place (n ∷ past) i p)) (sym (origin-padding i n past p c d w.0 beyond)))
-    (cases_lt (place_before n p) (size_in past i)))
+    (λ there. sourced past i (offset_before n p) there
+    ∙ ap (λ q. byte_at (origin past i (offset_before n p)) q) (sym (offset-moved i n past p c w.0))
+    ∙ ap (λ o. byte_at o (origin_offset (n ∷ past) i p)) (sym (origin-moved i n past p c d w.0 there)))
+    (λ beyond. get_or_past (bytes_of (entry past i)) (offset_before n p) 0 beyond
+    ∙ ap (λ o. byte_at o (origin_offset (n ∷ past) i p)) (sym (origin-padding i n past p c d w.0 beyond)))
+    (cases_lt (offset_before n p) (size_in past i)))
     (where_is n p))
     (cases_Bool n.deleted))
     (λ c.
     let same = ap bytes_of (entry-other i n past c) in
     let l' : p < size_in past i = (let e = ap (λ (x : List ℕ). length x) same in omega arith) in
     ap (λ (x : List ℕ). get_or x p 0) same ∙ sourced past i p l'
-    ∙ ap (λ q. byte_at (origin past i p) q) (sym (place-other i n past p c))
-    ∙ ap (λ o. byte_at o (origin_place (n ∷ past) i p)) (sym (origin-other i n past p c)))
+    ∙ ap (λ q. byte_at (origin past i p) q) (sym (offset-other i n past p c))
+    ∙ ap (λ o. byte_at o (origin_offset (n ∷ past) i p)) (sym (origin-other i n past p c)))
     (cases_Bool (concerns i n))
 
 pub bytes_come_from_origins : BytesComeFromOrigins

@@ -192,7 +192,7 @@ module _ (k p : ℕ) (f : Fragment) (low : k < p) (high : p < k + length f.bytes
       ∙ ap (λ x. start ++ x) (sym (append_assoc (cells_of left) (cells_of right) (laid (k + length f.bytes) size b)))
       ∙ ap (λ x. start ++ (x ++ laid (k + length f.bytes) size b)) (sym cells_split)
 
-  -- Cut in two, a fragment says of its places what it said.
+  -- Cut in two, a fragment says of its offsets what it said.
   pub split_same : (a b : Fragments) → SameCells (a ++ (k, f) ∷ b) (a ++ (k, left) ∷ (p, right) ∷ b)
   split_same a b = record {
     stay = λ size h. let q = laid_parts 0 size a b k f h in are_laid_append 0 k size a ((k, left) ∷ (p, right) ∷ b) q.0 (laid_split size b (omega arith, q.1, q.2));
@@ -231,7 +231,7 @@ module _ (k p : ℕ) (f : Fragment) (low : k < p) (high : p < k + length f.bytes
       each_append (λ e. (end_of e ≤ p) ⊎ (p ≤ e.0)) a ((k, left) ∷ (p, right) ∷ b) (cut_past at k p a q.0 (omega arith))
       (inl ends, (inr here, cut_if_all_from p b (all_later (k + length f.bytes) size p b q.2 (omega arith))))
 
-  -- What the map's calls leave: the right part put in, then the left one in place of the whole.
+  -- What the map's calls leave: the right part put in, then the left one instead of the whole.
   pub split_entries : (size : ℕ) (a b es : Fragments) → es ≡ a ++ (k, f) ∷ b → AreLaid 0 size es
       → set_value (is_at (nat_cmp k)) (insert_entry nat_cmp es p right) left ≡ a ++ (k, left) ∷ (p, right) ∷ b
   split_entries size a b es is h =

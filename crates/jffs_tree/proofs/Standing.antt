@@ -11,7 +11,7 @@ use Rattle.std.proofs.lemmas.Option.{same_Some}
 use Rattle.jffs_tree.specs.State.{child, is_child}
 use Rattle.jffs_tree.specs.Origin.{Held, Tree, state_in}
 use Rattle.jffs_tree.specs.After.{held_in}
-use Rattle.jffs_tree.specs.Index.{Place, has_place, stands_at, is_named, IsIndexOf}
+use Rattle.jffs_tree.specs.Index.{ChildKey, has_child, stands_at, is_named, IsIndexOf}
 use Rattle.jffs_tree.proofs.Maps.{tail_sorted, at_first, behind, at_later}
 
 pub some_of : (test : Held → Bool) (o : Option Held) → option_map_or test o false ≡ true → (h : Held) × (o ≡ Some h) × (test h ≡ true)
@@ -68,11 +68,11 @@ module _ (p : ℕ) (name : List ℕ) where
       (cases_Bool (eq_by_cmp nat_cmp j z.0)))
       (cases_Bool (test z.1))
 
-  module _ (tree : Tree) (places : List Place) (sorted : T (entries.is_sorted nat_cmp tree)) (index : IsIndexOf tree places) where
+  module _ (tree : Tree) (keys : List ChildKey) (sorted : T (entries.is_sorted nat_cmp tree)) (index : IsIndexOf tree keys) where
     by_both : (r o : Option ℕ) → child (state_in tree) p name ≡ o
-        → IfSome r (λ i. has_place places (p, Some name, i) ≡ true)
-        → IfSome r (λ i. (j : ℕ) → has_place places (p, Some name, j) ≡ true → i ≤ j)
-        → IfNone r ((j : ℕ) → has_place places (p, Some name, j) ≡ false) → r ≡ o
+        → IfSome r (λ i. has_child keys (p, Some name, i) ≡ true)
+        → IfSome r (λ i. (j : ℕ) → has_child keys (p, Some name, j) ≡ true → i ≤ j)
+        → IfNone r ((j : ℕ) → has_child keys (p, Some name, j) ≡ false) → r ≡ o
     by_both None None is there least none = refl
     by_both (Some i) None is there least none = let a = index (p, Some name, i) in let b = child_none tree is i in cc
     by_both None (Some c) is there least none = let a = index (p, Some name, c) in let b = child_stands tree sorted c is in let d = none c in cc
@@ -83,9 +83,9 @@ module _ (p : ℕ) (name : List ℕ) where
         ap (λ k. Some k) same
 
     pub child_found : (r : Option ℕ)
-        → IfSome r (λ i. has_place places (p, Some name, i) ≡ true)
-        → IfSome r (λ i. (j : ℕ) → has_place places (p, Some name, j) ≡ true → i ≤ j)
-        → IfNone r ((j : ℕ) → has_place places (p, Some name, j) ≡ false) → r ≡ child (state_in tree) p name
+        → IfSome r (λ i. has_child keys (p, Some name, i) ≡ true)
+        → IfSome r (λ i. (j : ℕ) → has_child keys (p, Some name, j) ≡ true → i ≤ j)
+        → IfNone r ((j : ℕ) → has_child keys (p, Some name, j) ≡ false) → r ≡ child (state_in tree) p name
     child_found r there least none = by_both r (child (state_in tree) p name) refl there least none
 
 -- The same of a directory.
@@ -106,8 +106,8 @@ held_of_any p (z ∷ tree) sorted any = ⊎_elim
     (λ there. let later = held_of_any p tree (tail_sorted z tree sorted) there in (later.0, later.1, at_later z tree later.0 later.1 sorted later.2, later.3))
     (or_cases (eqb z.1.entry.parent p) (lists.list_any (λ e. eqb e.1.parent p) (state_in tree)) any)
 
-module _ (p : ℕ) (tree : Tree) (places : List Place) (sorted : T (entries.is_sorted nat_cmp tree)) (index : IsIndexOf tree places) where
-  pub any_found : (r : Bool) → (r ≡ true → (q : Place) × (has_place places q ≡ true) × (q.0 ≡ p)) → (r ≡ false → (q : Place) → q.0 ≡ p → has_place places q ≡ false)
+module _ (p : ℕ) (tree : Tree) (keys : List ChildKey) (sorted : T (entries.is_sorted nat_cmp tree)) (index : IsIndexOf tree keys) where
+  pub any_found : (r : Bool) → (r ≡ true → (q : ChildKey) × (has_child keys q ≡ true) × (q.0 ≡ p)) → (r ≡ false → (q : ChildKey) → q.0 ≡ p → has_child keys q ≡ false)
       → r ≡ lists.list_any (λ e. eqb e.1.parent p) (state_in tree)
   any_found true some none =
       let q = some refl in
@@ -116,7 +116,7 @@ module _ (p : ℕ) (tree : Tree) (places : List Place) (sorted : T (entries.is_s
   any_found false some none = ⊎_elim
       (λ any.
       let h = held_of_any p tree sorted any in
-      let q : Place = (p, Some h.1.entry.name, h.0) in
+      let q : ChildKey = (p, Some h.1.entry.name, h.0) in
       let at : stands_at tree q ≡ true =
       ap (λ o. option_map_or (λ (x : Held). (eqb x.entry.parent p) && bytes_eq x.entry.name h.1.entry.name) o false) h.2
       ∙ and_from (eqb h.1.entry.parent p) _ h.3 ((bytes_eq-Decides h.1.entry.name h.1.entry.name).1 refl) in

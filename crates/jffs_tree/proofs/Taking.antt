@@ -165,7 +165,7 @@ one_moved v i inode f before after was now lowered left =
     let c = sum_in (eqb i inode) now (part_by v f) in
     omega arith
 
--- one put in, in place of what began there
+-- one put in, instead of what began there
 pub one_put : (v i inode : ℕ) (f : Fragment) (before after : ℕ) (was now new : ℕ) → after + cond (eqb v f.writer && eqb i inode) (length f.bytes) 0 ≡ before → now + part_by v f ≡ was + new
     → after + cond (eqb i inode) (was + new) 0 ≡ before + cond (eqb i inode) now 0
 one_put v i inode f before after was now new lowered put =

@@ -5,8 +5,8 @@ use Rattle.jffs_node.specs.declared.node.Node.{Node}
 use Rattle.jffs_node.specs.Record.{dsize, is_file, kind_byte, is_lawful}
 use Rattle.jffs_tree.specs.State.{Entry, bytes_of}
 use Rattle.jffs_tree.specs.Origin.{entry, size_in, tree_of}
-use Rattle.jffs_tree.specs.Check.{keeps_kind, keeps_places}
-use Rattle.jffs_tree.specs.After.{keeps_kind_in, keeps_places_in}
+use Rattle.jffs_tree.specs.Check.{keeps_kind, keeps_offsets}
+use Rattle.jffs_tree.specs.After.{keeps_kind_in, keeps_offsets_in}
 use Rattle.jffs_tree.specs.Laws.{TreesTestAsNodes}
 use Rattle.jffs_node.proofs.Lawfulness.{as_long}
 use Rattle.jffs_tree.proofs.Grown.{at-tree, held_at}
@@ -29,8 +29,8 @@ file_or_none n h = by_kind (is_file n.kind) (eqb (dsize n) n.rsize) (as_long n h
     by_kind true same e = refl
     by_kind false same e = sym e
 
-places_same : (past : List Node) (n : Node) → is_lawful n ≡ true → keeps_places_in (tree_of past) n ≡ keeps_places past n
-places_same past n h =
+offsets_same : (past : List Node) (n : Node) → is_lawful n ≡ true → keeps_offsets_in (tree_of past) n ≡ keeps_offsets past n
+offsets_same past n h =
     ap (λ o. eqb (dsize n) n.rsize || leb (length (unwrap_or (option_map (λ x. x.entry.bytes) o) [])) (n.offset + n.rsize)) (at-tree past n.inode)
     ∙ ap (λ k. eqb (dsize n) n.rsize || leb k (n.offset + n.rsize)) (by_entry (entry past n.inode))
     ∙ ap (λ b. b || leb (size_in past n.inode) (n.offset + n.rsize)) (sym (file_or_none n h))
@@ -40,4 +40,4 @@ places_same past n h =
     by_entry (Some e) = refl
 
 pub trees_test_as_nodes : TreesTestAsNodes
-trees_test_as_nodes past n h = (kind_same past n, places_same past n h)
+trees_test_as_nodes past n h = (kind_same past n, offsets_same past n h)

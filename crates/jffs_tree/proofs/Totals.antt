@@ -18,7 +18,7 @@ use Rattle.jffs_tree.specs.Look.{marks_in}
 use Rattle.jffs_tree.specs.Marks.{Counts, mark_cmp, marks_of, held_marks, AreMarksOf}
 use Rattle.jffs_tree.proofs.Maps.{found_by, sorted_by, t_true, tail_sorted, at_first, behind}
 use Rattle.jffs_tree.proofs.Marking.{mark_tied, mark_low, mark_from}
-use Rattle.jffs_tree.proofs.PlaceOrder.{then_tied, nat_tied}
+use Rattle.jffs_tree.proofs.KeyOrder.{then_tied, nat_tied}
 
 -- Keys that the order doesn't tell apart are one.
 same_key : (a b : ℕ × ℕ) → mark_cmp a b ≡ Equal → a ≡ b

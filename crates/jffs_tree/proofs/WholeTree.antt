@@ -23,7 +23,7 @@ the_version v (Some w) h = ap (λ x. Some x) (eqb-true w v (sym (or-false (eqb w
 pub any_of : {A : Type 0} (p : A → Bool) (xs ys : List A) → list_any p (xs ++ ys) ≡ true → (list_any p xs ≡ true) ⊎ (list_any p ys ≡ true)
 any_of p xs ys h = or_cases (list_any p xs) (list_any p ys) (sym (list_any-append p xs ys) ∙ h)
 
--- a version among those of a range stands at one of its places
+-- a version among those of a range stands at one of its offsets
 pub from_range : (f : ℕ → Option ℕ) (v n a : ℕ) → list_any (λ w. eqb w v) (flat_map option_to_list (map f (range_with_len a n))) ≡ true → (p : ℕ) × (p < a + n) × (f p ≡ Some v)
 from_range f v zero a h = cc
 from_range f v (suc n) a h = ⊎_elim
@@ -42,8 +42,8 @@ held_of_inode past v i j e own h = ⊎_elim
     let m = named (newest past j) v (the_version v (version_of (newest past j)) top) in
     let of = of_newest (λ n. n.version ≡ v → n.inode ≡ i) j past m.0 own m.1 in
     sym (its_inode j m.0 of.0) ∙ of.1 m.2)
-    (λ place.
-    let p = from_range (λ q. version_of (origin past j q)) v (size_in past j) 0 place in
+    (λ offset.
+    let p = from_range (λ q. version_of (origin past j q)) v (size_in past j) 0 offset in
     let m = named (origin past j p.0) v p.2 in
     let of = of_origin (λ n. n.version ≡ v → n.inode ≡ i) j past p.0 m.0 own m.1 in
     sym (its_inode j m.0 of.0) ∙ of.1 m.2)

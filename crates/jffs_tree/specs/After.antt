@@ -48,8 +48,8 @@ abbrev pub tree_after : Tree → Node → Tree
 tree_after tree n = if is_unmount n.kind then tree else (if n.deleted then without_inode tree n.inode else put_node tree n)
 
 -- There are no bytes after the range of the node, unless it keeps their offsets.
-abbrev pub keeps_places_in : Tree → Node → Bool
-keeps_places_in tree n = (dsize n == n.rsize) || nat_le (length (unwrap_or (option_map (λ h. h.entry.bytes) (held_in tree n.inode)) [])) (n.offset + n.rsize)
+abbrev pub keeps_offsets_in : Tree → Node → Bool
+keeps_offsets_in tree n = (dsize n == n.rsize) || nat_le (length (unwrap_or (option_map (λ h. h.entry.bytes) (held_in tree n.inode)) [])) (n.offset + n.rsize)
 
 -- its inode has its kind, where it is present
 abbrev pub keeps_kind_in : Tree → Node → Bool
@@ -57,7 +57,7 @@ keeps_kind_in tree n = n.deleted || option_map_or (λ h. kind_byte h.entry.kind 
 
 -- what a node must keep to be applied to a tree
 abbrev pub can_apply : Tree → Node → Bool
-can_apply tree n = is_lawful n && keeps_kind_in tree n && keeps_places_in tree n
+can_apply tree n = is_lawful n && keeps_kind_in tree n && keeps_offsets_in tree n
 
 -- The inodes stand in order, the node's is as the node makes it, and each other is as it was.
 pub record IsWritten (old new : Tree) (n : Node) : Type 0 where
@@ -74,4 +74,4 @@ pub record IsSmall (n : Node) : Type 0 where
 pub record IsWritable (tree : Tree) (n : Node) (name : List ℕ) : Type 0 where
   pub named : n.name ≡ Some name
   pub small : IsSmall n
-  pub places : IsTrue (keeps_places_in tree n)
+  pub offsets : IsTrue (keeps_offsets_in tree n)

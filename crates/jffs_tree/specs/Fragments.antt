@@ -77,7 +77,7 @@ AreShort es = AllByRecursion (λ e. length e.1.bytes ≤ file_max) es
 abbrev pub fragment_of : Node → Fragments
 fragment_of n = if dsize n == 0 then [] else (n.offset, record { bytes = n.bytes; writer = n.version }) ∷ []
 
--- with a node's data in place of what stands from its offset to an end
+-- with a node's data instead of what stands from its offset to an end
 abbrev pub overwritten : ℕ → Node → Fragments → Fragments
 overwritten end n es = before n.offset es ++ (fragment_of n ++ from end es)
 
@@ -100,7 +100,7 @@ pub record SameCells (old new : Fragments) : Type 0 where
 pub record FitsFile (n : Node) (size : ℕ) : Type 0 where
   pub small : size ≤ file_max
   pub node : IsSmall n
-  pub places : dsize n ≢ n.rsize → size ≤ n.offset + n.rsize
+  pub offsets : dsize n ≢ n.rsize → size ≤ n.offset + n.rsize
 
 -- The cells are those before, spliced and sized as the node says.
 pub record IsFileAfter (n : Node) (size : ℕ) (was : Fragments) (after : ℕ) (now : Fragments) : Type 0 where

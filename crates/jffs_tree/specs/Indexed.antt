@@ -6,7 +6,7 @@ use Rattle.jffs_tree.specs.declared.tree.Tree.TheInside.{Inside}
 use Rattle.jffs_tree.specs.Index.{IsIndexOf}
 use Rattle.jffs_tree.specs.Marks.{AreMarksOf}
 
--- The inodes stand in order, the index has just their places, and the marks are theirs.
+-- The inodes stand in order, the index has just their keys, and the marks are theirs.
 pub record IsIndexed (t : Inside) : Type 0 where
   pub ordered : IsTrue (entries.is_sorted nat_cmp t.inodes.entries)
   pub indexed : IsIndexOf t.inodes.entries t.children.keys

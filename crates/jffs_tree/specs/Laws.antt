@@ -8,11 +8,11 @@ use Rattle.jffs_tree.specs.declared.wish.Limits.{Limits}
 use Rattle.jffs_tree.specs.declared.wish.NewNode.{NewNode}
 use Rattle.jffs_tree.specs.declared.wish.Wish.{Wish}
 use Rattle.jffs_tree.specs.declared.wish.Wish.TheVariants.{Copy}
-use Rattle.jffs_tree.specs.Check.{keeps_kind, keeps_places, makes_tree}
-use Rattle.jffs_tree.specs.After.{keeps_kind_in, keeps_places_in, tree_after}
+use Rattle.jffs_tree.specs.Check.{keeps_kind, keeps_offsets, makes_tree}
+use Rattle.jffs_tree.specs.After.{keeps_kind_in, keeps_offsets_in, tree_after}
 use Rattle.jffs_tree.specs.Decide.{decide, decide_on, with, cleaning_copy}
 use Rattle.jffs_tree.specs.State.{Entry, at, bytes_of, state_of_past}
-use Rattle.jffs_tree.specs.Origin.{IsTrueCopy, is_live, newest, size_in, origin, origin_place, tree_of, entry}
+use Rattle.jffs_tree.specs.Origin.{IsTrueCopy, is_live, newest, size_in, origin, origin_offset, tree_of, entry}
 
 -- A true copy changes no state.
 abbrev pub TrueCopiesKeepState : Type 0
@@ -38,10 +38,10 @@ ErasingKeepsTree = (recent oldest : List Node) → NoneLive (recent ++ oldest) o
 abbrev pub ErasingKeepsOrigins : Type 0
 ErasingKeepsOrigins = (recent oldest : List Node) → NoneLive (recent ++ oldest) oldest → BytesHaveOrigins (recent ++ oldest) → BytesHaveOrigins recent
 
--- The byte at each place is the byte of its origin, or 0 where it has none.
+-- The byte at each offset is the byte of its origin, or 0 where it has none.
 abbrev pub BytesComeFromOrigins : Type 0
 BytesComeFromOrigins = (past : List Node) (i p : ℕ) → p < size_in past i
-    → get_or (bytes_of (at (state_of_past past) i)) p 0 ≡ option_map_or (λ n. get_or n.bytes (origin_place past i p) 0) (origin past i p) 0
+    → get_or (bytes_of (at (state_of_past past) i)) p 0 ≡ option_map_or (λ n. get_or n.bytes (origin_offset past i p) 0) (origin past i p) 0
 
 -- The tree of one node more is the tree after that node.
 abbrev pub TreesStepByNodes : Type 0
@@ -50,7 +50,7 @@ TreesStepByNodes = (past : List Node) (n : Node) → tree_after (tree_of past) n
 -- A tree tests a lawful node, before it is applied, as its nodes do.
 abbrev pub TreesTestAsNodes : Type 0
 TreesTestAsNodes = (past : List Node) (n : Node) → IsTrue (is_lawful n)
-    → (keeps_kind_in (tree_of past) n ≡ keeps_kind past n) × (keeps_places_in (tree_of past) n ≡ keeps_places past n)
+    → (keeps_kind_in (tree_of past) n ≡ keeps_kind past n) × (keeps_offsets_in (tree_of past) n ≡ keeps_offsets past n)
 
 -- A tree decides as its nodes do.
 abbrev pub DecidesByTree : Type 0

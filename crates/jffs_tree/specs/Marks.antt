@@ -1,4 +1,4 @@
--- How often each version is live, kept beside the inodes.
+-- How often each version is live, kept besides the inodes.
 use Rattle.std.specs.Prelude.{◌≡◌, ◌≢◌, ◌≤◌, ◌+◌, ℕ, ◌==◌, ◌&&◌, List, Some, count_by, sum_by, flat_map, unwrap_or, if◌then◌else◌}
 use Rattle.std.specs.List.{filter}
 use Rattle.std.specs.List.Sorted.{IsStrictlySortedBy}
@@ -41,42 +41,42 @@ SameMarks old new = (v i : ℕ) → mark_of new v i ≡ mark_of old v i
 abbrev pub HaveMore : Counts → Counts → ℕ → ℕ → ℕ → Type 0
 HaveMore lower higher version inode count = (v i : ℕ) → mark_of lower v i + (if (v == version) && (i == inode) then count else 0) ≡ mark_of higher v i
 
--- how many places of an inode the version wrote
-abbrev pub places_by : ℕ → Held → ℕ
-places_by v h = count_by (λ w. w == v) (flat_map option_to_list h.writers)
+-- how many bytes of an inode the version wrote
+abbrev pub bytes_by : ℕ → Held → ℕ
+bytes_by v h = count_by (λ w. w == v) (flat_map option_to_list h.writers)
 
--- how many places the node's data bring to its version
+-- how many bytes the node's data bring to its version
 abbrev pub brought_by : ℕ → Node → ℕ
 brought_by v n = if v == n.version then dsize n else 0
 
--- There are marks for all places of an inode, and for the data of the node that is to be written over it.
+-- There are marks for all bytes of an inode, and for the data of the node that is to be written over it.
 abbrev pub HasMarks : Counts → Node → Held → Type 0
-HasMarks counts n h = (v : ℕ) → places_by v h + brought_by v n ≤ mark_of counts v n.inode
+HasMarks counts n h = (v : ℕ) → bytes_by v h + brought_by v n ≤ mark_of counts v n.inode
 
--- In the node's inode the marks for its places before and for the node's data have become those for its places after.
+-- In the node's inode the marks for its bytes before and for the node's data have become those for its bytes after.
 abbrev pub MovesMarks : Counts → Counts → Node → Held → Held → Type 0
-MovesMarks old new n before after = (v i : ℕ) → mark_of new v i + (if i == n.inode then places_by v before + brought_by v n else 0) ≡ mark_of old v i + (if i == n.inode then places_by v after else 0)
+MovesMarks old new n before after = (v i : ℕ) → mark_of new v i + (if i == n.inode then bytes_by v before + brought_by v n else 0) ≡ mark_of old v i + (if i == n.inode then bytes_by v after else 0)
 
--- There are marks for all places of an inode.
-abbrev pub HasPlaces : Counts → ℕ → Held → Type 0
-HasPlaces counts inode h = (v : ℕ) → places_by v h ≤ mark_of counts v inode
+-- There are marks for all bytes of an inode.
+abbrev pub HasByteMarks : Counts → ℕ → Held → Type 0
+HasByteMarks counts inode h = (v : ℕ) → bytes_by v h ≤ mark_of counts v inode
 
--- The marks for all places of an inode are gone.
-abbrev pub LosesPlaces : Counts → Counts → ℕ → Held → Type 0
-LosesPlaces old new inode h = (v i : ℕ) → mark_of new v i + (if i == inode then places_by v h else 0) ≡ mark_of old v i
+-- The marks for all bytes of an inode are gone.
+abbrev pub LosesByteMarks : Counts → Counts → ℕ → Held → Type 0
+LosesByteMarks old new inode h = (v i : ℕ) → mark_of new v i + (if i == inode then bytes_by v h else 0) ≡ mark_of old v i
 
--- how many places of an inode in a tree the version wrote
-abbrev pub places_in : Tree → ℕ → ℕ → ℕ
-places_in tree v i = option_map_or (λ h. places_by v h) (held_in tree i) 0
+-- how many bytes of an inode in a tree the version wrote
+abbrev pub bytes_by_in : Tree → ℕ → ℕ → ℕ
+bytes_by_in tree v i = option_map_or (λ h. bytes_by v h) (held_in tree i) 0
 
 -- `HasMarks` and `MovesMarks` of the node's inode in a tree, present or not
 abbrev pub HasMarksIn : Counts → Node → Tree → Type 0
-HasMarksIn counts n tree = (v : ℕ) → places_in tree v n.inode + brought_by v n ≤ mark_of counts v n.inode
+HasMarksIn counts n tree = (v : ℕ) → bytes_by_in tree v n.inode + brought_by v n ≤ mark_of counts v n.inode
 
 abbrev pub MovesMarksIn : Counts → Counts → Node → Tree → Tree → Type 0
-MovesMarksIn old new n before after = (v i : ℕ) → mark_of new v i + (if i == n.inode then places_in before v i + brought_by v n else 0) ≡ mark_of old v i + (if i == n.inode then places_in after v i else 0)
+MovesMarksIn old new n before after = (v i : ℕ) → mark_of new v i + (if i == n.inode then bytes_by_in before v i + brought_by v n else 0) ≡ mark_of old v i + (if i == n.inode then bytes_by_in after v i else 0)
 
--- how often the tree holds the version in an inode: once as its newest, once for each place
+-- how often the tree holds the version in an inode: once as its newest, once for each byte
 abbrev pub held_marks : Tree → ℕ → ℕ → ℕ
 held_marks tree v i = option_map_or (λ h. count_by (λ w. w == v) (versions_held (i, h))) (held_in tree i) 0
 

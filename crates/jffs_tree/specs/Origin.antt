@@ -18,29 +18,29 @@ entry (n ∷ past) i = if concerns i n then (if n.deleted then None else Some (w
 abbrev pub size_in : List Node → ℕ → ℕ
 size_in past i = length (bytes_of (entry past i))
 
--- whether the node's data stand at the place
+-- whether the node's data stand at the offset
 abbrev pub writes : Node → ℕ → Bool
 writes n p = nat_le n.offset p && nat_lt p (n.offset + dsize n)
 
 -- where it stood before the node, if the node didn't write it
-abbrev pub place_before : Node → ℕ → ℕ
-place_before n p = if nat_lt p n.offset then p else ((p - dsize n) + n.rsize)
+abbrev pub offset_before : Node → ℕ → ℕ
+offset_before n p = if nat_lt p n.offset then p else ((p - dsize n) + n.rsize)
 
--- The node that wrote the byte at place p of a file. Padding has none.
+-- The node that wrote the byte at offset p of a file. Padding has none.
 abbrev pub origin : List Node → ℕ → ℕ → Option Node
 origin [] i p = None
 origin (n ∷ past) i p =
     if not (concerns i n) then origin past i p else (
     if n.deleted then None else (
     if writes n p then Some n else (
-    if nat_lt (place_before n p) (size_in past i) then origin past i (place_before n p) else None)))
+    if nat_lt (offset_before n p) (size_in past i) then origin past i (offset_before n p) else None)))
 
--- Where in the data of its origin the byte at place p stood.
-abbrev pub origin_place : List Node → ℕ → ℕ → ℕ
-origin_place [] i p = p
-origin_place (n ∷ past) i p =
-    if not (concerns i n) then origin_place past i p else (
-    if writes n p then p - n.offset else origin_place past i (place_before n p))
+-- Where in the data of its origin the byte at offset p stood.
+abbrev pub origin_offset : List Node → ℕ → ℕ → ℕ
+origin_offset [] i p = p
+origin_offset (n ∷ past) i p =
+    if not (concerns i n) then origin_offset past i p else (
+    if writes n p then p - n.offset else origin_offset past i (offset_before n p))
 
 -- the last node of an inode that is present
 abbrev pub newest : List Node → ℕ → Option Node
@@ -57,7 +57,7 @@ pub record Held : Type 0 where
 abbrev pub version_of : Option Node → Option ℕ
 version_of o = option_map (λ n. n.version) o
 
--- place by place
+-- byte by byte
 abbrev pub writers_of : List Node → ℕ → List (Option ℕ)
 writers_of past i = map (λ p. version_of (origin past i p)) (range_with_len 0 (size_in past i))
 
@@ -96,7 +96,7 @@ live_versions past = flat_map versions_held (tree_of past)
 abbrev pub holder : Tree → ℕ → Option (ℕ × Held)
 holder tree v = find (λ h. list_any (λ w. w == v) (versions_held h)) tree
 
--- how often a version is live: once as the newest, once for each place
+-- how often a version is live: once as the newest, once for each byte
 abbrev pub marks : List Node → ℕ → ℕ
 marks past v = count_by (λ w. w == v) (live_versions past)
 

@@ -34,7 +34,7 @@ impl Tree {
         true
     }
 
-    /// Each inode is the first of its name, so no two stand at one place.
+    /// Each inode is the first of its name, so no two have the same directory and name.
     fn names_differ(&self) -> bool
         ensures { result ≡ names_differ (state_in self.now) }
     {
@@ -85,7 +85,7 @@ impl Tree {
         true
     }
 
-    /// Whether so many names lead from the root to the inode, at most.
+    /// Whether at most `names` names lead from the root to the inode.
     fn is_within(&self, names: u32, inode: u32) -> bool
         ensures { result ≡ is_within names (state_in self.now) inode }
     {

@@ -2,24 +2,24 @@
 
 ghost use Rattle.std.specs.Prelude.{◌≡◌, ◌==◌, ◌&&◌, ◌≤◌, ℕ, true, false, Some, None, Option, IfSome, IfNone, IfOk};
 ghost use Rattle.std.specs.List.Sorted.{IsStrictlySortedBy};
-ghost use Rattle.jffs_tree.specs.Index.{Place, has_place, is_named, names_under};
+ghost use Rattle.jffs_tree.specs.Index.{ChildKey, has_child, is_named, names_under};
 ghost use Rattle.jffs_tree.specs.Look.{name_cmp};
 
 use jffs_node::Name;
 use std::alloc::{AllocError, Global};
 use std::collections::BTreeSet;
 
-/// A directory, a name in it and the inode that stands there. A place without a name is before
+/// A directory, a name in it and the inode that stands there. A key without a name is before
 /// all names of its directory.
-pub(crate) type Place = (u32, Option<Name>, u32);
+pub(crate) type ChildKey = (u32, Option<Name>, u32);
 
 /// The smallest inode of a name in a directory.
-pub(crate) fn first_named(places: &BTreeSet<Place>, parent: u32, name: &Name) -> Option<u32>
-    ensures there { IfSome result (λ i. has_place places.now.keys (parent, Some name.now, i) ≡ true) }
-    ensures least { IfSome result (λ i. (j : ℕ) → has_place places.now.keys (parent, Some name.now, j) ≡ true → i ≤ j) }
-    ensures none { IfNone result ((j : ℕ) → has_place places.now.keys (parent, Some name.now, j) ≡ false) }
+pub(crate) fn first_named(children: &BTreeSet<ChildKey>, parent: u32, name: &Name) -> Option<u32>
+    ensures there { IfSome result (λ i. has_child children.now.keys (parent, Some name.now, i) ≡ true) }
+    ensures least { IfSome result (λ i. (j : ℕ) → has_child children.now.keys (parent, Some name.now, j) ≡ true → i ≤ j) }
+    ensures none { IfNone result ((j : ℕ) → has_child children.now.keys (parent, Some name.now, j) ≡ false) }
 {
-    let mut rest = places.range((parent, Some(*name), 0)..);
+    let mut rest = children.range((parent, Some(*name), 0)..);
     let Some(first) = rest.next() else {
         return None;
     };
@@ -31,29 +31,29 @@ pub(crate) fn first_named(places: &BTreeSet<Place>, parent: u32, name: &Name) ->
 }
 
 /// Whether something stands in the directory.
-pub(crate) fn any_named(places: &BTreeSet<Place>, parent: u32) -> bool
-    ensures some { result ≡ true → (q : Place) × (has_place places.now.keys q ≡ true) × (q.0 ≡ parent) }
-    ensures none { result ≡ false → (q : Place) → q.0 ≡ parent → has_place places.now.keys q ≡ false }
+pub(crate) fn any_named(children: &BTreeSet<ChildKey>, parent: u32) -> bool
+    ensures some { result ≡ true → (q : ChildKey) × (has_child children.now.keys q ≡ true) × (q.0 ≡ parent) }
+    ensures none { result ≡ false → (q : ChildKey) → q.0 ≡ parent → has_child children.now.keys q ≡ false }
 {
-    let mut rest = places.range((parent, None, 0)..);
+    let mut rest = children.range((parent, None, 0)..);
     match rest.next() {
         Some(first) => first.0 == parent,
         None => false,
     }
 }
 
-/// The names in a directory, each with its inode, in the order of their places.
+/// The names in a directory, each with its inode, in the order of their keys.
 pub(crate) fn names_of(
     alloc: Global,
-    places: &BTreeSet<Place>,
+    children: &BTreeSet<ChildKey>,
     parent: u32,
 ) -> Result<Vec<(Name, u32)>, AllocError>
-    ensures all { IfOk result (λ names. names.items ≡ names_under parent places.now.keys) }
+    ensures all { IfOk result (λ names. names.items ≡ names_under parent children.now.keys) }
     ensures rising { IfOk result (λ names. IsStrictlySortedBy name_cmp names.items) }
 {
     let mut names = Vec::new(alloc);
-    for place in places.range((parent, None, 0)..) {
-        let (directory, name, inode) = *place;
+    for key in children.range((parent, None, 0)..) {
+        let (directory, name, inode) = *key;
         if directory != parent {
             break;
         }
@@ -64,12 +64,12 @@ pub(crate) fn names_of(
     Ok(names)
 }
 
-/// Whether the place is one of that name in that directory.
-pub(crate) fn bears(place: Place, parent: u32, name: &Name) -> bool
-    ensures { result ≡ ((place.0 == parent) && is_named name.now place.1) }
+/// Whether the key is one of that name in that directory.
+pub(crate) fn bears(key: ChildKey, parent: u32, name: &Name) -> bool
+    ensures { result ≡ ((key.0 == parent) && is_named name.now key.1) }
 {
-    match place.1 {
-        Some(found) => place.0 == parent && name.bytes() == found.bytes(),
+    match key.1 {
+        Some(found) => key.0 == parent && name.bytes() == found.bytes(),
         None => false,
     }
 }

@@ -2,7 +2,7 @@
 
 ghost use Rattle.std.specs.Prelude.{◌≡◌, true, IsTrue};
 ghost use Rattle.jffs_node.specs.Record.{is_lawful};
-ghost use Rattle.jffs_tree.specs.After.{can_apply, keeps_kind_in, keeps_places_in};
+ghost use Rattle.jffs_tree.specs.After.{can_apply, keeps_kind_in, keeps_offsets_in};
 
 use crate::tree::Tree;
 use jffs_node::{Node, is_lawful};
@@ -15,9 +15,9 @@ impl Tree {
     pub fn can_apply(&self, node: &Node) -> bool
         ensures value { result ≡ can_apply self.now node.now }
         ensures lawful { result ≡ true → IsTrue (is_lawful node.now) }
-        ensures places { result ≡ true → IsTrue (keeps_places_in self.now node.now) }
+        ensures offsets { result ≡ true → IsTrue (keeps_offsets_in self.now node.now) }
     {
-        is_lawful(node) && self.keeps_kind(node) && self.keeps_places(node)
+        is_lawful(node) && self.keeps_kind(node) && self.keeps_offsets(node)
     }
 
     fn keeps_kind(&self, node: &Node) -> bool
@@ -32,8 +32,8 @@ impl Tree {
         }
     }
 
-    fn keeps_places(&self, node: &Node) -> bool
-        ensures { result ≡ keeps_places_in self.now node.now }
+    fn keeps_offsets(&self, node: &Node) -> bool
+        ensures { result ≡ keeps_offsets_in self.now node.now }
     {
         let amount = node.bytes.as_slice().len();
         if amount == node.rsize as usize {

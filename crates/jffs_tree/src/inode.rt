@@ -1,10 +1,10 @@
-//! One inode: its place in the tree, and a file's bytes as the fragments that nodes wrote.
+//! One inode: its parent and name, and a file's bytes as the fragments that nodes wrote.
 
 ghost use Rattle.std.specs.Prelude.{◌≡◌, ◌≢◌, ◌==◌, ◌&&◌, ◌+◌, ◌-◌, ◌≤◌, ◌++◌, [], Some, None, false, is_some, min, length, take, drop, OnOk, OnErr, bytes_eq, slice_index_or};
 ghost use Rattle.std.specs.List.{list_all};
 ghost use Rattle.jffs_node.specs.Record.{dsize};
 ghost use Rattle.jffs_tree.specs.After.{held_after, IsSmall};
-ghost use Rattle.jffs_tree.specs.Marks.{HasMarks, MovesMarks, SameMarks, HasPlaces, LosesPlaces};
+ghost use Rattle.jffs_tree.specs.Marks.{HasMarks, MovesMarks, SameMarks, HasByteMarks, LosesByteMarks};
 ghost use Rattle.jffs_tree.specs.Check.{bytes_are_written};
 ghost use Rattle.jffs_tree.specs.Decide.{is_current};
 
@@ -61,7 +61,7 @@ impl Inode {
         }
     }
 
-    /// Writes a node over the inode, and moves the marks of places with them. All room is made
+    /// Writes a node over the inode, and moves the marks of its bytes with them. All room is made
     /// before the first change.
     pub(crate) fn write(
         &mut self,
@@ -71,7 +71,7 @@ impl Inode {
     ) -> Result<(), AllocError>
         requires named { node.now.name ≡ Some name }
         requires small { IsSmall node.now }
-        requires places { dsize node.now ≢ node.now.rsize → length self.old.entry.bytes ≤ node.now.offset + node.now.rsize }
+        requires offsets { dsize node.now ≢ node.now.rsize → length self.old.entry.bytes ≤ node.now.offset + node.now.rsize }
         requires marked { HasMarks marks.old node.now self.old }
         ensures ok { OnOk result (self.new ≡ held_after node.now (Some self.old)) }
         ensures marks { OnOk result (MovesMarks marks.old marks.new node.now self.old self.new) }
@@ -86,10 +86,10 @@ impl Inode {
         Ok(())
     }
 
-    /// Takes the marks of all places of this inode away, before it goes.
+    /// Takes the marks of all bytes of this inode away, before it goes.
     pub(crate) fn release(&self, inode: u32, marks: &mut Marks)
-        requires { HasPlaces marks.old inode self.now }
-        ensures { LosesPlaces marks.old marks.new inode self.now }
+        requires { HasByteMarks marks.old inode self.now }
+        ensures { LosesByteMarks marks.old marks.new inode self.now }
     {
         lower_all(&self.fragments, inode, marks);
     }
@@ -121,10 +121,10 @@ impl Inode {
     }
 
     /// The version that wrote the byte at an offset, if one did.
-    pub(crate) fn writer(&self, place: u32) -> Option<u32>
-        ensures { result ≡ slice_index_or self.now.writers place None }
+    pub(crate) fn writer(&self, offset: u32) -> Option<u32>
+        ensures { result ≡ slice_index_or self.now.writers offset None }
     {
-        writer_at(&self.fragments, self.size, place)
+        writer_at(&self.fragments, self.size, offset)
     }
 
     /// Whether each byte has a last writer, or the newest node states the size.

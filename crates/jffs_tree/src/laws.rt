@@ -31,7 +31,7 @@ pub fn erasing_keeps_tree()
     ensures rules { ErasingKeepsRules }
 {}
 
-/// The byte at each place is the byte of its origin, or 0 where it has none.
+/// The byte at each offset is the byte of its origin, or 0 where it has none.
 pub fn bytes_come_from_origins()
     ensures { BytesComeFromOrigins }
 {}

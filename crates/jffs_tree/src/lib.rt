@@ -1,7 +1,7 @@
 //! What the file system knows in memory, and every decision that it takes.
 //!
 //! A `Tree` is what a list of nodes makes: for each inode its kind, parent, name and bytes, and
-//! byte by byte the version of the node that wrote it. Beside them it keeps how often each
+//! byte by byte the version of the node that wrote it. Besides them it keeps how often each
 //! version is live, so that no call walks the inodes for that. `Tree::apply` takes in the next
 //! node, `Tree::decide` says which node a wish gets or why it gets none, and the other calls
 //! look. It stands on `jffs_node` and knows nothing of flash, sectors or threads. Each call of

@@ -58,15 +58,15 @@ impl Tree {
         self.inode(inode).map(|found| found.newest)
     }
 
-    /// The version of the node that wrote the byte at `place`, an offset. `None` if none did: in a
+    /// The version of the node that wrote the byte at `offset`. `None` if none did: in a
     /// hole, and past the end.
-    pub fn last_writer(&self, inode: u32, place: u32) -> Option<u32>
-        ensures held { result ≡ slice_index_or (writers_in self.now inode) place None }
-        ensures inside { (past : List Node) → self.now ≡ tree_of past → place < size_in past inode → result ≡ version_of (origin past inode place) }
-        ensures past_end { (past : List Node) → self.now ≡ tree_of past → size_in past inode ≤ place → result ≡ None }
+    pub fn last_writer(&self, inode: u32, offset: u32) -> Option<u32>
+        ensures held { result ≡ slice_index_or (writers_in self.now inode) offset None }
+        ensures inside { (past : List Node) → self.now ≡ tree_of past → offset < size_in past inode → result ≡ version_of (origin past inode offset) }
+        ensures past_end { (past : List Node) → self.now ≡ tree_of past → size_in past inode ≤ offset → result ≡ None }
     {
         match self.inode(inode) {
-            Some(found) => found.writer(place),
+            Some(found) => found.writer(offset),
             None => None,
         }
     }

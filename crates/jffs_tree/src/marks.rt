@@ -7,7 +7,7 @@ use std::alloc::{AllocError, Global};
 use std::collections::BTreeMap;
 use std::marker::Model;
 
-/// For a version and an inode how many places of the inode the version wrote, and one more where
+/// For a version and an inode how many bytes of the inode the version wrote, and one more where
 /// it is the inode's newest. Only what is above zero is kept.
 #[derive(Drop)]
 pub(crate) struct Marks {

@@ -48,7 +48,7 @@ impl Session {
         Ok(decided.with(version, 1, version))
     }
 
-    /// Decides what each line wishes for, and applies what is granted. Behind `:` stands what has to
+    /// Decides what each line wishes for, and applies what is granted. After `:` stands what has to
     /// come of it; a line without that has to be granted.
     fn play(&mut self, rt: &impl Abort, script: &str) -> Result<(), Fail> {
         for line in script.lines() {
@@ -146,14 +146,14 @@ fn overlapping_writes(rt: HostRuntime) -> Result<(), Fail> {
     )?;
     session.contents(&rt, 2, b"hEYlo!abc");
     let tree = &session.tree;
-    for (place, writer) in [
+    for (offset, writer) in [
         (0, Some(2)),
         (1, Some(3)),
         (5, Some(4)),
         (8, Some(5)),
         (9, None),
     ] {
-        assert_eq!(rt; tree.last_writer(2, place), writer, "at {place}");
+        assert_eq!(rt; tree.last_writer(2, offset), writer, "at {offset}");
     }
     assert_eq!(rt; tree.newest(2), Some(5));
     assert!(rt; tree.live(2, 2) && tree.live(2, 5) && !tree.live(2, 1));
@@ -218,11 +218,11 @@ fn cleaned(session: &Session, source: &Node) -> Result<Node, Fail> {
     Ok(copied.with(session.next_version.unwrap_or(0), 0, 0))
 }
 
-/// A copy gives `/g` these bytes, in place of as many.
+/// A copy gives `/g` these bytes, instead of as many.
 fn is_copy(rt: &impl Abort, copied: &Node, bytes: &[u8]) {
     assert!(rt; copied.copy && copied.name == Name::from_bytes(b"g"));
-    let place = (copied.offset, copied.rsize as usize, copied.size);
-    assert_eq!(rt; place, (0, bytes.len(), Some(copied.rsize)));
+    let written = (copied.offset, copied.rsize as usize, copied.size);
+    assert_eq!(rt; written, (0, bytes.len(), Some(copied.rsize)));
     assert_eq!(rt; copied.bytes.as_slice(), bytes);
 }
 

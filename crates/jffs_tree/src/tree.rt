@@ -4,11 +4,11 @@ ghost use Rattle.std.specs.Prelude.{◌≡◌, ◌+◌, ◌≤◌, ℕ, ◌∷�
 ghost use Rattle.jffs_node.specs.declared.node.Node.{Node};
 ghost use Rattle.jffs_node.specs.Record.{file_max, is_lawful};
 ghost use Rattle.jffs_tree.specs.Origin.{tree_of};
-ghost use Rattle.jffs_tree.specs.After.{held_in, keeps_places_in, tree_after, without_inode, put_node, IsSmall, IsWritable, IsWritten};
+ghost use Rattle.jffs_tree.specs.After.{held_in, keeps_offsets_in, tree_after, without_inode, put_node, IsSmall, IsWritable, IsWritten};
 ghost use Rattle.jffs_tree.specs.Look.{parent_name_in};
 ghost use Rattle.jffs_tree.specs.Marks.{AreMarksOf, SameMarks, HasMarksIn, MovesMarksIn, held_marks};
 
-use crate::children::{Place, bears};
+use crate::children::{ChildKey, bears};
 use crate::inode::Inode;
 use crate::marks::Marks;
 use crate::wish::Cause;
@@ -23,7 +23,7 @@ use std::marker::Model;
 pub struct Tree {
     pub(crate) alloc: Global,
     pub(crate) inodes: BTreeMap<u32, Inode>,
-    pub(crate) children: BTreeSet<Place>,
+    pub(crate) children: BTreeSet<ChildKey>,
     pub(crate) marks: Marks,
 }
 
@@ -60,7 +60,7 @@ impl Tree {
     /// `Memory` if allocation failed: nothing is changed.
     pub fn apply(&mut self, node: &Node) -> Result<(), Cause>
         requires lawful { IsTrue (is_lawful node.now) }
-        requires places { IsTrue (keeps_places_in self.old node.now) }
+        requires offsets { IsTrue (keeps_offsets_in self.old node.now) }
         ensures after { OnOk result (self.new ≡ tree_after self.old node.now) }
         ensures ok { OnOk result ((past : List Node) → self.old ≡ tree_of past → self.new ≡ tree_of (node.now ∷ past)) }
         ensures err { OnErr result (self.new ≡ self.old) }
@@ -93,7 +93,7 @@ impl Tree {
     fn write(&mut self, node: &Node, name: Name) -> Result<(), AllocError>
         requires named { node.now.name ≡ Some name }
         requires small { IsSmall node.now }
-        requires places { IsTrue (keeps_places_in self.old node.now) }
+        requires offsets { IsTrue (keeps_offsets_in self.old node.now) }
         ensures ok { OnOk result (self.new ≡ put_node self.old node.now) }
         ensures err { OnErr result (self.new ≡ self.old) }
     {
@@ -118,7 +118,7 @@ impl Tree {
     fn write_here(&mut self, node: &Node, name: Name) -> Result<(), AllocError>
         requires named { node.now.name ≡ Some name }
         requires small { IsSmall node.now }
-        requires places { IsTrue (keeps_places_in self.old node.now) }
+        requires offsets { IsTrue (keeps_offsets_in self.old node.now) }
         requires here { parent_name_in self.old node.now.inode ≡ Some (node.now.parent, name) }
         ensures ok { OnOk result (self.new ≡ put_node self.old node.now) }
         ensures err { OnErr result (self.new ≡ self.old) }
@@ -127,18 +127,18 @@ impl Tree {
         Ok(())
     }
 
-    /// Writes a node over its inode, whose place may change. The new place is entered first and the
+    /// Writes a node over its inode, whose key may change. The new key is entered first and the
     /// old one left last, so that it can be taken back if allocation fails.
     fn write_elsewhere(&mut self, node: &Node, name: Name) -> Result<(), AllocError>
         requires named { node.now.name ≡ Some name }
         requires small { IsSmall node.now }
-        requires places { IsTrue (keeps_places_in self.old node.now) }
+        requires offsets { IsTrue (keeps_offsets_in self.old node.now) }
         ensures ok { OnOk result (self.new ≡ put_node self.old node.now) }
         ensures err { OnErr result (self.new ≡ self.old) }
     {
         let old = self.parent_name(node.inode);
-        let place = (node.parent, Some(name), node.inode);
-        let is_new = self.children.insert(place)?;
+        let key = (node.parent, Some(name), node.inode);
+        let is_new = self.children.insert(key)?;
         if let Err(refused) = write_marked(
             self.alloc,
             &mut self.inodes,
@@ -147,14 +147,14 @@ impl Tree {
             name,
         ) {
             if is_new {
-                self.children.remove(&place);
+                self.children.remove(&key);
             }
             return Err(refused);
         }
         if let Some((parent, left)) = &old {
-            let left_place = (*parent, Some(*left), node.inode);
-            if !bears(left_place, node.parent, &name) {
-                self.children.remove(&left_place);
+            let left_key = (*parent, Some(*left), node.inode);
+            if !bears(left_key, node.parent, &name) {
+                self.children.remove(&left_key);
             }
         }
         Ok(())
@@ -190,7 +190,7 @@ fn write_marked(
 }
 
 /// The newest version of an inode in a map. No version has more marks there than a file has
-/// places, and that one.
+/// bytes, and that one.
 fn newest_of(inodes: &BTreeMap<u32, Inode>, inode: u32) -> Option<u32>
     ensures held { option_map (λ v. Some v) result ≡ option_map (λ h. h.newest) (held_in inodes.now.entries inode) }
     ensures few { (v : ℕ) → held_marks inodes.now.entries v inode ≤ file_max + 1 }
@@ -201,7 +201,7 @@ fn newest_of(inodes: &BTreeMap<u32, Inode>, inode: u32) -> Option<u32>
     }
 }
 
-/// Writes a node over its inode in a map, present or not, and moves the marks of places.
+/// Writes a node over its inode in a map, present or not, and moves the marks of its bytes.
 fn write_inode(
     alloc: Global,
     inodes: &mut BTreeMap<u32, Inode>,
@@ -226,7 +226,7 @@ fn write_inode(
     Ok(())
 }
 
-/// Writes a node over its inode in a map, where it is present, and moves the marks of places.
+/// Writes a node over its inode in a map, where it is present, and moves the marks of its bytes.
 fn write_present(
     inodes: &mut BTreeMap<u32, Inode>,
     marks: &mut Marks,

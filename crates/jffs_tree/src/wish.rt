@@ -86,7 +86,7 @@ pub enum Wish {
     MakeDir(Path),
     /// A new file without bytes.
     Create(Path),
-    /// These bytes in a file from `offset` on, in place of those that stand there. Past the
+    /// These bytes in a file from `offset` on, instead of those that stand there. Past the
     /// file's end the file grows, and a gap reads as zeros. Without bytes nothing is changed.
     Write {
         path: Path,

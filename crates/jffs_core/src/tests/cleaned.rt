@@ -80,7 +80,7 @@ fn cleaning_copies_current_names(rt: HostRuntime) -> Result<(), Fail> {
     Ok(())
 }
 
-/// Cleaning erases sector 0 after so many copies.
+/// Cleaning erases sector 0 after `copies` copies.
 fn cleans(rt: &impl Abort, session: &mut Session<MemoryFlash>, copies: u32) {
     let cleaned = Cleaned::Erased { sector: 0, copies };
     assert_eq!(rt; session.core.clean_oldest(), Ok(cleaned));
@@ -100,8 +100,8 @@ fn removed_inode_leaves_no_record(rt: HostRuntime) -> Result<(), Fail> {
          write /z 0 192*a : appended 3 7",
     )?;
     cleans(&rt, &mut session, 0);
-    let kept = session.core.log().records();
-    assert_eq!(rt; kept.len(), 1);
-    assert!(rt; kept.iter().all(|record| record.inode == 3));
+    let records = session.core.log().records();
+    assert_eq!(rt; records.len(), 1);
+    assert!(rt; records.iter().all(|record| record.inode == 3));
     session.play(&rt, "create /a : appended 4 8")
 }

@@ -12,7 +12,7 @@ fn fused(alloc: Global, calls: u64, fail: FuseFail) -> Result<Session<FuseFlash>
     Session::over(alloc, FuseFlash::new(flash, calls, Fused::Writes, fail))
 }
 
-/// What a mount finds on the device without its fuse: a log that was not closed, and so many names.
+/// What a mount finds on the device without its fuse: a log that was not closed, and `names` names.
 fn left_of(
     rt: &impl Abort,
     session: Session<FuseFlash>,

@@ -43,17 +43,17 @@ pub(super) const WRITTEN_NOTHING: [u8; 64] = [
     0, 0, 0, 0, 0, 0, 0,
 ];
 
-/// An erased volume with these bytes at these places.
+/// An erased volume with these bytes at these offsets.
 fn image_of(
     alloc: Global,
     sectors: usize,
     written: &[(usize, &[u8])],
 ) -> Result<Vec<u8>, AllocError> {
     let mut image = Vec::new(alloc);
-    for place in 0..sectors.saturating_mul(1024) {
+    for offset in 0..sectors.saturating_mul(1024) {
         let byte = written
             .iter()
-            .find_map(|(at, bytes)| bytes.get(place.checked_sub(*at)?).copied());
+            .find_map(|(at, bytes)| bytes.get(offset.checked_sub(*at)?).copied());
         image.push(byte.unwrap_or(ERASED_BYTE))?;
     }
     Ok(image)

@@ -42,7 +42,7 @@ impl<F: Flash + Drop> Session<F> {
         }
     }
 
-    /// Asks for each line's wish. Behind `:` stands what it has to be answered.
+    /// Asks for each line's wish. After `:` stands what it has to be answered.
     pub(super) fn play(&mut self, rt: &impl Abort, script: &str) -> Result<(), Fail> {
         for line in script.lines() {
             let (wish, wanted) = line.split_once(" : ").ok_or("a line without answer")?;
@@ -59,7 +59,7 @@ impl<F: Flash + Drop> Session<F> {
         Ok(self.answer(wish)?)
     }
 
-    /// Answers a wish. If allocation fails the place is asked for again.
+    /// Answers a wish. If allocation fails capacity is asked for again.
     fn answer(&mut self, wish: Wish) -> Result<Outcome, Cause> {
         self.seq = self.seq.saturating_add(1);
         if self.core.reserve_answer().is_err() {
@@ -93,7 +93,7 @@ impl<F: Flash + Drop> Session<F> {
     /// How many records stand in a sector.
     pub(super) fn records_in(&self, sector: u32) -> usize {
         let records = self.core.log().records().iter();
-        records.filter(|kept| kept.sector == sector).count()
+        records.filter(|entry| entry.sector == sector).count()
     }
 
     /// How many sectors are erased.
@@ -198,7 +198,7 @@ pub(super) fn part(image: &Vec<u8>, at: usize, end: usize) -> &[u8] {
     image.get(at..end).unwrap_or(&[])
 }
 
-/// From a place on, an image has these bytes.
+/// From an offset on, an image has these bytes.
 pub(super) fn holds(rt: &impl Abort, image: &Vec<u8>, at: usize, bytes: &[u8]) {
     let end = at.saturating_add(bytes.len());
     assert_eq!(rt; part(image, at, end), bytes, "at {at}");

@@ -88,7 +88,7 @@ fn trees_of<F: Flash + Drop>(session: &mut Session<F>, run: &str) -> Result<Vec<
     Ok(trees)
 }
 
-/// What a device holds whose fuse blew after so many calls, beside how many requests were answered
+/// What a device holds whose fuse blew after some calls, and how many requests were answered
 /// before; None where the fuse never blew.
 #[derive(Drop)]
 struct Blown {

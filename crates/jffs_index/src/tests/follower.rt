@@ -12,7 +12,7 @@ use std::test::Fail;
 use std::thread;
 use std::thread::Threads;
 
-/// Looks until so many answers are seen, and answers how many were seen last.
+/// Looks until `count` answers are seen, and answers how many were seen last.
 fn look_until(reader: &mut Reader, count: u64) -> u64
     ensures { index_of reader.new ≡ index_of reader.old }
 {

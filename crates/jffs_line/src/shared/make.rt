@@ -8,7 +8,7 @@ ghost use Rattle.jffs_line.specs.Line.{senders};
 ghost use Rattle.jffs_line.specs.Shared.{channel_line, shared_end, shared_accepted, shared_capacity, shared_ends, shared_taken, all_hands};
 ghost use Rattle.jffs_line.specs.declared.request.LineFault.TheVariants.{Capacity, Senders};
 
-use super::{Each, EachInOrder, Place, Receives, Sends, SharedHand, SharedLine, SharedTaker};
+use super::{Each, EachInOrder, Receives, Sends, SharedHand, SharedLine, SharedPass, SharedTaker};
 use crate::hand::{CLEANER, CONTROL, Control, Ends, Hands, MOST_CAPACITY, MOST_WRITERS};
 use crate::knows::Knows;
 use crate::request::{LineFault, Request};
@@ -19,7 +19,7 @@ use std::alloc::{AllocError, Global};
 fn first_hand(
     sends: &Sends,
     receives: &Receives,
-    pass: &mut Place,
+    pass: &mut SharedPass,
     number: u16,
 ) -> Result<SharedHand, AllocError>
     requires seat { IsSeatAt (sends_on sends.now) pass.old }
@@ -47,7 +47,7 @@ fn writer_hands(
     alloc: Global,
     sends: &Sends,
     receives: &Receives,
-    pass: &mut Place,
+    pass: &mut SharedPass,
     count: u16,
 ) -> Result<Vec<SharedHand>, AllocError>
     requires seat { IsSeatAt (sends_on sends.now) pass.old }

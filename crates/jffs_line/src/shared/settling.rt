@@ -6,14 +6,14 @@ ghost use Rattle.jffs_line.specs.InOrder.{Learned, knows, joined};
 ghost use Rattle.jffs_line.specs.Requests.{of, IsNumbered};
 ghost use Rattle.jffs_line.specs.Shared.{channel_line, shared_line, shared_end, shared_accepted, shared_ends, shared_taken, all_hands, hand_sent};
 
-use super::{Each, Place, Receives, Sends, SharedHand, SharedTaker, Take};
+use super::{Each, Receives, Sends, SharedHand, SharedPass, SharedTaker, Take};
 use crate::hand::{Hands, Settle};
 use crate::request::{Request, SettleFault, Settled};
 use std::alloc::{AllocError, Global};
 use std::sync::Wait;
 
 // The passes of all hands come back.
-fn give_all_back(sends: &Sends, pass: &mut Place, hands: Vec<SharedHand>)
+fn give_all_back(sends: &Sends, pass: &mut SharedPass, hands: Vec<SharedHand>)
     requires seat { IsSeatAt (sends_on sends.now) pass.old }
     requires line { All (λ h. shared_line h ≡ channel_line (sends_on sends.now)) hands.items }
     ensures seat { IsSeatAt (sends_on sends.now) pass.new }
@@ -30,7 +30,7 @@ fn drain<R: Wait>(
     rt: &R,
     alloc: Global,
     receives: &Receives,
-    pass: &mut Place,
+    pass: &mut SharedPass,
 ) -> Result<Vec<Request>, AllocError>
     requires seat { IsSeatAt (receives_on receives.now) pass.old }
     requires takes { (view pass.old).takes ≡ true }

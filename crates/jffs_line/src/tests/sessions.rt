@@ -12,7 +12,7 @@ use std::sync::Wait;
 use std::thread;
 use std::thread::Threads;
 
-/// Offers so many wishes, each until it is accepted; an Unmount in place of one that has no memory, so that the taker
+/// Offers `count` wishes, each until it is accepted; an Unmount instead of one that has no memory, so that the taker
 /// gets as many as it waits for.
 fn hand_in_all<H: Hand, R: Wait>(rt: &R, alloc: Global, hand: H, count: u32) -> H
     ensures { ◌≡◌ {A = End} (H.sender result, H.line result) (H.sender hand, H.line hand) }
@@ -43,7 +43,7 @@ fn insist<H: Hand, R: Wait>(rt: &R, hand: &mut H, wish: Wish)
     }
 }
 
-/// The writers' hands, after each handed in so many wishes in a thread of its own.
+/// The writers' hands, after each handed in `count` wishes in a thread of its own.
 fn write_all<H: Hand + Send, R: Threads + Wait + Sync>(
     rt: &R,
     alloc: Global,
@@ -77,7 +77,7 @@ struct Took<T: Taker> {
     requests: Vec<Request>,
 }
 
-/// Takes so many requests, also where there is no memory to keep them, since writers wait to be rid of theirs.
+/// Takes `count` requests, also where there is no memory to keep them, since writers wait to be rid of theirs.
 fn take_all<T: Taker, R: Wait>(rt: &R, alloc: Global, taker: T, count: usize) -> Took<T>
     ensures { T.ends result.taker ≡ T.ends taker }
 {
@@ -99,7 +99,7 @@ pub(super) struct Session {
     pub(super) waiting: Vec<Request>,
 }
 
-/// The taker takes so many requests, while each writer hands in so many wishes.
+/// The taker takes `takes` requests, while each writer hands in `wishes` wishes.
 pub(super) fn run_session<H: Hand + Send, T: Settle<Of = H> + Send, R: Threads + Wait + Sync>(
     rt: &R,
     alloc: Global,

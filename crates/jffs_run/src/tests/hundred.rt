@@ -64,13 +64,13 @@ fn put_writer(text: &mut Vec<u8>, writer: u32) -> Result<(), Fail> {
     Ok(())
 }
 
-/// Writes so many equal bytes from an offset on; what lies between the end and the offset is 0.
+/// Writes `count` equal bytes from an offset on; what lies between the end and the offset is 0.
 fn fill(bytes: &mut Vec<u8>, offset: usize, count: usize, byte: u8) -> Result<(), Fail> {
-    for place in (0..count).map(|k| offset.saturating_add(k)) {
-        for _ in bytes.len()..=place {
+    for at in (0..count).map(|k| offset.saturating_add(k)) {
+        for _ in bytes.len()..=at {
             bytes.push(0)?;
         }
-        if let Some(there) = bytes.get_mut(place) {
+        if let Some(there) = bytes.get_mut(at) {
             *there = byte;
         }
     }
@@ -80,8 +80,8 @@ fn fill(bytes: &mut Vec<u8>, offset: usize, count: usize, byte: u8) -> Result<()
 /// What the command of this writer with this number does to the files.
 fn carry_out(files: &mut Vec<File>, writer: u16, seq: u32) -> Result<(), Fail> {
     let is_shared = seq % 2 == 1;
-    let place = if is_shared { 0 } else { usize::from(writer) };
-    let file = files.get_mut(place).ok_or("a file that no command names")?;
+    let slot = if is_shared { 0 } else { usize::from(writer) };
+    let file = files.get_mut(slot).ok_or("a file that no command names")?;
     if seq <= 2 {
         file.is_made = true;
         return Ok(());

@@ -1,4 +1,4 @@
-//! Scripts with more than one thread beside the log's, over both lines.
+//! Scripts with more than one thread besides the log's, over both lines.
 
 use super::{printed, prints};
 use std::alloc::Global;

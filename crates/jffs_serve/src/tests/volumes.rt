@@ -63,8 +63,8 @@ fn answer_all(core: &mut Core<MemoryFlash>, wishes: Vec<Wish>) -> Result<(), Fai
 /// A file of 1,728 bytes: four records in sector 0, three in sector 1, three in sector 2.
 pub(super) fn filled(alloc: Global) -> Result<Core<MemoryFlash>, Fail> {
     let mut wishes = vec![in alloc; create(alloc, "/f")?]?;
-    for place in 0u32..9 {
-        wishes.push(write(alloc, "/f", place * 192, &[0x61; 192])?)?;
+    for turn in 0u32..9 {
+        wishes.push(write(alloc, "/f", turn * 192, &[0x61; 192])?)?;
     }
     let mut core = erased(alloc, 6)?;
     answer_all(&mut core, wishes)?;

@@ -102,10 +102,10 @@ fn push_record(image: &mut Vec<u8>, record: &Record) -> Result<(), AllocError> {
     fill(image, begin, 64 + padded)
 }
 
-/// The image with another byte at this place.
+/// The image with another byte at this offset.
 pub(crate) fn changed(mut image: Vec<u8>, at: usize, byte: u8) -> Vec<u8> {
-    if let Some(place) = image.get_mut(at) {
-        *place = byte;
+    if let Some(found) = image.get_mut(at) {
+        *found = byte;
     }
     image
 }

@@ -5,7 +5,7 @@ use crate::tests::records::image_of;
 use std::alloc::{AllocError, Global};
 use std::test::Fail;
 
-/// Behind the script, so many requests of writer 1 from this number on, each a fill of 192 bytes.
+/// Adds a request of writer 1 for each offset, numbered from 2 on, each a fill of 192 bytes.
 fn push_fills(alloc: Global, script: &mut String, offsets: &[u32]) -> Result<(), AllocError> {
     let mut seq = 2u32;
     for offset in offsets {

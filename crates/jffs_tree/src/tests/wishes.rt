@@ -112,7 +112,7 @@ fn bytes(alloc: Global, bytes: &[u8]) -> Result<Bytes, Fail> {
     Ok(copied(alloc, bytes)?)
 }
 
-/// The same byte so many times, at most 256.
+/// The same byte `times` times, at most 256.
 fn many(alloc: Global, times: usize, byte: &[u8]) -> Result<Bytes, Fail> {
     let many = [*byte.first().ok_or("no byte")?; 256];
     bytes(alloc, many.get(..times).ok_or("too many bytes")?)

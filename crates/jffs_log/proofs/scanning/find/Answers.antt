@@ -9,7 +9,7 @@ use Rattle.jffs_tree.specs.Check.{makes_tree}
 use Rattle.jffs_log.specs.declared.scanning.ScanWhy.{ScanWhy}
 use Rattle.jffs_log.specs.declared.scanning.ScanWhy.TheVariants.{Geometry, BadTree, Memory}
 use Rattle.jffs_log.specs.Image.{records_in, free_of_tail, is_clean_tail}
-use Rattle.jffs_log.specs.Book.{kept}
+use Rattle.jffs_log.specs.LogIndex.{ref_of}
 use Rattle.jffs_log.specs.Scan.{versions_rise}
 use Rattle.jffs_log.specs.ScanRead.{number_of_tail, used_of_tail, oldest_sector}
 use Rattle.jffs_log.specs.Room.{limits as limits_after}
@@ -18,8 +18,8 @@ use Rattle.jffs_log.proofs.Ring.{Numbered}
 use Rattle.jffs_log.proofs.Appended.{sizes_small}
 use Rattle.jffs_log.proofs.Results.{err_from}
 use Rattle.jffs_log.proofs.ScanSectors.{all_split}
-use Rattle.jffs_log.proofs.ScanBook.{kept_is}
-use Rattle.jffs_log.proofs.ScanFound.{unmoved, cause_at, found_at, geometry_refused, read_refused, oldest_refused, order_refused, tree_refused, scan_is, IsAll, log_nodes, located_in, kept_in, first_below, held_below, limits_are}
+use Rattle.jffs_log.proofs.ScanIndex.{described_is}
+use Rattle.jffs_log.proofs.ScanFound.{unmoved, cause_at, found_at, geometry_refused, read_refused, oldest_refused, order_refused, tree_refused, scan_is, IsAll, log_nodes, located_in, described_in, first_below, held_below, limits_are}
 use Rattle.jffs_log.proofs.scanning.find.Goals as goal
 
 pub returns-then-not-is_geometry-clause-refused : goal.returns-then-not-is_geometry-clause-refused
@@ -85,7 +85,7 @@ keep_log-requires-clause-ring g c =
     let sizes = c.if-not-is_geometry.ensures.0 refl in
     let list = c.in_ok-held.held.items in
     let oldest : Ok c.in_ok-first.first ≡ oldest_sector (map (λ (s : Numbered). s.1) list) = c.in_ok-first.ensures ∙ ap (λ (xs : List Numbered). oldest_sector (map (λ (s : Numbered). s.1) xs)) c.deref.ensures.value in
-    kept_in count len image list c.in_ok-first.first c.in_ok-held.ensures.read oldest
+    described_in count len image list c.in_ok-first.first c.in_ok-held.ensures.read oldest
 
 pub overflow_cast-many : goal.overflow_cast-many
 overflow_cast-many g c =
@@ -105,8 +105,8 @@ overflow_cast-many g c =
     let same = c.keep_log.new.found.ok in
     omega arith
 
-pub overflow_cast-book : goal.overflow_cast-book
-overflow_cast-book g c =
+pub overflow_cast-index : goal.overflow_cast-index
+overflow_cast-index g c =
     let count = c.sectors-sectors.result in
     let len = c.sector_size-sector_size.result in
     let image = (g.F.Flash.device c.args.flash.now).image in
@@ -185,12 +185,12 @@ returns-clause-found g c =
     found_at count _ len _ image _ _ _ _ c.sectors-sectors.ensures.count c.sector_size-sector_size.ensures
     (record {
       answer = scan_is count len image c.in_ok-first.first held nodes all c.in_ok-tree.tree c.is_clean-clean.result rise lawful made ends;
-      book = kept_is count len image list c.in_ok-first.first held whole c.in_ok-held.ensures.read log sizes c.len-many.result c.of-tail.result.sector c.of-tail.result.used c.of-tail.result.free c.in_ok-records.records.items
+      index = described_is count len image list c.in_ok-first.first held whole c.in_ok-held.ensures.read log sizes c.len-many.result c.of-tail.result.sector c.of-tail.result.used c.of-tail.result.free c.in_ok-records.records.items
           counted
           (c.of-tail.ensures.sector ∙ ap (λ (xs : List Numbered). number_of_tail (last_or None xs)) c.deref-2.ensures.value)
           (c.of-tail.ensures.used ∙ ap (λ (xs : List Numbered). used_of_tail (last_or None xs)) c.deref-2.ensures.value)
           (c.of-tail.ensures.free ∙ ap (λ (xs : List Numbered). free_of_tail len (last_or None xs)) c.deref-2.ensures.value)
-          (c.in_ok-records.ensures ∙ ap (λ (xs : List Numbered). map kept (flat_map records_in xs)) c.deref-4.ensures.value);
+          (c.in_ok-records.ensures ∙ ap (λ (xs : List Numbered). map ref_of (flat_map records_in xs)) c.deref-4.ensures.value);
       sizes = (refl, refl);
       erases = refl;
       limits_are =

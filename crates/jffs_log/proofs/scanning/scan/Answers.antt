@@ -8,12 +8,12 @@ use Rattle.jffs_log.proofs.scanning.scan.Goals as goal
 pub invariant_of-result : goal.invariant_of-result
 invariant_of-result g c =
     let e = c.in-Ok.ensures in
-    let book = c.in-Ok.found.book in
-    let one = some_erased _ _ _ _ _ _ _ _ _ e.found.book in
-    let P : Device → Type 0 = λ d. IsLog (record { device = d; book = book; failed = false }) in
+    let index = c.in-Ok.found.index in
+    let one = some_erased _ _ _ _ _ _ _ _ _ e.found.index in
+    let P : Device → Type 0 = λ d. IsLog (record { device = d; index = index; failed = false }) in
     subst P (sym e.same) (record {
       sizes = e.found.sizes;
       held = omega (arith, one);
-      few = records_few _ _ _ _ _ _ _ _ _ e.found.book;
-      told = λ works. e.found.book;
+      few = records_few _ _ _ _ _ _ _ _ _ e.found.index;
+      told = λ works. e.found.index;
     })

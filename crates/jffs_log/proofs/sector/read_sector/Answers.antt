@@ -34,7 +34,7 @@ loop-nodes-smaller c = let m = more c in let inside = m.inside in let long = m.l
 pub invariant_of-result : goal.invariant_of-result
 invariant_of-result c = record {
   filled = c.loop-nodes.invariant.filled;
-  lawful = all_lawful _ _ c.loop-nodes.nodes.items c.loop-nodes.invariant.holds.in_place;
+  lawful = all_lawful _ _ c.loop-nodes.nodes.items c.loop-nodes.invariant.holds.fit;
 }
 
 pub returns-in_default : goal.returns-in_default

@@ -5,11 +5,11 @@ use Rattle.jffs_node.specs.declared.node.Node.{Node}
 use Rattle.jffs_node.specs.declared.header.Head.{Head}
 use Rattle.jffs_node.specs.declared.read.Why.{Why}
 use Rattle.jffs_node.specs.declared.read.Why.TheVariants as why
-use Rattle.jffs_node.specs.Record.{numbers_hold, has_place}
+use Rattle.jffs_node.specs.Record.{numbers_hold, fits_rest}
 use Rattle.jffs_node.specs.Reading.{node_at, data_len, size_holds, padding_holds, first_broken, rules, broken_rule}
 use Rattle.jffs_node.specs.Header.{label_rules, head_at, head_or_why}
 use Rattle.jffs_node.proofs.Sound.{all_hold}
-use Rattle.jffs_node.proofs.Rules.{rule_holds, rule_broken, labels_read, labels_refused, broken_front, first_later, numbers_without_data, place_parts}
+use Rattle.jffs_node.proofs.Rules.{rule_holds, rule_broken, labels_read, labels_refused, broken_front, first_later, numbers_without_data, fits_rest_parts}
 use Rattle.jffs_node.proofs.decoding.head_of.Goals as goal
 
 refused : (rest : List ℕ) (record_max : ℕ) (r : Result Head Why) (e w : Why) → (x : Why) × (r ≡ Err x) × (x ≡ e) → e ≡ w → broken_rule record_max rest ≡ Some w
@@ -34,10 +34,10 @@ nothing_broken rest record_max h s p =
 
 -- the rule on numbers, of the node that was read without its data
 size_is : (rest : List ℕ) (record_max : ℕ) (n : Node) (amount : ℕ) → n ≡ (head_at rest).node → amount ≡ data_len rest
-    → (numbers_hold n amount && has_place n.kind amount record_max (length rest)) ≡ size_holds record_max rest
+    → (numbers_hold n amount && fits_rest n.kind amount record_max (length rest)) ≡ size_holds record_max rest
 size_is rest record_max n amount e a =
-    (λ i. numbers_hold (e i) (a i) && has_place (e i).kind (a i) record_max (length rest))
-    ∙ ap (λ t. t && has_place (node_at rest).kind (data_len rest) record_max (length rest)) (numbers_without_data (node_at rest) (data_len rest))
+    (λ i. numbers_hold (e i) (a i) && fits_rest (e i).kind (a i) record_max (length rest))
+    ∙ ap (λ t. t && fits_rest (node_at rest).kind (data_len rest) record_max (length rest)) (numbers_without_data (node_at rest) (data_len rest))
 
 pub labels_of-requires : goal.labels_of-requires
 labels_of-requires c = c.requires
@@ -55,7 +55,7 @@ pub check_padding-requires-clause-amount : goal.check_padding-requires-clause-am
 check_padding-requires-clause-amount c = c.word_at-amount.ensures
 
 pub check_padding-requires-clause-fits : goal.check_padding-requires-clause-fits
-check_padding-requires-clause-fits c = (place_parts _ _ _ _ (and_parts _ _ (rule_holds _ _ _ _ c.in_ok-check_numbers.ensures).0).1).1
+check_padding-requires-clause-fits c = (fits_rest_parts _ _ _ _ (and_parts _ _ (rule_holds _ _ _ _ c.in_ok-check_numbers.ensures).0).1).1
 
 pub returns-in_err-labels : goal.returns-in_err-labels
 returns-in_err-labels c =

@@ -12,7 +12,7 @@ fits_word a b e h = omega arith
 pub overflow_cast-result : goal.overflow_cast-result
 overflow_cast-result c = fits_word _ _ (c.len_with_data.ensures ∙ ap (λ (h : Head). len_of_data h.amount) c.requires.head) c.requires.short
 
--- a head with the data behind it is the record's node
+-- a head with the data after it is the record's node
 whole : (rest : List ℕ) (head : Head) (bytes : List ℕ) (len : ℕ) → head ≡ head_at rest → bytes ≡ take ((64 + head.amount) - 64) (drop 64 rest) → len ≡ len_of_data head.amount
     → Closed (record head.node { bytes = bytes }) len ≡ Closed (node_at rest) (len_of_data (data_len rest))
 whole rest head bytes len e d l =

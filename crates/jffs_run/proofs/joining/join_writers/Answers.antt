@@ -4,7 +4,7 @@ use Rattle.jffs_run.specs.Ends.{HandedIn, HandedInAll, end_of}
 use Rattle.jffs_run.specs.Started.{IsStarted, end_given}
 use Rattle.jffs_run.proofs.Crews.{same_end}
 use Rattle.jffs_run.proofs.Writers.{handed_in, handed_in_all}
-use Rattle.jffs_run.proofs.Places.{EachFrom-same, EachFrom-next, EachFrom-push, moved}
+use Rattle.jffs_run.proofs.Slots.{EachFrom-same, EachFrom-next, EachFrom-push, moved}
 use Rattle.jffs_run.proofs.joining.join_writers.Goals as goal
 
 pub loop-handle-preserved : goal.loop-handle-preserved

@@ -2,7 +2,7 @@ use Rattle.std.proofs.Common.{rules, ◌≡◌, inl, inr, ℕ, List, [], length,
 use Rattle.jffs_text.specs.declared.script.Writer.{Writer}
 use Rattle.jffs_text.specs.declared.script.ReaderStatement.{ReaderStatement}
 use Rattle.jffs_core.specs.declared.answer.Answer.{Answer}
-use Rattle.jffs_core.specs.Standing.{Standing}
+use Rattle.jffs_core.specs.CoreState.{CoreState}
 use Rattle.jffs_index.specs.declared.rule.Index.{Index}
 use Rattle.jffs_index.specs.Ends.{publisher_index}
 use Rattle.jffs_tree.specs.declared.wish.Wish.TheVariants.{Unmount}
@@ -28,7 +28,7 @@ returns-clause-readers g c = λ history whole.
     let looking = subst (λ (rs : List ReaderStatement). EachFrom (IsLooking before rs) 0 handles) c.deref.ensures.value (c.start_readers-looking.ensures.started before c.requires.crew.looking) in
     c.join_readers-ends.ensures.seen c.args.script.now.readers.items history
     (subst (λ (i : Index). EachFrom (IsLooking i c.args.script.now.readers.items) 0 handles) (sym served.1.index) looking)
-    (λ counted. whole (counted ∙ ap (length {A = Answer}) (c.answers.ensures ∙ ap (λ (s : Standing). s.answers) c.core.ensures)))
+    (λ counted. whole (counted ∙ ap (length {A = Answer}) (c.answers.ensures ∙ ap (λ (s : CoreState). s.answers) c.core.ensures)))
 
 pub returns-clause-hands : goal.returns-clause-hands
 returns-clause-hands g c =

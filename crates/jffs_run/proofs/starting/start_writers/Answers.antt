@@ -5,7 +5,7 @@ use Rattle.std.proofs.lemmas.List.Elements.{All-tail}
 use Rattle.jffs_text.specs.declared.script.Writer.{Writer}
 use Rattle.jffs_run.specs.Ends.{commands_at, end_of}
 use Rattle.jffs_run.specs.Started.{IsStarted, end_given}
-use Rattle.jffs_run.proofs.Places.{EachFrom-same, EachFrom-push, commands-at, moved}
+use Rattle.jffs_run.proofs.Slots.{EachFrom-same, EachFrom-push, commands-at, moved}
 use Rattle.jffs_run.proofs.starting.start_writers.Goals as goal
 
 pub loop-hand-preserved : goal.loop-hand-preserved

@@ -1,11 +1,11 @@
 use Rattle.std.proofs.Common.{rules, ◌≡◌, List, [], ◌++◌, length, sym, ◌∙◌, ap, ap₂, subst, arith, vec_len, Option}
 use Rattle.jffs_line.specs.Line.{senders}
-use Rattle.jffs_core.specs.Standing.{Standing}
+use Rattle.jffs_core.specs.CoreState.{CoreState}
 use Rattle.jffs_index.specs.declared.step.Step.{Step}
 use Rattle.jffs_index.specs.declared.rule.History.{History}
 use Rattle.jffs_index.specs.Histories.{opening_of}
 use Rattle.jffs_index.specs.Ends.{published, pending, all_put}
-use Rattle.jffs_serve.specs.declared.session.Kept.{Kept}
+use Rattle.jffs_serve.specs.declared.session.PendingStep.{PendingStep}
 use Rattle.jffs_serve.specs.Replies.{any_closed}
 use Rattle.jffs_serve.specs.Answered.{Start, HasReplied}
 use Rattle.jffs_serve.proofs.Replying.{nothing_replied}
@@ -33,7 +33,7 @@ run_all-requires-clause-crew g c κs within =
 pub run_all-requires-clause-ready : goal.run_all-requires-clause-ready
 run_all-requires-clause-ready g c κs within =
     let opened = c.in-Ok.ensures.published in
-    can_begin c.new.result c.in-Ok.opened.publisher c.new.ensures.kept (opened.0 ∙ ap (λ (s : Standing). opening_of s.tree) (sym c.new.ensures.core)) opened.1
+    can_begin c.new.result c.in-Ok.opened.publisher c.new.ensures.unsent (opened.0 ∙ ap (λ (s : CoreState). opening_of s.tree) (sym c.new.ensures.core)) opened.1
 
 pub returns-clause-run : goal.returns-clause-run
 returns-clause-run g c =
@@ -45,18 +45,18 @@ returns-clause-run g c =
     let taken = g.T.Taker.taken c.args.line.taker in
     let before = c.new.result.core in
     let put : List Step = (all_put c.in-Ok.opened.publisher).steps in
-    let start : Start = record { taken = taken; standing = before; put = put } in
-    let closed = subst (λ (s : Standing). s.closed ≡ any_closed s.answers) (sym c.new.ensures.core) (c.requires.core.1 ∙ sym (ap any_closed c.requires.core.0)) in
-    let beginning = subst (λ (k : Option Kept). HasReplied start before k put taken []) (sym c.new.ensures.kept) (nothing_replied before put taken closed) in
+    let start : Start = record { taken = taken; core = before; put = put } in
+    let closed = subst (λ (s : CoreState). s.closed ≡ any_closed s.answers) (sym c.new.ensures.core) (c.requires.core.1 ∙ sym (ap any_closed c.requires.core.0)) in
+    let beginning = subst (λ (k : Option PendingStep). HasReplied start before k put taken []) (sym c.new.ensures.unsent) (nothing_replied before put taken closed) in
     let more = ran.served.replies start [] beginning in
     let opened = c.in-Ok.ensures.published in
     let count : vec_len script.writers ≡ length script.writers.items = let ok = script.writers.ok in omega arith in
     let run = whole_run g.T.Of.Hand script.writers.items script.readers.items _ finished.hands
-    finished.log.side.session.core finished.log.side.session.kept (published finished.log.side.publisher) (pending finished.log.side.publisher)
+    finished.log.side.session.core finished.log.side.session.unsent (published finished.log.side.publisher) (pending finished.log.side.publisher)
     start (g.T.Taker.taken finished.log.side.taker) more.0 c.in_ok-run.run'.waiting.items finished.readers.items finished.log.served _
     (let eight = line.eight in omega (arith, count)) (line.numbers ∙ ap senders count) ran.hands
-    line.untaken (ap (λ (s : Standing). s.answers) c.new.ensures.core ∙ c.requires.core.0)
+    line.untaken (ap (λ (s : CoreState). s.answers) c.new.ensures.core ∙ c.requires.core.0)
     (ap₂ (λ (h : History) (s : List Step). h.steps ++ s) opened.0 opened.1)
-    (ran.served.opening ∙ (ap (λ (h : History). h.opening) opened.0 ∙ sym (ap (λ (s : Standing). s.tree) c.new.ensures.core)))
+    (ran.served.opening ∙ (ap (λ (h : History). h.opening) opened.0 ∙ sym (ap (λ (s : CoreState). s.tree) c.new.ensures.core)))
     more.1 settled.settled settled.numbered settled.others ran.readers settled.left more.2 in
     rw (← c.new.ensures.core, c.of-accepted.ensures, settled.rest.0, settled.rest.1, settled.rest.2) run

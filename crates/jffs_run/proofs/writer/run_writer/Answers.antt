@@ -11,10 +11,10 @@ loop-command-preserved g c =
     let before = c.loop-command.invariant in
     let sender : ℕ = g.H.Hand.sender c.args.hand in
     let old : List Request = g.H.Hand.accepted c.loop-command.hand in
-    let place : ℕ = c.loop-command.command-index in
+    let slot : ℕ = c.loop-command.command-index in
     let added = c.offer_until.ensures.accepted c.in-Accepted.is in
-    let more = numbered-more sender 1 c.args.commands.now place c.command-item.result c.loop-command-test.true (sym c.command-item.is) in
-    let number : length old + 1 ≡ 1 + place = let count = before.count in omega arith in
+    let more = numbered-more sender 1 c.args.commands.now slot c.command-item.result c.loop-command-test.true (sym c.command-item.is) in
+    let number : length old + 1 ≡ 1 + slot = let count = before.count in omega arith in
     let longer : length (g.H.Hand.accepted c.offer_until.new.hand) ≡ length old + 1 = ap (length {A = Request}) added ∙ length-append {A = Request} old _ in
     record {
       sender = c.offer_until.ensures.end.0 ∙ before.sender;
@@ -23,7 +23,7 @@ loop-command-preserved g c =
       accepted = added
           ∙ (ap (λ (w : ℕ). old ++ request w (length old + 1) c.in-Ok.wish ∷ []) before.sender
           ∙ (ap (λ (n : ℕ). old ++ request sender n c.in-Ok.wish ∷ []) number
-          ∙ (ap (λ (x : Wish). old ++ request sender (1 + place) x ∷ []) c.in-Ok.ensures
-          ∙ (ap (λ (rs : List Request). rs ++ request sender (1 + place) (wish_of c.command-item.result) ∷ []) before.accepted
+          ∙ (ap (λ (x : Wish). old ++ request sender (1 + slot) x ∷ []) c.in-Ok.ensures
+          ∙ (ap (λ (rs : List Request). rs ++ request sender (1 + slot) (wish_of c.command-item.result) ∷ []) before.accepted
           ∙ sym more))));
     }

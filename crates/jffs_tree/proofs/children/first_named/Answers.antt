@@ -1,14 +1,14 @@
 use Rattle.std.specs.Prelude.{⊤}
 use Rattle.std.proofs.Common.{◌≡◌, ℕ, true, false, List, Some, sym}
 use Rattle.std.specs.Ordering.{is_gt}
-use Rattle.jffs_tree.specs.Index.{Place, place_cmp, has_place}
-use Rattle.jffs_tree.proofs.PlaceOrder.{first_of_name}
-use Rattle.jffs_tree.proofs.Indexed.{of_first, is_least, no_place}
+use Rattle.jffs_tree.specs.Index.{ChildKey, key_cmp, has_child}
+use Rattle.jffs_tree.proofs.KeyOrder.{first_of_name}
+use Rattle.jffs_tree.proofs.Indexed.{of_first, is_least, no_child}
 use Rattle.jffs_tree.proofs.children.first_named.Goals as goal
 
--- a place of the index from the first place of the name on
-abbrev In : List Place → ℕ → List ℕ → Place → Type 0
-In places p name k = ((is_gt (place_cmp (p, Some name, 0) k) ≡ false) × ⊤) × (has_place places k ≡ true)
+-- a key of the index from the first key of the name on
+abbrev In : List ChildKey → ℕ → List ℕ → ChildKey → Type 0
+In keys p name k = ((is_gt (key_cmp (p, Some name, 0) k) ≡ false) × ⊤) × (has_child keys k ≡ true)
 
 pub returns-in_default-clause-none : goal.returns-in_default-clause-none
 returns-in_default-clause-none c =
@@ -17,14 +17,14 @@ returns-in_default-clause-none c =
 pub returns-then-bears-clause-least : goal.returns-then-bears-clause-least
 returns-then-bears-clause-least c =
     let part = c.range-rest.ensures.in_range tt in
-    is_least c.args.places.now.keys c.args.parent c.args.name.now c.in-Some.first.now
-    (λ q low has. of_first (λ (k : Place). is_gt (place_cmp k q) ≡ false) c.in-Some.ensures.steps (part.2 q (low, tt) has))
-    (of_first (In c.args.places.now.keys c.args.parent c.args.name.now) c.in-Some.ensures.steps part.1).0.0
+    is_least c.args.children.now.keys c.args.parent c.args.name.now c.in-Some.first.now
+    (λ q low has. of_first (λ (k : ChildKey). is_gt (key_cmp k q) ≡ false) c.in-Some.ensures.steps (part.2 q (low, tt) has))
+    (of_first (In c.args.children.now.keys c.args.parent c.args.name.now) c.in-Some.ensures.steps part.1).0.0
 
 pub returns-else-bears-clause-none : goal.returns-else-bears-clause-none
 returns-else-bears-clause-none c =
     let part = c.range-rest.ensures.in_range tt in
-    no_place c.args.places.now.keys c.args.parent c.args.name.now c.in-Some.first.now
-    (λ q low has. of_first (λ (k : Place). is_gt (place_cmp k q) ≡ false) c.in-Some.ensures.steps (part.2 q (low, tt) has))
-    (of_first (In c.args.places.now.keys c.args.parent c.args.name.now) c.in-Some.ensures.steps part.1).0.0
+    no_child c.args.children.now.keys c.args.parent c.args.name.now c.in-Some.first.now
+    (λ q low has. of_first (λ (k : ChildKey). is_gt (key_cmp k q) ≡ false) c.in-Some.ensures.steps (part.2 q (low, tt) has))
+    (of_first (In c.args.children.now.keys c.args.parent c.args.name.now) c.in-Some.ensures.steps part.1).0.0
     (sym c.if-bears.ensures)

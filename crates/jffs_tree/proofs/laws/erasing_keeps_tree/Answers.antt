@@ -1,11 +1,11 @@
-use Rattle.jffs_tree.proofs.Erasing.{erasing_keeps_state, erasing_keeps_tree as by_places, erasing_keeps_origins}
+use Rattle.jffs_tree.proofs.Erasing.{erasing_keeps_state, erasing_keeps_tree as by_bytes, erasing_keeps_origins}
 use Rattle.jffs_tree.proofs.Rules.{rules_give_origins, erasing_keeps_rules}
 use Rattle.jffs_tree.proofs.laws.erasing_keeps_tree.Goals as goal
 
 pub returns : goal.returns
 returns c = record {
   state = erasing_keeps_state;
-  tree = by_places;
+  tree = by_bytes;
   origins = erasing_keeps_origins;
   given = rules_give_origins;
   rules = erasing_keeps_rules;

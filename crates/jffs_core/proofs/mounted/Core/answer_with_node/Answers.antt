@@ -1,11 +1,11 @@
 use Rattle.std.proofs.Common.{◌≡◌, ◌∙◌, ◌+◌, ◌≤◌, Option, None, refl, sym, ap, subst, arith}
 use Rattle.std.proofs.lemmas.Bool.{both_ways}
-use Rattle.jffs_log.specs.declared.book.Book.{Book}
+use Rattle.jffs_log.specs.declared.log_index.LogIndex.{LogIndex}
 use Rattle.jffs_node.specs.declared.node.Node.{Node}
-use Rattle.jffs_core.specs.Standing.{Standing}
+use Rattle.jffs_core.specs.CoreState.{CoreState}
 use Rattle.jffs_core.specs.declared.answer.Answered.{Answered}
 use Rattle.jffs_core.specs.Nodes.{HasNode}
-use Rattle.jffs_core.specs.Past.{Knows}
+use Rattle.jffs_core.specs.Past.{RepresentsWorking}
 use Rattle.jffs_core.specs.Answering.{HasAnswered, KeepsAnswer}
 use Rattle.jffs_core.specs.Trees.{TellsNode}
 use Rattle.jffs_core.proofs.Stepping.{failed_answer, answered}
@@ -18,17 +18,17 @@ use Rattle.jffs_core.proofs.mounted.Core.answer_with_node.Goals.{then-failed, el
 pub returns-clause-step : goal.returns-clause-step
 returns-clause-step g c = λ mounted past stands.
     let q = c.args.request in
-    let old : Standing = c.args.self.now in
+    let old : CoreState = c.args.self.now in
     let a : Answered = c.if-failed.answered in
     let acted : HasAnswered past old c.if-failed.self q a.outcome a.node =
     elim c.if-failed.branch [
       | then-failed w ↦
-          let fails = ap (λ (v : Standing). v.failed) (sym c.self.view_is) ∙ sym c.failed.ensures ∙ w.if-failed.true in
-          subst (λ (v : Standing). HasAnswered past old v q a.outcome a.node) (sym w.self-is)
+          let fails = ap (λ (v : CoreState). v.failed) (sym c.self.view_is) ∙ sym c.failed.ensures ∙ w.if-failed.true in
+          subst (λ (v : CoreState). HasAnswered past old v q a.outcome a.node) (sym w.self-is)
           (subst (λ (b : Answered). HasAnswered past old old q b.outcome b.node) (sym w.answered-is) (failed_answer past old q fails stands.stands))
       | else-failed w ↦
-          let works = ap (λ (v : Standing). v.failed) (sym c.self.view_is) ∙ sym c.failed.ensures ∙ w.if-failed.false in
-          subst (λ (v : Standing). HasAnswered past old v q a.outcome a.node) (sym w.self-is)
+          let works = ap (λ (v : CoreState). v.failed) (sym c.self.view_is) ∙ sym c.failed.ensures ∙ w.if-failed.false in
+          subst (λ (v : CoreState). HasAnswered past old v q a.outcome a.node) (sym w.self-is)
           (subst (λ (b : Answered). HasAnswered past old w.act-answered.new.self q b.outcome b.node) (sym w.answered-is) (w.act-answered.ensures.acted past (stands.stands.working works)))
     ] in
     answered q.writer q.seq a.outcome a.node mounted past old c.if-failed.self c.keep_answer.new.self q stands.grown acted c.keep_answer.ensures.kept
@@ -40,7 +40,7 @@ returns-clause-node g c =
       | else-failed w ↦
           let q = c.args.request in
           let past = c.self.invariant.past (sym c.failed.ensures ∙ w.if-failed.false) in
-          let known = subst (λ (v : Standing). Knows past.0 v) c.self.view_is past.1 in
+          let known = subst (λ (v : CoreState). RepresentsWorking past.0 v) c.self.view_is past.1 in
           let acted = w.act-answered.ensures.acted past.0 known in
           subst (λ (a : Answered). HasNode a.outcome a.node) (sym w.answered-is) (node_told _ q _ acted.after _ acted.step acted.own)
     ]
@@ -49,40 +49,40 @@ pub returns-clause-failed : goal.returns-clause-failed
 returns-clause-failed g c = λ fails.
     let q = c.args.request in
     elim c.if-failed.branch [
-      | then-failed w ↦ subst (λ (v : Standing). KeepsAnswer q.writer q.seq c.if-failed.answered.outcome v c.keep_answer.new.self) w.self-is c.keep_answer.ensures.kept
-      | else-failed w ↦ absurd (both_ways c.args.self.now.failed (ap (λ (v : Standing). v.failed) (sym c.self.view_is) ∙ sym c.failed.ensures ∙ w.if-failed.false) fails)
+      | then-failed w ↦ subst (λ (v : CoreState). KeepsAnswer q.writer q.seq c.if-failed.answered.outcome v c.keep_answer.new.self) w.self-is c.keep_answer.ensures.kept
+      | else-failed w ↦ absurd (both_ways c.args.self.now.failed (ap (λ (v : CoreState). v.failed) (sym c.self.view_is) ∙ sym c.failed.ensures ∙ w.if-failed.false) fails)
     ]
 
 pub returns-clause-erases : goal.returns-clause-erases
 returns-clause-erases g c =
-    let old : Standing = c.args.self.now in
-    let middle : Standing = c.if-failed.self in
-    let kept = ap (λ (v : Standing). v.book) c.keep_answer.ensures.kept in
-    let so_far : (middle.book.erases ≤ old.book.erases + old.book.held) × (middle.book.sectors ≡ old.book.sectors) =
+    let old : CoreState = c.args.self.now in
+    let middle : CoreState = c.if-failed.self in
+    let kept = ap (λ (v : CoreState). v.index) c.keep_answer.ensures.kept in
+    let so_far : (middle.index.erases ≤ old.index.erases + old.index.held) × (middle.index.sectors ≡ old.index.sectors) =
     elim c.if-failed.branch [
-      | then-failed w ↦ let erases = ap (λ (v : Standing). v.book.erases) w.self-is in (omega arith, ap (λ (v : Standing). v.book.sectors) w.self-is)
+      | then-failed w ↦ let erases = ap (λ (v : CoreState). v.index.erases) w.self-is in (omega arith, ap (λ (v : CoreState). v.index.sectors) w.self-is)
       | else-failed w ↦
-          let erases = ap (λ (v : Standing). v.book.erases) w.self-is in
+          let erases = ap (λ (v : CoreState). v.index.erases) w.self-is in
           let done = w.act-answered.ensures.erases in
-          (omega arith, ap (λ (v : Standing). v.book.sectors) w.self-is ∙ sym w.act-answered.ensures.sizes.0)
+          (omega arith, ap (λ (v : CoreState). v.index.sectors) w.self-is ∙ sym w.act-answered.ensures.sizes.0)
     ] in
-    let erases = ap (λ (b : Book). b.erases) kept in
-    let sectors = ap (λ (b : Book). b.sectors) kept in
+    let erases = ap (λ (b : LogIndex). b.erases) kept in
+    let sectors = ap (λ (b : LogIndex). b.sectors) kept in
     let first = so_far.0 in
     let same = so_far.1 in
     record { erases = omega arith; held = λ works. let most = c.keep_answer.ensures.held works in omega arith }
 
 pub returns-clause-few : goal.returns-clause-few
 returns-clause-few g c =
-    let kept = ap (λ (v : Standing). v.book.erases) c.keep_answer.ensures.kept in
+    let kept = ap (λ (v : CoreState). v.index.erases) c.keep_answer.ensures.kept in
     elim c.if-failed.branch [
-      | then-failed w ↦ let same = ap (λ (v : Standing). v.book.erases) w.self-is in omega arith
+      | then-failed w ↦ let same = ap (λ (v : CoreState). v.index.erases) w.self-is in omega arith
       | else-failed w ↦
           let v = c.self.inside in
           let past = c.self.invariant.past (sym c.failed.ensures ∙ w.if-failed.false) in
-          let low = held_most past.0 v.log.device.image v.log.book v.tree v.limits v.clean (c.self.invariant.book (sym c.failed.ensures ∙ w.if-failed.false)) past.1 in
-          let few : c.args.self.now.book.held ≤ c.args.self.now.book.sectors = subst (λ (v : Standing). v.book.held ≤ v.book.sectors) c.self.view_is low in
-          let same = ap (λ (v : Standing). v.book.erases) w.self-is in
+          let low = held_most past.0 v.log.device.image v.log.index v.tree v.limits v.clean (c.self.invariant.index (sym c.failed.ensures ∙ w.if-failed.false)) past.1 in
+          let few : c.args.self.now.index.held ≤ c.args.self.now.index.sectors = subst (λ (v : CoreState). v.index.held ≤ v.index.sectors) c.self.view_is low in
+          let same = ap (λ (v : CoreState). v.index.erases) w.self-is in
           let erases = w.act-answered.ensures.erases in
           omega arith
     ]
@@ -90,22 +90,22 @@ returns-clause-few g c =
 pub returns-clause-tree : goal.returns-clause-tree
 returns-clause-tree g c =
     let q = c.args.request in
-    let old : Standing = c.args.self.now in
-    let middle : Standing = c.if-failed.self in
-    let new : Standing = c.keep_answer.new.self in
+    let old : CoreState = c.args.self.now in
+    let middle : CoreState = c.if-failed.self in
+    let new : CoreState = c.keep_answer.new.self in
     let a : Answered = c.if-failed.answered in
     elim c.if-failed.branch [
       | then-failed w ↦
-          let fails = ap (λ (v : Standing). v.failed) (sym c.self.view_is) ∙ sym c.failed.ensures ∙ w.if-failed.true in
+          let fails = ap (λ (v : CoreState). v.failed) (sym c.self.view_is) ∙ sym c.failed.ensures ∙ w.if-failed.true in
           let none : a.node ≡ None = ap (λ (b : Answered). b.node) w.answered-is in
           subst (λ (n : Option Node). TellsNode old new n) (sym none)
-          (tells_none old new q.writer q.seq a.outcome fails (subst (λ (v : Standing). KeepsAnswer q.writer q.seq a.outcome v new) w.self-is c.keep_answer.ensures.kept))
+          (tells_none old new q.writer q.seq a.outcome fails (subst (λ (v : CoreState). KeepsAnswer q.writer q.seq a.outcome v new) w.self-is c.keep_answer.ensures.kept))
       | else-failed w ↦
-          let works = ap (λ (v : Standing). v.failed) (sym c.self.view_is) ∙ sym c.failed.ensures ∙ w.if-failed.false in
+          let works = ap (λ (v : CoreState). v.failed) (sym c.self.view_is) ∙ sym c.failed.ensures ∙ w.if-failed.false in
           let past = c.self.invariant.past (sym c.failed.ensures ∙ w.if-failed.false) in
-          let known = subst (λ (v : Standing). Knows past.0 v) c.self.view_is past.1 in
+          let known = subst (λ (v : CoreState). RepresentsWorking past.0 v) c.self.view_is past.1 in
           let acted : HasAnswered past.0 old middle q a.outcome a.node =
-          subst (λ (v : Standing). HasAnswered past.0 old v q a.outcome a.node) (sym w.self-is)
+          subst (λ (v : CoreState). HasAnswered past.0 old v q a.outcome a.node) (sym w.self-is)
           (subst (λ (b : Answered). HasAnswered past.0 old w.act-answered.new.self q b.outcome b.node) (sym w.answered-is) (w.act-answered.ensures.acted past.0 known)) in
           tells_node past.0 old middle new q q.writer q.seq a.outcome a.node works known acted c.keep_answer.ensures.kept
     ]

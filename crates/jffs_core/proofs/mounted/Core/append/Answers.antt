@@ -1,31 +1,31 @@
 use Rattle.std.proofs.Common.{inl, inr, ◌<◌, ◌∷◌, refl, sym, ap, subst, ◌∙◌}
 use Rattle.jffs_node.specs.Record.{record_len}
 use Rattle.jffs_flash.specs.Device.{Device}
-use Rattle.jffs_log.specs.Book.{layout_in}
+use Rattle.jffs_log.specs.LogIndex.{layout_in}
 use Rattle.jffs_log.specs.Room.{has_room_in}
 use Rattle.jffs_log.specs.Cleaning.{put}
 use Rattle.jffs_log.proofs.Results.{err_from}
 use Rattle.jffs_log.proofs.Seen.{log_sizes}
-use Rattle.jffs_core.specs.Standing.{Standing}
-use Rattle.jffs_core.specs.Past.{IsPast, Knows, has_room_for}
+use Rattle.jffs_core.specs.CoreState.{CoreState}
+use Rattle.jffs_core.specs.Past.{IsPast, RepresentsWorking, has_room_for}
 use Rattle.jffs_core.specs.Appending.{MayPut, PutRefused}
-use Rattle.jffs_core.proofs.Putting.{put_failed, places_kept, counted, put_known, may_append, mid_history, mid_layout}
+use Rattle.jffs_core.proofs.Putting.{put_failed, offsets_kept, counted, put_known, may_append, mid_history, mid_layout}
 use Rattle.jffs_core.proofs.Mounting.{clean_ends}
 use Rattle.jffs_core.proofs.mounted.Core.append.Goals as goal
 
-pub apply-requires-clause-places : goal.apply-requires-clause-places
-apply-requires-clause-places g c =
+pub apply-requires-clause-offsets : goal.apply-requires-clause-offsets
+apply-requires-clause-offsets g c =
     let past = c.requires.follows.0 in
     let may = c.requires.follows.2 in
-    let h = subst (λ (v : Standing). Knows past v) (sym c.self.view_is) c.requires.follows.1 in
-    places_kept past c.args.node.now c.self.inside.tree h.tree_is may.rules
+    let h = subst (λ (v : CoreState). RepresentsWorking past v) (sym c.self.view_is) c.requires.follows.1 in
+    offsets_kept past c.args.node.now c.self.inside.tree h.tree_is may.rules
 
 pub append-requires-clause-may : goal.append-requires-clause-may
 append-requires-clause-may g c =
-    let b = c.self.inside.log.book in
+    let b = c.self.inside.log.index in
     let past = c.requires.follows.0 in
-    let works = ap (λ (v : Standing). v.failed) c.self.view_is ∙ c.requires.working in
-    let may = subst (λ (v : Standing). MayPut past v.book.sector_size c.args.room c.args.node.now) (sym c.self.view_is) c.requires.follows.2 in
+    let works = ap (λ (v : CoreState). v.failed) c.self.view_is ∙ c.requires.working in
+    let may = subst (λ (v : CoreState). MayPut past v.index.sector_size c.args.room c.args.node.now) (sym c.self.view_is) c.requires.follows.2 in
     let had = ap (has_room_in b.sectors b.sector_size c.self.inside.log.device.image c.args.room) (sym c.record_len.ensures) ∙ sym (c.room.ensures.exact works) ∙ c.if-not-room.false in
     may_append past c.args.room c.args.node.now c.self.inside.log c.reserve.new.self may c.in_ok-reserve.ensures.same had
 
@@ -37,13 +37,13 @@ returns-in_err-append-clause-refused g c =
     let new = c.append.new.self in
     let f = c.in_err-append.ensures.failed in
     let same = c.in_ok-reserve.ensures.same in
-    let before = ap (λ (d : Device). d.faults) same.device ∙ ap (λ (v : Standing). v.faults) c.self.view_is in
+    let before = ap (λ (d : Device). d.faults) same.device ∙ ap (λ (v : CoreState). v.faults) c.self.view_is in
     err_from c.from_residual-in_err-append.result c.in_err-append.field-0.0 (λ why. PutRefused c.args.room n why c.args.self.now _) c.from_residual-in_err-append.ensures.1
     (put_failed c.args.room n _ c.args.self.now _ f.cause_is f.failed (subst (λ k. k < new.device.faults) before f.device.faults)
     (λ past known may.
-    let h : IsPast past old.device.image old.book c.self.inside.tree c.self.inside.limits c.self.inside.clean = subst (λ (v : Standing). Knows past v) (sym c.self.view_is) known in
+    let h : IsPast past old.device.image old.index c.self.inside.tree c.self.inside.limits c.self.inside.clean = subst (λ (v : CoreState). RepresentsWorking past v) (sym c.self.view_is) known in
     record {
-      clean = λ is. clean_ends past old.device.image old.book c.self.inside.tree c.self.inside.limits c.self.inside.clean h is;
+      clean = λ is. clean_ends past old.device.image old.index c.self.inside.tree c.self.inside.limits c.self.inside.clean h is;
       tree = inr (n, refl, c.in_ok-apply.ensures.ok past h.tree_is);
       left = λ intact. elim (f.history past (mid_history past old mid same h.history) may.rules) [ inl as_it_was ↦ inl as_it_was | inr more ↦ inr (n, refl, more) ];
     }))
@@ -55,21 +55,21 @@ invariant_of-self-2 g c =
     let e = c.in_ok-append.ensures.done in
     let same = c.in_ok-reserve.ensures.same in
     let past = c.requires.follows.0 in
-    let works = ap (λ (v : Standing). v.failed) c.self.view_is ∙ c.requires.working in
-    let h = subst (λ (v : Standing). Knows past v) (sym c.self.view_is) c.requires.follows.1 in
-    let may = subst (λ (v : Standing). MayPut past v.book.sector_size c.args.room n) (sym c.self.view_is) c.requires.follows.2 in
-    let had = ap (has_room_in old.book.sectors old.book.sector_size old.device.image c.args.room) (sym c.record_len.ensures) ∙ sym (c.room.ensures.exact works) ∙ c.if-not-room.false in
+    let works = ap (λ (v : CoreState). v.failed) c.self.view_is ∙ c.requires.working in
+    let h = subst (λ (v : CoreState). RepresentsWorking past v) (sym c.self.view_is) c.requires.follows.1 in
+    let may = subst (λ (v : CoreState). MayPut past v.index.sector_size c.args.room n) (sym c.self.view_is) c.requires.follows.2 in
+    let had = ap (has_room_in old.index.sectors old.index.sector_size old.device.image c.args.room) (sym c.record_len.ensures) ∙ sym (c.room.ensures.exact works) ∙ c.if-not-room.false in
     record {
       sizes = log_sizes old c.append.new.self
           (ap (λ (d : Device). d.sectors) e.works.device ∙ ap (λ (d : Device). d.sectors) same.device)
           (ap (λ (d : Device). d.sector_size) e.works.device ∙ ap (λ (d : Device). d.sector_size) same.device)
-          c.self.invariant.sizes (sym same.book.sectors ∙ e.numbers.sizes.0, sym same.book.sector_size ∙ e.numbers.sizes.1);
-      book = λ w. e.works.told;
+          c.self.invariant.sizes (sym same.index.sectors ∙ e.numbers.sizes.0, sym same.index.sector_size ∙ e.numbers.sizes.1);
+      index = λ w. e.works.told;
       past = λ w. (
         n ∷ past,
         put_known past c.args.room n old c.reserve.new.self c.append.new.self c.self.inside.tree c.apply.new.self c.self.inside.limits c.count.new.limits c.self.inside.clean _ h may same had e
             (c.in_ok-apply.ensures.ok past h.tree_is)
-            (counted old.book.sector_size past n c.self.inside.limits c.count.new.limits h.limits_are c.count.ensures.data_max c.count.ensures.version c.count.ensures.inode)
+            (counted old.index.sector_size past n c.self.inside.limits c.count.new.limits h.limits_are c.count.ensures.data_max c.count.ensures.version c.count.ensures.inode)
             c.is_unmount-self-inside.ensures,
       );
     }
@@ -80,22 +80,22 @@ returns-clause-done g c =
     let old = c.self.inside.log in
     let e = c.in_ok-append.ensures.done in
     let same = c.in_ok-reserve.ensures.same in
-    let works = ap (λ (v : Standing). v.failed) c.self.view_is ∙ c.requires.working in
-    let had = ap (has_room_in old.book.sectors old.book.sector_size old.device.image c.args.room) (sym c.record_len.ensures) ∙ sym (c.room.ensures.exact works) ∙ c.if-not-room.false in
+    let works = ap (λ (v : CoreState). v.failed) c.self.view_is ∙ c.requires.working in
+    let had = ap (has_room_in old.index.sectors old.index.sector_size old.device.image c.args.room) (sym c.record_len.ensures) ∙ sym (c.room.ensures.exact works) ∙ c.if-not-room.false in
     record {
       works = e.works.failed;
-      faults = ap (λ (d : Device). d.faults) e.works.device ∙ ap (λ (d : Device). d.faults) same.device ∙ ap (λ (v : Standing). v.faults) c.self.view_is;
-      had_room = ap (λ (v : Standing). has_room_for v c.args.room (record_len n)) (sym c.self.view_is) ∙ had;
+      faults = ap (λ (d : Device). d.faults) e.works.device ∙ ap (λ (d : Device). d.faults) same.device ∙ ap (λ (v : CoreState). v.faults) c.self.view_is;
+      had_room = ap (λ (v : CoreState). has_room_for v c.args.room (record_len n)) (sym c.self.view_is) ∙ had;
       log =
           e.layout_is
-          ∙ ap (λ k. put k c.args.room n (layout_in c.reserve.new.self.device.image c.reserve.new.self.book)) same.book.sector_size
-          ∙ ap (put old.book.sector_size c.args.room n) (mid_layout old c.reserve.new.self same)
-          ∙ ap (λ (v : Standing). put v.book.sector_size c.args.room n (layout_in v.image v.book)) c.self.view_is;
-      knows = λ past known fits.
-          let h = subst (λ (v : Standing). Knows past v) (sym c.self.view_is) known in
-          let may = subst (λ (v : Standing). MayPut past v.book.sector_size c.args.room n) (sym c.self.view_is) fits in
+          ∙ ap (λ k. put k c.args.room n (layout_in c.reserve.new.self.device.image c.reserve.new.self.index)) same.index.sector_size
+          ∙ ap (put old.index.sector_size c.args.room n) (mid_layout old c.reserve.new.self same)
+          ∙ ap (λ (v : CoreState). put v.index.sector_size c.args.room n (layout_in v.image v.index)) c.self.view_is;
+      represents = λ past known fits.
+          let h = subst (λ (v : CoreState). RepresentsWorking past v) (sym c.self.view_is) known in
+          let may = subst (λ (v : CoreState). MayPut past v.index.sector_size c.args.room n) (sym c.self.view_is) fits in
           put_known past c.args.room n old c.reserve.new.self c.append.new.self c.self.inside.tree c.apply.new.self c.self.inside.limits c.count.new.limits c.self.inside.clean _ h may same had e
           (c.in_ok-apply.ensures.ok past h.tree_is)
-          (counted old.book.sector_size past n c.self.inside.limits c.count.new.limits h.limits_are c.count.ensures.data_max c.count.ensures.version c.count.ensures.inode)
+          (counted old.index.sector_size past n c.self.inside.limits c.count.new.limits h.limits_are c.count.ensures.data_max c.count.ensures.version c.count.ensures.inode)
           c.is_unmount-self-inside.ensures;
     }

@@ -6,7 +6,7 @@ use Rattle.jffs_tree.specs.declared.wish.Cause.{Cause}
 use Rattle.jffs_tree.specs.declared.wish.Cause.TheVariants as causes
 use Rattle.jffs_log.specs.declared.room.Room.TheVariants as rooms
 use Rattle.jffs_log.specs.Cleaning.{Layout}
-use Rattle.jffs_core.specs.Standing.{Standing}
+use Rattle.jffs_core.specs.CoreState.{CoreState}
 use Rattle.jffs_core.specs.History.{IsOwnCopy, MayFollow}
 use Rattle.jffs_core.specs.Step.{IsInHand}
 use Rattle.jffs_core.specs.Past.{has_room_for}
@@ -38,7 +38,7 @@ returns-in_default-clause-acted g c = λ past known.
     let m = c.in_ok-make_room.ensures.made past known in
     let h = m.1 in
     let none = none_left _ c.in_default.not-Some in
-    let spent = known_version m.0 c.make_room.new.self None h.stands.knows (ap (λ (v : Standing). v.limits.next_version) (sym c.self.view_is) ∙ none) in
+    let spent = known_version m.0 c.make_room.new.self None h.stands.represents (ap (λ (v : CoreState). v.limits.next_version) (sym c.self.view_is) ∙ none) in
     make_stopped past _ _ q c.requires.working known (IsOwnCopy m.0) n causes.VersionsSpent m.0 d (λ m2 own. (inl own, copies_follow m.0 m2 own)) (fresh_is past _ q n known d c.requires.no_copy c.requires.no_unmount)
     (its_full past _ q n known d c.make_room.new.self (fresh_room past _ q n known d c.requires.no_copy c.requires.no_unmount) c.requires.no_room) h.copies (h.stands, spent) (λ is two. absurd (other is)) (λ is. absurd (other is))
   where
@@ -51,9 +51,9 @@ append-requires-clause-follows g c =
     let m = c.in_ok-make_room.ensures.made d.past d.known in
     let h = m.1 in (
       m.0,
-      h.stands.knows,
-      may_later d.past m.0 _ c.make_room.new.self c.args.request.now c.args.node d c.in-Some.version d.known c.requires.no_copy c.requires.no_unmount h.copies h.stands.knows c.make_room.ensures.sizes
-          (ap (λ (v : Standing). v.limits.next_version) (sym c.self.view_is) ∙ c.in-Some.is),
+      h.stands.represents,
+      may_later d.past m.0 _ c.make_room.new.self c.args.request.now c.args.node d c.in-Some.version d.known c.requires.no_copy c.requires.no_unmount h.copies h.stands.represents c.make_room.ensures.sizes
+          (ap (λ (v : CoreState). v.limits.next_version) (sym c.self.view_is) ∙ c.in-Some.is),
     )
 
 pub returns-clause-acted : goal.returns-clause-acted
@@ -65,15 +65,15 @@ returns-clause-acted g c = λ past known.
     let m = c.in_ok-make_room.ensures.made past known in
     let h = m.1 in
     let p = c.in_ok-append.ensures.done in
-    let next = ap (λ (v : Standing). v.limits.next_version) (sym c.self.view_is) ∙ c.in-Some.is in
-    let may = may_later past m.0 _ c.make_room.new.self q n d c.in-Some.version known c.requires.no_copy c.requires.no_unmount h.copies h.stands.knows c.make_room.ensures.sizes next in
+    let next = ap (λ (v : CoreState). v.limits.next_version) (sym c.self.view_is) ∙ c.in-Some.is in
+    let may = may_later past m.0 _ c.make_room.new.self q n d c.in-Some.version known c.requires.no_copy c.requires.no_unmount h.copies h.stands.represents c.make_room.ensures.sizes next in
     let fresh = fresh_is past _ q n known d c.requires.no_copy c.requires.no_unmount in
     answers_same past _ _ q c.appended.result (record { outcome = Appended later.inode later.version; node = Some later }) c.appended.ensures
     (put_fresh past _ _ q c.requires.working known n later m.0 d fresh h.copies
     (inr (its_makes_room past _ q n known d c.append.new.self (fresh_room past _ q n known d c.requires.no_copy c.requires.no_unmount) c.requires.no_room fresh))
     (ap (λ (x : Node). record x { version = c.in-Some.version }) d.is)
-    (known_version m.0 c.make_room.new.self (Some c.in-Some.version) h.stands.knows next)
-    p.works (p.faults ∙ h.stands.faults) (later_put_keeps later c.args.self.now c.make_room.new.self c.append.new.self h.two p) (works_past _ _ p.works (p.knows m.0 h.stands.knows may)))
+    (known_version m.0 c.make_room.new.self (Some c.in-Some.version) h.stands.represents next)
+    p.works (p.faults ∙ h.stands.faults) (later_put_keeps later c.args.self.now c.make_room.new.self c.append.new.self h.two p) (works_past _ _ p.works (p.represents m.0 h.stands.represents may)))
 
 pub returns-in_err-append-clause-acted : goal.returns-in_err-append-clause-acted
 returns-in_err-append-clause-acted g c = let p = err_from_is_err_and c.from_residual-in_err-append.result c.from_residual-in_err-append.ensures.1 in rw (p.1, p.2) λ past known.
@@ -84,15 +84,15 @@ returns-in_err-append-clause-acted g c = let p = err_from_is_err_and c.from_resi
     let m = c.in_ok-make_room.ensures.made past known in
     let h = m.1 in
     let r = c.in_err-append.ensures.refused in
-    let next = ap (λ (v : Standing). v.limits.next_version) (sym c.self.view_is) ∙ c.in-Some.is in
-    let may = may_later past m.0 _ c.make_room.new.self q n d c.in-Some.version known c.requires.no_copy c.requires.no_unmount h.copies h.stands.knows c.make_room.ensures.sizes next in
+    let next = ap (λ (v : CoreState). v.limits.next_version) (sym c.self.view_is) ∙ c.in-Some.is in
+    let may = may_later past m.0 _ c.make_room.new.self q n d c.in-Some.version known c.requires.no_copy c.requires.no_unmount h.copies h.stands.represents c.make_room.ensures.sizes next in
     let len = c.record_len.ensures in
     let own : IsInHand (turn_of past c.args.self.now c.append.new.self) q m.0 later = own_in_hand past c.args.self.now q known n later d m.0 c.append.new.self (ap (λ (x : Node). record x { version = c.in-Some.version }) d.is)
-    (known_version m.0 c.make_room.new.self (Some c.in-Some.version) h.stands.knows next) in
+    (known_version m.0 c.make_room.new.self (Some c.in-Some.version) h.stands.represents next) in
     make_stopped past _ _ q c.requires.working known (λ x. x ≡ later) n _ m.0 d
     (λ x same. (subst (IsInHand (turn_of past c.args.self.now c.append.new.self) q m.0) (sym same) own, subst (MayFollow m.0) (sym same) may.follows)) (fresh_is past _ q n known d c.requires.no_copy c.requires.no_unmount)
     (its_full past _ q n known d c.append.new.self (fresh_room past _ q n known d c.requires.no_copy c.requires.no_unmount) c.requires.no_room) h.copies
-    (refused_along (λ x. x ≡ later) _ m.0 _ c.make_room.new.self _ h.stands.faults (r.stands m.0 h.stands.knows may))
-    (λ is two. turn_was_full c.record_len.result past m.0 _ c.make_room.new.self known h (subst (λ k. k ≤ c.args.self.now.book.sector_size / 4) (sym len) (its_short past _ q n known d))
+    (refused_along (λ x. x ≡ later) _ m.0 _ c.make_room.new.self _ h.stands.faults (r.stands m.0 h.stands.represents may))
+    (λ is two. turn_was_full c.record_len.result past m.0 _ c.make_room.new.self known h (subst (λ k. k ≤ c.args.self.now.index.sector_size / 4) (sym len) (its_short past _ q n known d))
     (subst (λ k. has_room_for c.make_room.new.self rooms.Fresh k ≡ false) (sym len) (r.no_room is)) two)
     (λ is two. subst (λ (l : Layout). 2 ≤ l.erased) (sym (r.kept is)) (h.two two))

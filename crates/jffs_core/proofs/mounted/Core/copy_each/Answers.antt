@@ -3,12 +3,12 @@ use Rattle.std.specs.Int.{from_bool}
 use Rattle.std.proofs.lemmas.Result.{err_from_is_err_and}
 use Rattle.jffs_node.specs.declared.node.Node.{Node}
 use Rattle.jffs_node.specs.Record.{record_len}
-use Rattle.jffs_log.specs.Book.{layout_in}
+use Rattle.jffs_log.specs.LogIndex.{layout_in}
 use Rattle.jffs_log.specs.Cleaning.{oldest_records}
 use Rattle.jffs_log.specs.RoomLaws.{Among}
 use Rattle.jffs_log.proofs.Appended.{sizes_small}
-use Rattle.jffs_core.specs.Standing.{Standing}
-use Rattle.jffs_core.specs.Past.{Knows}
+use Rattle.jffs_core.specs.CoreState.{CoreState}
+use Rattle.jffs_core.specs.Past.{RepresentsWorking}
 use Rattle.jffs_core.specs.Cleaning.{HasCopied}
 use Rattle.jffs_core.proofs.Copying.{copying_begins, copying_goes_on, copying_has_room, among_more, one_known, one_short, are_few}
 use Rattle.jffs_core.proofs.mounted.Core.copy_each.Goals as goal
@@ -21,7 +21,7 @@ pub loop-node-init : goal.loop-node-init
 loop-node-init g c = copying_begins c.args.nodes.now c.args.self.now c.requires.working
 
 -- the record is one of the history then
-its_known : (nodes past after : List Node) (k copies : ℕ) (node : Node) (old now : Standing) → Knows past old → nodes ≡ oldest_records (layout_in old.image old.book).sectors → k < length nodes → node ≡ get_or nodes k node
+its_known : (nodes past after : List Node) (k copies : ℕ) (node : Node) (old now : CoreState) → RepresentsWorking past old → nodes ≡ oldest_records (layout_in old.image old.index).sectors → k < length nodes → node ≡ get_or nodes k node
     → HasCopied (take k nodes) past after copies old now → Among node after
 its_known nodes past after k copies node old now known oldest below is h =
     among_more node h.added.copies past after h.added.joined (subst (λ n. Among n past) (sym is) (one_known nodes past old known oldest k node below))
@@ -30,19 +30,19 @@ pub handle-requires-clause-known : goal.handle-requires-clause-known
 handle-requires-clause-known g c =
     let k = c.requires.known in
     let d = c.loop-node.invariant.done k.0 k.1 in
-    (d.0, (let h = d.1 in h.stands.knows), its_known c.args.nodes.now k.0 d.0 c.loop-node.node-index c.loop-node.copies c.node-item.result c.args.self.now c.loop-node.self k.1 c.requires.oldest c.loop-node-test.true c.node-item.is d.1)
+    (d.0, (let h = d.1 in h.stands.represents), its_known c.args.nodes.now k.0 d.0 c.loop-node.node-index c.loop-node.copies c.node-item.result c.args.self.now c.loop-node.self k.1 c.requires.oldest c.loop-node-test.true c.node-item.is d.1)
 
 pub handle-requires-clause-short : goal.handle-requires-clause-short
 handle-requires-clause-short g c =
     let k = c.requires.known in
     subst (λ z. record_len c.node-item.result ≤ z / 4) c.loop-node.invariant.sizes.1
-    (subst (λ (n : Node). record_len n ≤ c.args.self.now.book.sector_size / 4) (sym c.node-item.is) (one_short c.args.nodes.now k.0 c.args.self.now k.1 c.requires.oldest c.loop-node.node-index c.node-item.result c.loop-node-test.true))
+    (subst (λ (n : Node). record_len n ≤ c.args.self.now.index.sector_size / 4) (sym c.node-item.is) (one_short c.args.nodes.now k.0 c.args.self.now k.1 c.requires.oldest c.loop-node.node-index c.node-item.result c.loop-node-test.true))
 
 pub overflow_add-copies : goal.overflow_add-copies
 overflow_add-copies g c =
     let k = c.requires.known in
     let few = are_few c.args.nodes.now k.0 c.args.self.now k.1 c.requires.oldest in
-    let small = sizes_small c.args.self.now.book.sectors c.args.self.now.book.sector_size (let h = k.1 in h.history.sizes) in
+    let small = sizes_small c.args.self.now.index.sectors c.args.self.now.index.sector_size (let h = k.1 in h.history.sizes) in
     let so_far = c.loop-node.invariant.few in
     let one = one_most c.in_ok-handle.field-0 c.from.result c.from.ensures in
     omega arith
@@ -54,7 +54,7 @@ loop-node-preserved g c =
     let one = one_most c.in_ok-handle.field-0 c.from.result c.from.ensures in
     record {
       works = e.works;
-      same = record { answers = e.same.answers ∙ v.same.answers; places = e.same.places ∙ v.same.places; closed = e.same.closed ∙ v.same.closed };
+      same = record { answers = e.same.answers ∙ v.same.answers; capacity = e.same.capacity ∙ v.same.capacity; closed = e.same.closed ∙ v.same.closed };
       sizes = (v.sizes.0 ∙ e.sizes.0, v.sizes.1 ∙ e.sizes.1);
       erases = e.erases ∙ v.erases;
       few = let few = v.few in omega arith;
@@ -63,7 +63,7 @@ loop-node-preserved g c =
           let h = d.1 in
           let among = its_known c.args.nodes.now past d.0 c.loop-node.node-index c.loop-node.copies c.node-item.result c.args.self.now c.loop-node.self known c.requires.oldest c.loop-node-test.true c.node-item.is h in
           copying_goes_on c.args.nodes.now past d.0 c.loop-node.node-index c.loop-node.copies _ c.node-item.result c.in_ok-handle.field-0 c.args.self.now c.loop-node.self c.handle.new.self c.loop-node-test.true c.node-item.is v.sizes h
-          (e.handled d.0 h.stands.knows among) (ap (λ k. c.loop-node.copies + k) c.from.ensures);
+          (e.handled d.0 h.stands.represents among) (ap (λ k. c.loop-node.copies + k) c.from.ensures);
     }
 
 pub returns-in_err-handle-clause-stopped : goal.returns-in_err-handle-clause-stopped
@@ -73,7 +73,7 @@ returns-in_err-handle-clause-stopped g c = let p = err_from_is_err_and c.from_re
     let among = its_known c.args.nodes.now past d.0 c.loop-node.node-index c.loop-node.copies c.node-item.result c.args.self.now c.loop-node.self known c.requires.oldest c.loop-node-test.true c.node-item.is h in (
       d.0,
       copying_has_room c.args.nodes.now past d.0 c.loop-node.node-index c.loop-node.copies c.node-item.result _ c.args.self.now c.loop-node.self c.handle.new.self known c.requires.oldest c.requires.several c.loop-node-test.true c.node-item.is h
-          (c.in_err-handle.ensures.stopped d.0 h.stands.knows among),
+          (c.in_err-handle.ensures.stopped d.0 h.stands.represents among),
     )
 
 pub returns-clause-copied : goal.returns-clause-copied

@@ -1,7 +1,7 @@
 use Rattle.std.proofs.Common.{◌∙◌, sym, ap, subst}
 use Rattle.std.proofs.lemmas.Result.{IfOk-weaker}
-use Rattle.jffs_core.specs.Standing.{Standing}
-use Rattle.jffs_core.specs.Past.{Knows}
+use Rattle.jffs_core.specs.CoreState.{CoreState}
+use Rattle.jffs_core.specs.Past.{RepresentsWorking}
 use Rattle.jffs_core.proofs.Refusing.{works_past}
 use Rattle.jffs_core.proofs.Trees.{tree_kept}
 use Rattle.jffs_core.proofs.Called.{erased_keeps, err_both, device_stop}
@@ -9,7 +9,7 @@ use Rattle.jffs_core.proofs.mounted.Core.erase_dead.Goals as goal
 
 pub returns-clause-erased : goal.returns-clause-erased
 returns-clause-erased g c =
-    let works = ap (λ (v : Standing). v.failed) (sym c.self.view_is) ∙ sym c.failed.ensures ∙ c.if-failed.false in
+    let works = ap (λ (v : CoreState). v.failed) (sym c.self.view_is) ∙ sym c.failed.ensures ∙ c.if-failed.false in
     IfOk-weaker c.erase_while_dead.result _ _
     (λ count h mounted past s.
     let e = h past (let k = s.stands in k.working works) in
@@ -17,7 +17,7 @@ returns-clause-erased g c =
       works = works;
       still_works = e.stands.works;
       faults = e.stands.faults;
-      stands = record { grown = s.grown; stands = works_past past _ e.stands.works e.stands.knows };
+      stands = record { grown = s.grown; stands = works_past past _ e.stands.works e.stands.represents };
       log = e.log;
       dead = e.dead;
       last = e.last;
@@ -26,15 +26,15 @@ returns-clause-erased g c =
 
 pub returns-clause-stopped : goal.returns-clause-stopped
 returns-clause-stopped g c =
-    let works = ap (λ (v : Standing). v.failed) (sym c.self.view_is) ∙ sym c.failed.ensures ∙ c.if-failed.false in
+    let works = ap (λ (v : CoreState). v.failed) (sym c.self.view_is) ∙ sym c.failed.ensures ∙ c.if-failed.false in
     err_both c.erase_while_dead.result _ _ _
     (λ cause h device mounted past s. device_stop mounted past cause c.args.self.now c.erase_while_dead.new.self works s device (h past (let k = s.stands in k.working works)))
     c.erase_while_dead.ensures.stopped c.erase_while_dead.ensures.device
 
 pub returns-clause-tree : goal.returns-clause-tree
 returns-clause-tree g c =
-    let works = ap (λ (v : Standing). v.failed) (sym c.self.view_is) ∙ sym c.failed.ensures ∙ c.if-failed.false in
+    let works = ap (λ (v : CoreState). v.failed) (sym c.self.view_is) ∙ sym c.failed.ensures ∙ c.if-failed.false in
     let past = c.self.invariant.past (sym c.failed.ensures ∙ c.if-failed.false) in
-    let known = subst (λ (v : Standing). Knows past.0 v) c.self.view_is past.1 in
+    let known = subst (λ (v : CoreState). RepresentsWorking past.0 v) c.self.view_is past.1 in
     let done = c.erase_while_dead.ensures in
     tree_kept past.0 c.args.self.now c.erase_while_dead.new.self c.erase_while_dead.result works known done.erased done.stopped done.device

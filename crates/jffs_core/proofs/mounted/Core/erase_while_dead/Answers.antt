@@ -1,7 +1,7 @@
 use Rattle.std.proofs.Common.{length, ap, arith}
 use Rattle.std.proofs.lemmas.Bool.{both_ways}
 use Rattle.std.proofs.lemmas.Result.{err_from_is_err_and}
-use Rattle.jffs_log.specs.Book.{layout_in}
+use Rattle.jffs_log.specs.LogIndex.{layout_in}
 use Rattle.jffs_log.specs.Cleaning.{Layout}
 use Rattle.jffs_core.specs.History.{IsOwnCopy}
 use Rattle.jffs_core.specs.Cleaning.{IsDeadOldest}
@@ -31,7 +31,7 @@ returns-clause-erased g c = λ past known.
 pub returns-in_err-erase_oldest-clause-stopped : goal.returns-in_err-erase_oldest-clause-stopped
 returns-in_err-erase_oldest-clause-stopped g c = let p = err_from_is_err_and c.from_residual.result c.from_residual.ensures.1 in rw (p.1, p.2) λ past known.
     let d = c.loop-self.invariant.done past known in
-    refused_along (IsOwnCopy past) _ past c.args.self.now c.loop-self.self c.erase_oldest.new.self d.faults (c.in_err-erase_oldest.ensures.refused past d.knows)
+    refused_along (IsOwnCopy past) _ past c.args.self.now c.loop-self.self c.erase_oldest.new.self d.faults (c.in_err-erase_oldest.ensures.refused past d.represents)
 
 pub returns-clause-erases : goal.returns-clause-erases
 returns-clause-erases g c = let v = c.loop-self.invariant in erased_along c.args.self.now c.loop-self.self c.loop-self.self v.erases (erased_none c.loop-self.self)
@@ -43,5 +43,5 @@ pub loop-self-smaller : goal.loop-self-smaller
 loop-self-smaller g c =
     let e = ap (λ (l : Layout). length l.sectors) c.in_ok-erase_oldest.ensures.log in
     let dead : IsDeadOldest c.loop-self.self = c.is_dead_oldest.ensures.0 c.loop-self-test.true in
-    let f = one_fewer (layout_in c.loop-self.self.image c.loop-self.self.book).sectors dead.several in
+    let f = one_fewer (layout_in c.loop-self.self.image c.loop-self.self.index).sectors dead.several in
     omega arith

@@ -1,5 +1,5 @@
 use Rattle.std.proofs.Common.{length}
-use Rattle.jffs_log.specs.Book.{layout_in}
+use Rattle.jffs_log.specs.LogIndex.{layout_in}
 use Rattle.jffs_core.proofs.Erasing.{IsErasing}
 use Rattle.jffs_core.proofs.mounted.Core.erase_while_dead.Given as goal
 
@@ -7,4 +7,4 @@ abbrev pub invariant-loop-self : goal.invariant-loop-self
 invariant-loop-self g l = IsErasing l.erased l.fn.self l.self
 
 abbrev pub decreases-loop-self : goal.decreases-loop-self
-decreases-loop-self g l = length (layout_in l.self.image l.self.book).sectors
+decreases-loop-self g l = length (layout_in l.self.image l.self.index).sectors

@@ -21,7 +21,7 @@ returns-clause-acted g c = λ past known.
     let h = c.in_ok-append.ensures.done in
     answers_same past _ _ q c.appended.result (record { outcome = Appended n.inode n.version; node = Some n }) c.appended.ensures
     (put_now past _ _ q c.requires.working known n d (fresh_is past _ q n known d c.requires.no_copy c.requires.no_unmount) h.works h.faults (fresh_put_keeps n _ _ h)
-    (works_past _ _ h.works (h.knows past known (fresh_may past _ q n known d c.requires.no_copy c.requires.no_unmount))))
+    (works_past _ _ h.works (h.represents past known (fresh_may past _ q n known d c.requires.no_copy c.requires.no_unmount))))
 
 pub returns-in_err-append-clause-acted : goal.returns-in_err-append-clause-acted
 returns-in_err-append-clause-acted g c = let p = err_from_is_err_and c.from_residual.result c.from_residual.ensures.1 in rw (p.1, p.2) λ past known.

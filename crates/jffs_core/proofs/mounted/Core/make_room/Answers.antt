@@ -1,8 +1,8 @@
 use Rattle.std.proofs.Common.{◌≡◌, ◌∙◌, ◌-◌, ◌+◌, ◌≤◌, suc, length, inl, inr, sym, ap, subst, arith}
 use Rattle.std.proofs.lemmas.Result.{err_from_is_err_and}
-use Rattle.jffs_log.specs.Book.{layout_in}
+use Rattle.jffs_log.specs.LogIndex.{layout_in}
 use Rattle.jffs_core.specs.declared.cleaning.Cleaned.{Cleaned}
-use Rattle.jffs_core.specs.Standing.{Standing}
+use Rattle.jffs_core.specs.CoreState.{CoreState}
 use Rattle.jffs_core.specs.Cleaning.{DidClean}
 use Rattle.jffs_core.proofs.Sweeping.{held_is}
 use Rattle.jffs_core.proofs.Turning.{HasTurned, turning_begins, turning_ends, turning_goes_on, turning_stopped, full_has_several}
@@ -10,12 +10,12 @@ use Rattle.jffs_core.proofs.mounted.Core.make_room.Goals as goal
 
 pub loop-turn-init : goal.loop-turn-init
 loop-turn-init g c =
-    let works = ap (λ (v : Standing). v.failed) c.self.view_is ∙ c.requires.working in
-    let many = held_is c.self.inside.log.device.image c.self.inside.log.book (c.self.invariant.book works) in
+    let works = ap (λ (v : CoreState). v.failed) c.self.view_is ∙ c.requires.working in
+    let many = held_is c.self.inside.log.device.image c.self.inside.log.index (c.self.invariant.index works) in
     let is = c.held-turn-end.ensures in
     turning_begins c.args.len _ c.args.self.now c.requires.working
-    (subst (λ (v : Standing). c.held-turn-end.result - 0 ≡ length (layout_in v.image v.book).sectors) c.self.view_is (omega arith))
-    (subst (λ (v : Standing). c.held-turn-end.result - 0 ≤ v.book.held) c.self.view_is (omega arith))
+    (subst (λ (v : CoreState). c.held-turn-end.result - 0 ≡ length (layout_in v.image v.index).sectors) c.self.view_is (omega arith))
+    (subst (λ (v : CoreState). c.held-turn-end.result - 0 ≤ v.index.held) c.self.view_is (omega arith))
 
 pub returns-then-has_room-clause-made : goal.returns-then-has_room-clause-made
 returns-then-has_room-clause-made g c = λ past known.
@@ -26,16 +26,16 @@ pub returns-in-OneSector-clause-made : goal.returns-in-OneSector-clause-made
 returns-in-OneSector-clause-made g c = λ past known.
     let d = c.loop-turn.invariant.done past known in
     let h = d.1 in
-    let one = subst (λ (done : Cleaned). DidClean done d.0 c.loop-turn.self c.clean_one.new.self) c.in-OneSector.is (c.in_ok-clean_one.ensures.cleaned d.0 h.stands.knows) in
+    let one = subst (λ (done : Cleaned). DidClean done d.0 c.loop-turn.self c.clean_one.new.self) c.in-OneSector.is (c.in_ok-clean_one.ensures.cleaned d.0 h.stands.represents) in
     let few = one.1 in
-    let several = full_has_several c.args.len d.0 c.loop-turn.self h.stands.knows (sym c.has_room.ensures ∙ c.if-has_room.false) in
+    let several = full_has_several c.args.len d.0 c.loop-turn.self h.stands.represents (sym c.has_room.ensures ∙ c.if-has_room.false) in
     absurd (omega arith)
 
 pub returns-in_err-clean_one-clause-refused : goal.returns-in_err-clean_one-clause-refused
 returns-in_err-clean_one-clause-refused g c = let p = err_from_is_err_and c.from_residual.result c.from_residual.ensures.1 in rw (p.1, p.2) λ past known.
     let d = c.loop-turn.invariant.done past known in
     let h = d.1 in
-    let s = c.in_err-clean_one.ensures.stopped d.0 h.stands.knows in
+    let s = c.in_err-clean_one.ensures.stopped d.0 h.stands.represents in
     (s.0, turning_stopped c.args.len _ past d.0 s.0 _ c.args.self.now c.loop-turn.self c.clean_one.new.self h (let one = s.1 in one.stopped))
 
 pub loop-turn-preserved : goal.loop-turn-preserved
@@ -46,12 +46,12 @@ loop-turn-preserved g c =
     record {
       works = e.works;
       erases = let a = v.erases in let b = e.erases in omega arith;
-      same = record { answers = e.same.answers ∙ v.same.answers; places = e.same.places ∙ v.same.places; closed = e.same.closed ∙ v.same.closed };
+      same = record { answers = e.same.answers ∙ v.same.answers; capacity = e.same.capacity ∙ v.same.capacity; closed = e.same.closed ∙ v.same.closed };
       sizes = (v.sizes.0 ∙ e.sizes.0, v.sizes.1 ∙ e.sizes.1);
       done = λ past known.
           let d = v.done past known in
           let h : HasTurned c.args.len (c.held-turn-end.result - c.loop-turn.turn) past d.0 c.args.self.now c.loop-turn.self = d.1 in
-          let k = subst (λ (done : Cleaned). DidClean done d.0 c.loop-turn.self c.clean_one.new.self) c.in-Erased.is (e.cleaned d.0 h.stands.knows) in
+          let k = subst (λ (done : Cleaned). DidClean done d.0 c.loop-turn.self c.clean_one.new.self) c.in-Erased.is (e.cleaned d.0 h.stands.represents) in
           let later = k.2 in (
             later.0,
             turning_goes_on c.args.len _ c.in-Erased.copies past d.0 later.0 c.args.self.now c.loop-turn.self c.clean_one.new.self v.sizes (subst (λ j. HasTurned c.args.len j past d.0 c.args.self.now c.loop-turn.self) left h)

@@ -1,10 +1,10 @@
 use Rattle.std.proofs.Common.{refl, sym, ap}
 use Rattle.jffs_flash.specs.Device.{Device}
-use Rattle.jffs_core.proofs.Mounting.{found_book, found_fresh}
+use Rattle.jffs_core.proofs.Mounting.{found_index, found_fresh}
 use Rattle.jffs_core.proofs.mounted.Core.mount.Goals as goal
 
 pub invariant_of-result : goal.invariant_of-result
-invariant_of-result g c = found_book _ _ _ _ _ c.in_ok-log.ensures.found
+invariant_of-result g c = found_index _ _ _ _ _ c.in_ok-log.ensures.found
 
 pub returns : goal.returns
 returns g c =

@@ -23,8 +23,8 @@ returns-in-Ok-clause-kept g c = λ kept.
     let inside = sector_inside c.args.sector held.sectors size held.image c.requires c.sector_size-size.ensures.whole in
     let now = ap (λ (d : Device). d.image) c.in_ok-erase.ensures in
     let second : c.from-2.result ≡ size = c.from-2.ensures ∙ c.sector_size-size.ensures.size in
-    let place : c.from.result * c.from-2.result ≡ c.args.sector * size = ap (λ k. k * c.from-2.result) c.from.ensures ∙ ap (λ k. c.args.sector * k) second in
-    let same = kept_written (c.from.result * c.from-2.result) (c.args.sector * size) c.sector_size-size.result size (replicate size erased_byte) held.image c.erase.new.self.image _ _ place c.sector_size-size.ensures.size (length-replicate size erased_byte) inside now (c.in-Ok.ensures.written kept.sound) kept.same in
+    let offset : c.from.result * c.from-2.result ≡ c.args.sector * size = ap (λ k. k * c.from-2.result) c.from.ensures ∙ ap (λ k. c.args.sector * k) second in
+    let same = kept_written (c.from.result * c.from-2.result) (c.args.sector * size) c.sector_size-size.result size (replicate size erased_byte) held.image c.erase.new.self.image _ _ offset c.sector_size-size.ensures.size (length-replicate size erased_byte) inside now (c.in-Ok.ensures.written kept.sound) kept.same in
     record {
       sound = ap (λ (f : FileFlash g.row.S.Denot). f.faults) rest ∙ kept.sound;
       same = same ∙ ap (λ (f : FileFlash g.row.S.Denot). Some f.held.image) (sym rest);
@@ -37,6 +37,6 @@ returns-in-Err-clause-left g c = λ kept.
     let inside = sector_inside c.args.sector held.sectors size held.image c.requires c.sector_size-size.ensures.whole in
     let now = ap (λ (d : Device). d.image) c.in_ok-erase.ensures in
     let second : c.from-2.result ≡ size = c.from-2.ensures ∙ c.sector_size-size.ensures.size in
-    let place : c.from.result * c.from-2.result ≡ c.args.sector * size = ap (λ k. k * c.from-2.result) c.from.ensures ∙ ap (λ k. c.args.sector * k) second in
-    let same = left_written (c.from.result * c.from-2.result) (c.args.sector * size) c.sector_size-size.result size (replicate size erased_byte) held.image c.erase.new.self.image _ _ place c.sector_size-size.ensures.size (length-replicate size erased_byte) inside now (c.in-Err.ensures.written kept.sound) kept.same in
+    let offset : c.from.result * c.from-2.result ≡ c.args.sector * size = ap (λ k. k * c.from-2.result) c.from.ensures ∙ ap (λ k. c.args.sector * k) second in
+    let same = left_written (c.from.result * c.from-2.result) (c.args.sector * size) c.sector_size-size.result size (replicate size erased_byte) held.image c.erase.new.self.image _ _ offset c.sector_size-size.ensures.size (length-replicate size erased_byte) inside now (c.in-Err.ensures.written kept.sound) kept.same in
     record { image = _; same = same.1; left = part_erased size c.args.sector same.0 held.image inside }

@@ -3,11 +3,11 @@ use Rattle.jffs_flash.specs.Device.{Device, with_image}
 use Rattle.jffs_flash.specs.Image.{erased}
 use Rattle.std.specs.List.{AllByRecursion}
 use Rattle.jffs_tree.specs.Origin.{Tree}
-use Rattle.jffs_log.specs.Book.{lives_in, oldest_in}
+use Rattle.jffs_log.specs.LogIndex.{lives_in, oldest_in}
 use Rattle.jffs_log.specs.LogState.{LogState, OldestIsDead, ErasedOldest}
-use Rattle.jffs_log.proofs.Appended.{kept_inside, kept_readable}
+use Rattle.jffs_log.proofs.Appended.{described_inside, described_readable}
 use Rattle.jffs_log.proofs.Histories.{erasing_keeps_history}
-use Rattle.jffs_log.proofs.ErasedBook.{book_erased}
+use Rattle.jffs_log.proofs.ErasedIndex.{index_erased}
 use Rattle.jffs_log.proofs.Seen.{told, only_image, same_sizes}
 use Rattle.jffs_log.proofs.Weighed.{records_few}
 use Rattle.jffs_log.proofs.log.Log.erase_oldest.Goals as goal
@@ -16,16 +16,16 @@ use Rattle.jffs_log.proofs.log.Log.erase_oldest.Goals as goal
 done_seen : (inside seen new : LogState) (tree : Tree) → inside ≡ seen → ErasedOldest tree inside new → ErasedOldest tree seen new
 done_seen inside seen new tree same h = subst (λ (v : LogState). ErasedOldest tree v new) same h
 
-several_inside : (inside seen : LogState) → inside ≡ seen → 2 ≤ seen.book.held → 2 ≤ inside.book.held
-several_inside inside seen same several = subst (λ (v : LogState). 2 ≤ v.book.held) (sym same) several
+several_inside : (inside seen : LogState) → inside ≡ seen → 2 ≤ seen.index.held → 2 ≤ inside.index.held
+several_inside inside seen same several = subst (λ (v : LogState). 2 ≤ v.index.held) (sym same) several
 
 pub erase-requires : goal.erase-requires
 erase-requires g c =
-    let inside = kept_inside _ _ _ _ _ _ _ _ _ (told _ _ c.self.view_is c.self.invariant c.requires.working) in
-    subst (λ (k : ℕ). c.self.inside.book.first < k) (sym c.self.invariant.sizes.0) inside.0
+    let inside = described_inside _ _ _ _ _ _ _ _ _ (told _ _ c.self.view_is c.self.invariant c.requires.working) in
+    subst (λ (k : ℕ). c.self.inside.index.first < k) (sym c.self.invariant.sizes.0) inside.0
 
-pub sector_at-book-requires-clause-first_in : goal.sector_at-book-requires-clause-first_in
-sector_at-book-requires-clause-first_in g c = (kept_inside _ _ _ _ _ _ _ _ _ (told _ _ c.self.view_is c.self.invariant c.requires.working)).0
+pub sector_at-index-requires-clause-first_in : goal.sector_at-index-requires-clause-first_in
+sector_at-index-requires-clause-first_in g c = (described_inside _ _ _ _ _ _ _ _ _ (told _ _ c.self.view_is c.self.invariant c.requires.working)).0
 
 -- the image is that without the oldest sector
 changed : (old new : Device) (size first : ℕ) → new ≡ with_image old (erased old.sector_size first old.image) → old.sector_size ≡ size → new.image ≡ erased size first old.image
@@ -33,42 +33,42 @@ changed old new size first done same = ap (λ (d : Device). d.image) done ∙ ap
 
 pub invariant_of-self : goal.invariant_of-self
 invariant_of-self g c =
-    let b = c.self.inside.book in
+    let b = c.self.inside.index in
     let old = g.F.Flash.device c.self.inside.flash in
     let done = c.in-Ok.ensures in
-    let after = book_erased b.sectors b.sector_size old.image _ b.first b.held b.tail b.used b.free c.sector_at-book.result b.records.items c.forget_sector.new.records.items
+    let after = index_erased b.sectors b.sector_size old.image _ b.first b.held b.tail b.used b.free c.sector_at-index.result b.records.items c.forget_sector.new.records.items
     (told _ _ c.self.view_is c.self.invariant c.requires.working) (several_inside _ _ c.self.view_is c.requires.several)
-    c.sector_at-book.ensures (changed old _ b.sector_size b.first done c.self.invariant.sizes.1) c.forget_sector.ensures in
+    c.sector_at-index.ensures (changed old _ b.sector_size b.first done c.self.invariant.sizes.1) c.forget_sector.ensures in
     let few = c.self.invariant.held in
     record {
       sizes = same_sizes old _ b _ done c.self.invariant.sizes;
       held = omega arith;
-      few = records_few _ _ _ _ _ _ _ _ _ after.book;
-      told = λ works. after.book;
+      few = records_few _ _ _ _ _ _ _ _ _ after.index;
+      told = λ works. after.index;
     }
 
 pub returns-in-Ok-clause-done : goal.returns-in-Ok-clause-done
 returns-in-Ok-clause-done g c =
-    let b = c.self.inside.book in
+    let b = c.self.inside.index in
     let old = g.F.Flash.device c.self.inside.flash in
     let new = g.F.Flash.device c.erase.new.self in
     let tree = c.args.tree.now in
     let done = c.in-Ok.ensures in
     let image = changed old new b.sector_size b.first done c.self.invariant.sizes.1 in
-    let after = book_erased b.sectors b.sector_size old.image new.image b.first b.held b.tail b.used b.free c.sector_at-book.result b.records.items c.forget_sector.new.records.items
-    (told _ _ c.self.view_is c.self.invariant c.requires.working) (several_inside _ _ c.self.view_is c.requires.several) c.sector_at-book.ensures image c.forget_sector.ensures in
-    let readable = kept_readable _ _ _ _ _ _ _ _ _ after.book in
+    let after = index_erased b.sectors b.sector_size old.image new.image b.first b.held b.tail b.used b.free c.sector_at-index.result b.records.items c.forget_sector.new.records.items
+    (told _ _ c.self.view_is c.self.invariant c.requires.working) (several_inside _ _ c.self.view_is c.requires.several) c.sector_at-index.ensures image c.forget_sector.ensures in
+    let readable = described_readable _ _ _ _ _ _ _ _ _ after.index in
     let dead = subst (λ (v : LogState). OldestIsDead tree v) (sym c.self.view_is) c.requires.dead in
     done_seen _ _ _ tree c.self.view_is
     (record {
       works = record {
         failed = ap (λ (v : LogState). v.failed) c.self.view_is ∙ c.requires.working;
-        told = after.book;
+        told = after.index;
         device = only_image old new _ done;
       };
       image = image;
       sizes = (refl, refl);
-      erases = c.saturating_add-book.ensures;
+      erases = c.saturating_add-index.ensures;
       gone = after.gone;
       layout_is = after.layout;
       clean = after.clean;

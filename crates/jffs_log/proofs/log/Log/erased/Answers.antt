@@ -2,11 +2,11 @@ use Rattle.std.proofs.Common.{◌≡◌, ◌-◌, false, sym, subst}
 use Rattle.jffs_log.specs.Image.{erased_count}
 use Rattle.jffs_log.specs.Volume.{sectors_in}
 use Rattle.jffs_log.specs.LogState.{LogState}
-use Rattle.jffs_log.proofs.Rooms.{kept_erased}
+use Rattle.jffs_log.proofs.Rooms.{described_erased}
 use Rattle.jffs_log.proofs.log.Log.erased.Goals as goal
 
 pub returns-clause-exact : goal.returns-clause-exact
 returns-clause-exact g c =
-    let b = c.self.inside.book in
-    let P : LogState → Type 0 = λ v. v.failed ≡ false → b.sectors - b.held ≡ erased_count (sectors_in v.book.sectors v.book.sector_size v.device.image) in
-    subst P c.self.view_is (λ works. sym (kept_erased _ _ _ _ _ _ _ _ _ (c.self.invariant.told works)))
+    let b = c.self.inside.index in
+    let P : LogState → Type 0 = λ v. v.failed ≡ false → b.sectors - b.held ≡ erased_count (sectors_in v.index.sectors v.index.sector_size v.device.image) in
+    subst P c.self.view_is (λ works. sym (described_erased _ _ _ _ _ _ _ _ _ (c.self.invariant.told works)))

@@ -1,6 +1,6 @@
 use Rattle.std.proofs.Common.{◌↔◌, sym, true, false, eqb, subst, IsTrue, ◌∙◌}
 use Rattle.std.specs.List.{take_while}
-use Rattle.jffs_log.specs.declared.book.Kept.{Kept}
+use Rattle.jffs_log.specs.declared.log_index.RecordRef.{RecordRef}
 use Rattle.jffs_log.specs.LogState.{LogState, OldestIsDead}
 use Rattle.jffs_log.proofs.OldestDead.{dead_exactly}
 use Rattle.jffs_log.proofs.OldestAsked.{not_dead, none_within}
@@ -18,9 +18,9 @@ returns-in-Some g c =
 pub returns-in-None : goal.returns-in-None
 returns-in-None g c =
     let h = told _ _ c.self.view_is c.self.invariant c.requires.working in
-    let b = c.self.inside.book in
+    let b = c.self.inside.index in
     let tree = c.args.tree.now in
-    let dead = none_within c.version_at-first.result c.version_at-last.result tree (take_while (λ (k : Kept). eqb k.sector b.first) b.records.items) c.in-None.ensures.none
+    let dead = none_within c.version_at-first.result c.version_at-last.result tree (take_while (λ (k : RecordRef). eqb k.sector b.first) b.records.items) c.in-None.ensures.none
     (sym c.all_within.ensures ∙ c.if-all_within.true) in
     let P : LogState → Type 0 = λ v. IsTrue true ↔ OldestIsDead tree v in
     subst P c.self.view_is (dead_exactly _ _ _ _ _ _ _ _ _ tree true h (sym dead))

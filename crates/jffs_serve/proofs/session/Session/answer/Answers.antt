@@ -1,7 +1,7 @@
 use Rattle.std.proofs.Common.{[], ◌∷◌, ◌++◌, ◌∙◌, sym, subst, Option, Some}
 use Rattle.jffs_tree.proofs.Wishes.{unmount_wish}
-use Rattle.jffs_serve.specs.declared.session.Kept.{Kept}
-use Rattle.jffs_serve.specs.declared.session.Kept.TheVariants.{Unput}
+use Rattle.jffs_serve.specs.declared.session.PendingStep.{PendingStep}
+use Rattle.jffs_serve.specs.declared.session.PendingStep.TheVariants.{Unput}
 use Rattle.jffs_serve.specs.declared.session.Served.{Served}
 use Rattle.jffs_serve.specs.Answered.{HasReplied}
 use Rattle.jffs_serve.specs.Replies.{Reply}
@@ -16,7 +16,7 @@ returns-clause-replies g c put before now took start replies was =
     let made = c.answer_with_node-outcome.ensures in
     let core = c.answer_with_node-outcome.new.self in
     let r : Reply = reply_of c.args.request answered.outcome answered.node in
-    let nothing = subst (λ (k : Option Kept). HasReplied start c.args.self.now.core k put before replies) c.requires.sent was in (
+    let nothing = subst (λ (k : Option PendingStep). HasReplied start c.args.self.now.core k put before replies) c.requires.sent was in (
       r ∷ [],
       subst (λ (e : Option Served). HasReplied start core (Some (Unput r.step e)) put now (replies ++ r ∷ [])) (sym c.ending_after.ensures)
           (replied_more start c.args.self.now.core core c.args.request answered.outcome answered.node c.is_unmount-unmounts.result

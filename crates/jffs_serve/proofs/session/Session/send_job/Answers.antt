@@ -1,5 +1,5 @@
 use Rattle.std.proofs.Common.{rules, ◌≡◌, ◌∙◌, ◌++◌, ◌∷◌, [], true, false, Some, inr, refl, sym, ap}
-use Rattle.jffs_core.specs.Standing.{Standing}
+use Rattle.jffs_core.specs.CoreState.{CoreState}
 use Rattle.jffs_core.specs.Trees.{KeepsTree}
 use Rattle.jffs_serve.specs.Answered.{HasSameReplies}
 use Rattle.jffs_serve.proofs.Keeping.{read_kept, wanted_works}
@@ -16,10 +16,10 @@ worked g c =
 -- the session after the reading, whatever it keeps of the sending
 same_replies : (g : _) (c : After-oldest_image g) → HasSameReplies c.args.self.now (record c.args.self.now { core = c.oldest_image.new.self })
 same_replies g c =
-    let old : Standing = c.args.self.now.core in
+    let old : CoreState = c.args.self.now.core in
     let read = c.oldest_image.ensures in (
-      ap (λ (s : Standing). s.answers) read.same,
-      ap (λ (s : Standing). s.closed) read.same,
+      ap (λ (s : CoreState). s.answers) read.same,
+      ap (λ (s : CoreState). s.closed) read.same,
       refl,
       read_kept old c.oldest_image.new.self c.oldest_image.result (worked g c) read.same read.works read.refused,
     )
@@ -29,7 +29,7 @@ same_tree g c = read_tree c.args.self.now.core c.oldest_image.new.self (worked g
 
 pub returns-in-Ok-send-clause-job : goal.returns-in-Ok-send-clause-job
 returns-in-Ok-send-clause-job g c =
-    let erases : c.erases-erases.result ≡ c.args.self.now.core.book.erases = search rules in
+    let erases : c.erases-erases.result ≡ c.args.self.now.core.index.erases = search rules in
     let asked : c.is_due.result ≡ true = search rules in
     let due = c.is_due.ensures asked in
     inr (

@@ -2,7 +2,7 @@ use Rattle.std.proofs.Common.{◌≡◌, ◌∙◌, ◌+◌, cond, eqb, length, 
 use Rattle.std.proofs.lemmas.List.{length-map}
 use Rattle.jffs_tree.specs.Origin.{Held}
 use Rattle.jffs_tree.specs.After.{held_after}
-use Rattle.jffs_tree.specs.Marks.{places_by, brought_by}
+use Rattle.jffs_tree.specs.Marks.{bytes_by, brought_by}
 use Rattle.jffs_tree.specs.Shown.{held_of}
 use Rattle.jffs_tree.specs.Fragments.{byte_of, writer_of, laid, amount_by}
 use Rattle.jffs_tree.proofs.Counted.{amount_counted}
@@ -17,13 +17,13 @@ write_over-requires-clause-fits c =
     record {
       small = c.self.invariant.small;
       node = c.requires.small;
-      places = λ moves. let p = c.requires.places moves in omega arith;
+      offsets = λ moves. let p = c.requires.offsets moves in omega arith;
     }
 
 pub write_over-requires-clause-marked : goal.write_over-requires-clause-marked
 write_over-requires-clause-marked c = λ v.
     let a = amount_counted v 0 c.self.inside.size c.self.inside.fragments.entries in
-    let b : places_by v c.args.self.now ≡ places_by v (held_of c.self.inside) = ap (places_by v) (sym c.self.view_is) in
+    let b : bytes_by v c.args.self.now ≡ bytes_by v (held_of c.self.inside) = ap (bytes_by v) (sym c.self.view_is) in
     let m = c.requires.marked v in
     omega arith
 
@@ -41,8 +41,8 @@ returns-clause-ok c =
 pub returns-clause-marks : goal.returns-clause-marks
 returns-clause-marks c = λ v i.
     let n = c.args.node.now in
-    let a : places_by v (held_of c.self.inside) ≡ amount_by v c.self.inside.fragments.entries = amount_counted v 0 c.self.inside.size c.self.inside.fragments.entries in
-    let b : places_by v c.args.self.now ≡ amount_by v c.self.inside.fragments.entries = ap (places_by v) (sym c.self.view_is) ∙ a in
+    let a : bytes_by v (held_of c.self.inside) ≡ amount_by v c.self.inside.fragments.entries = amount_counted v 0 c.self.inside.size c.self.inside.fragments.entries in
+    let b : bytes_by v c.args.self.now ≡ amount_by v c.self.inside.fragments.entries = ap (bytes_by v) (sym c.self.view_is) ∙ a in
     let d = amount_counted v 0 c.in_ok-self-inside.field-0 c.write_over.new.fragments.entries in
     let m = c.in_ok-self-inside.ensures.moved v i in
     let x = ap (λ k. cond (eqb i n.inode) (k + brought_by v n) 0) b in

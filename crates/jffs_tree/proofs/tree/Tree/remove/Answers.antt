@@ -3,9 +3,9 @@ use Rattle.jffs_tree.specs.Origin.{Held}
 use Rattle.jffs_tree.specs.After.{without_inode}
 use Rattle.jffs_tree.specs.Look.{parent_name_in}
 use Rattle.jffs_tree.proofs.Maps.{t_true, found_get, sorted_map}
-use Rattle.jffs_tree.specs.Marks.{AreMarksOf, HasPlaces, LosesPlaces}
+use Rattle.jffs_tree.specs.Marks.{AreMarksOf, HasByteMarks, LosesByteMarks}
 use Rattle.jffs_tree.specs.Shown.{held_of}
-use Rattle.jffs_tree.proofs.Marked.{of_removed, has_places, one_left}
+use Rattle.jffs_tree.proofs.Marked.{of_removed, has_byte_marks, one_left}
 use Rattle.jffs_tree.proofs.Written.{map_removed, taken_out}
 use Rattle.jffs_tree.proofs.Reindexed.{removed_index}
 use Rattle.jffs_tree.proofs.tree.Tree.remove.Goals as goal
@@ -26,7 +26,7 @@ invariant_of-self c =
           (sym (map_removed old c.remove.new.self.entries c.args.inode c.self.invariant.ordered c.in-Some.ensures.ordered c.in-Some.ensures.updates.0))
           (of_removed old c.args.inode (held_of c.old.inside) c.old.inside.newest (taken_out c.args.inode old c.in-Some.old (held_of c.old.inside) c.old.view_is c.in-Some.ensures.value) refl
           c.self.inside.marks c.self.invariant.marked c.release.new.marks
-          (subst (λ (h : Held). LosesPlaces c.self.inside.marks c.release.new.marks c.args.inode h) (sym c.old.view_is) c.release.ensures)
+          (subst (λ (h : Held). LosesByteMarks c.self.inside.marks c.release.new.marks c.args.inode h) (sym c.old.view_is) c.release.ensures)
           c.lower.new.self c.lower.ensures);
     }
 
@@ -43,8 +43,8 @@ returns-in_default c =
 pub release-requires : goal.release-requires
 release-requires c =
     let old = c.self.inside.inodes.entries in
-    subst (λ (h : Held). HasPlaces c.self.inside.marks c.args.inode h) c.old.view_is
-    (has_places old c.args.inode (held_of c.old.inside) c.old.inside.newest (taken_out c.args.inode old c.in-Some.old (held_of c.old.inside) c.old.view_is c.in-Some.ensures.value) refl
+    subst (λ (h : Held). HasByteMarks c.self.inside.marks c.args.inode h) c.old.view_is
+    (has_byte_marks old c.args.inode (held_of c.old.inside) c.old.inside.newest (taken_out c.args.inode old c.in-Some.old (held_of c.old.inside) c.old.view_is c.in-Some.ensures.value) refl
     c.self.inside.marks c.self.invariant.marked)
 
 pub lower-requires : goal.lower-requires
@@ -52,4 +52,4 @@ lower-requires c =
     let old = c.self.inside.inodes.entries in
     one_left old c.args.inode (held_of c.old.inside) c.old.inside.newest (taken_out c.args.inode old c.in-Some.old (held_of c.old.inside) c.old.view_is c.in-Some.ensures.value) refl
     c.self.inside.marks c.self.invariant.marked c.release.new.marks
-    (subst (λ (h : Held). LosesPlaces c.self.inside.marks c.release.new.marks c.args.inode h) (sym c.old.view_is) c.release.ensures)
+    (subst (λ (h : Held). LosesByteMarks c.self.inside.marks c.release.new.marks c.args.inode h) (sym c.old.view_is) c.release.ensures)

@@ -6,17 +6,17 @@ use Rattle.std.specs.List.{AllByRecursion, last_or}
 use Rattle.jffs_node.specs.declared.node.Node.{Node}
 use Rattle.jffs_node.specs.Record.{record_len}
 use Rattle.jffs_flash.specs.Sizes.{is_geometry}
-use Rattle.jffs_log.specs.declared.book.Kept.{Kept}
-use Rattle.jffs_log.specs.declared.book.Book.{Book}
+use Rattle.jffs_log.specs.declared.log_index.RecordRef.{RecordRef}
+use Rattle.jffs_log.specs.declared.log_index.LogIndex.{LogIndex}
 use Rattle.jffs_log.specs.Image.{Sector, Placed, records_in, records_in_first, log_sectors, free_of_tail}
 use Rattle.jffs_log.specs.Cleaning.{Layout, layout_of}
 use Rattle.jffs_log.specs.Volume.{sectors_in}
 use Rattle.jffs_log.specs.Ring.{IsRing}
 use Rattle.jffs_log.specs.Live.{IsSound, IsReadable, IsOpenSector, live_log}
 
--- what the book has of a record
-abbrev pub kept : Placed → Kept
-kept p = record { version = p.node.version; inode = p.node.inode; length = record_len p.node; sector = p.sector; place = p.place }
+-- what the index has of a record
+abbrev pub ref_of : Placed → RecordRef
+ref_of p = record { version = p.node.version; inode = p.node.inode; length = record_len p.node; sector = p.sector; offset = p.offset }
 
 -- the sector that was begun last has that many bytes used and that many erased
 pub record HasTail (count len : ℕ) (image : List ℕ) (held : List (ℕ × Sector)) (tail used free : ℕ) : Type 0 where
@@ -29,7 +29,7 @@ pub record HasTail (count len : ℕ) (image : List ℕ) (held : List (ℕ × Sec
   pub filled : used ≡ sum_by record_len nodes
 
 -- These numbers and records are those of the image.
-pub record IsKept (count len : ℕ) (image : List ℕ) (first many tail used free : ℕ) (records : List Kept) : Type 0 where
+pub record Describes (count len : ℕ) (image : List ℕ) (first many tail used free : ℕ) (records : List RecordRef) : Type 0 where
   pub sizes : is_geometry count len ≡ true
   pub whole : length image ≡ count * len
   pub held : List (ℕ × Sector)
@@ -39,26 +39,26 @@ pub record IsKept (count len : ℕ) (image : List ℕ) (first many tail used fre
   pub sound : AllByRecursion (λ s. IsSound s.reading.ending) (sectors_in count len image)
   pub room : (free ≡ 0) ⊎ HasTail count len image held tail used free
   pub exact : free ≡ free_of_tail len (last_or None held)
-  pub listed : records ≡ map kept (flat_map records_in held)
+  pub listed : records ≡ map ref_of (flat_map records_in held)
 
--- the book describes this image
-abbrev pub IsBook : List ℕ → Book → Type 0
-IsBook image b = IsKept b.sectors b.sector_size image b.first b.held b.tail b.used b.free b.records.items
+-- the index describes this image
+abbrev pub IsLogIndex : List ℕ → LogIndex → Type 0
+IsLogIndex image b = Describes b.sectors b.sector_size image b.first b.held b.tail b.used b.free b.records.items
 
 -- the device has `count` sectors of `len` bytes
-abbrev pub HasSizes : ℕ → ℕ → Book → Type 0
+abbrev pub HasSizes : ℕ → ℕ → LogIndex → Type 0
 HasSizes count len b = (count ≡ b.sectors) × (len ≡ b.sector_size)
 
 -- the records of the image, in the order of the log
-abbrev pub log_in : List ℕ → Book → List Placed
+abbrev pub log_in : List ℕ → LogIndex → List Placed
 log_in image b = live_log b.sectors b.sector_size image
 
 -- those of its oldest sector
-abbrev pub oldest_in : List ℕ → Book → List Placed
+abbrev pub oldest_in : List ℕ → LogIndex → List Placed
 oldest_in image b = records_in_first (log_sectors (sectors_in b.sectors b.sector_size image))
 
 -- the log sector by sector, what is free in the tail, and how many sectors are erased
-abbrev pub layout_in : List ℕ → Book → Layout
+abbrev pub layout_in : List ℕ → LogIndex → Layout
 layout_in image b = layout_of b.sector_size (sectors_in b.sectors b.sector_size image)
 
 -- the tree holds the record's version in its inode
@@ -78,12 +78,12 @@ abbrev pub live_records_in : ℕ → List Node → List Placed → ℕ
 live_records_in sector past log = length (filter (λ p. (p.sector == sector) && is_live past p.node.version) log)
 
 -- the records from the first one on that stands in another sector
-abbrev pub from_other : ℕ → List Kept → List Kept
+abbrev pub from_other : ℕ → List RecordRef → List RecordRef
 from_other sector [] = []
 from_other sector (k ∷ records) = if k.sector == sector then from_other sector records else k ∷ records
 
--- the same in all but the places that are reserved for records
-pub record IsSameBook (old new : Book) : Type 0 where
+-- the same in all but the capacity reserved for records
+pub record IsSameLogIndex (old new : LogIndex) : Type 0 where
   pub sectors : new.sectors ≡ old.sectors
   pub sector_size : new.sector_size ≡ old.sector_size
   pub first : new.first ≡ old.first
@@ -94,17 +94,17 @@ pub record IsSameBook (old new : Book) : Type 0 where
   pub erases : new.erases ≡ old.erases
   pub records : new.records.items ≡ old.records.items
 
--- a node with the sector and the place of its record
+-- a node with the sector and the offset of its record
 abbrev pub placed_at : ℕ → ℕ → Node → Placed
-placed_at sector place n = record { sector = sector; place = place; node = n }
+placed_at sector offset n = record { sector = sector; offset = offset; node = n }
 
 -- after a failed write a scan finds the log as it was, or the whole record too
-pub record IsCut (b : Book) (old new : List ℕ) (p : Placed) : Type 0 where
+pub record IsCut (b : LogIndex) (old new : List ℕ) (p : Placed) : Type 0 where
   pub readable : IsReadable (sectors_in b.sectors b.sector_size new)
   pub log : (log_in new b ≡ log_in old b) ⊎ (log_in new b ≡ log_in old b ++ p ∷ [])
 
--- the same, at some sector and place
-pub record IsCutSomewhere (b : Book) (old new : List ℕ) (n : Node) : Type 0 where
+-- the same, at some sector and offset
+pub record IsCutSomewhere (b : LogIndex) (old new : List ℕ) (n : Node) : Type 0 where
   pub sector : ℕ
-  pub place : ℕ
-  pub cut : IsCut b old new (placed_at sector place n)
+  pub offset : ℕ
+  pub cut : IsCut b old new (placed_at sector offset n)

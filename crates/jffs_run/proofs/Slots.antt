@@ -1,4 +1,4 @@
--- Lemmas on facts about each element of a list, at its place.
+-- Lemmas on facts about each element of a list, at its slot.
 use Rattle.std.proofs.Common.{◌≡◌, ℕ, ◌+◌, ◌<◌, zero, suc, List, [], ◌∷◌, ◌++◌, length, map, refl, sym, ap, ◌∙◌, subst, arith, get_or, append_assoc}
 use Rattle.std.proofs.lemmas.List.{map-append}
 use Rattle.jffs_text.specs.declared.script.Writer.{Writer}
@@ -6,14 +6,14 @@ use Rattle.jffs_run.specs.Ends.{EachFrom, commands_of}
 
 -- the same fact of the same list, written in another way
 pub EachFrom-same : {X : Type 0} (P : ℕ → X → Type 0) (n m : ℕ) (xs ys : List X) → n ≡ m → xs ≡ ys → EachFrom P n xs → EachFrom P m ys
-EachFrom-same {X} P n m xs ys place list each =
-    subst (λ (k : ℕ). EachFrom P k ys) place (subst (λ (zs : List X). EachFrom P n zs) list each)
+EachFrom-same {X} P n m xs ys slot list each =
+    subst (λ (k : ℕ). EachFrom P k ys) slot (subst (λ (zs : List X). EachFrom P n zs) list each)
 
 -- the first element, and the others
 pub EachFrom-next : {X : Type 0} (P : ℕ → X → Type 0) (n m : ℕ) (xs : List X) (x : X) (rest : List X) → m ≡ n + 1 → xs ≡ x ∷ rest → EachFrom P n xs → P n x × EachFrom P m rest
-EachFrom-next {X} P n m xs x rest place list each =
+EachFrom-next {X} P n m xs x rest slot list each =
     let both = EachFrom-same P n n xs (x ∷ rest) refl list each in
-    (both.0, EachFrom-same P (n + 1) m rest rest (sym place) refl both.1)
+    (both.0, EachFrom-same P (n + 1) m rest rest (sym slot) refl both.1)
 
 -- an element more
 pub EachFrom-push : {X : Type 0} (P : ℕ → X → Type 0) (n : ℕ) (xs : List X) (x : X) → EachFrom P n xs → P (n + length xs) x → EachFrom P n (xs ++ x ∷ [])

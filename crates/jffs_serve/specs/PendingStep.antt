@@ -3,19 +3,19 @@ use Rattle.std.specs.Prelude.{◌≡◌, Bool, true, List, [], ◌∷◌, Option
 use Rattle.jffs_tree.specs.declared.wish.Outcome.{Outcome}
 use Rattle.jffs_tree.specs.declared.wish.Outcome.TheVariants.{Closed, Refused}
 use Rattle.jffs_index.specs.declared.step.Step.{Step}
-use Rattle.jffs_serve.specs.declared.session.Kept.{Kept}
-use Rattle.jffs_serve.specs.declared.session.Kept.TheVariants.{Unput, Unpublished}
+use Rattle.jffs_serve.specs.declared.session.PendingStep.{PendingStep}
+use Rattle.jffs_serve.specs.declared.session.PendingStep.TheVariants.{Unput, Unpublished}
 use Rattle.jffs_serve.specs.declared.session.Served.{Served}
 use Rattle.jffs_serve.specs.declared.session.Served.TheVariants as served
 
 -- the step that is still to be put
-abbrev pub unput : Option Kept → List Step
+abbrev pub unput : Option PendingStep → List Step
 unput None = []
 unput (Some (Unput step ending)) = step ∷ []
 unput (Some (Unpublished ending)) = []
 
--- how serving ends once nothing is kept, if it does
-abbrev pub ending_of : Option Kept → Option Served
+-- how serving ends once nothing is unsent, if it does
+abbrev pub ending_of : Option PendingStep → Option Served
 ending_of None = None
 ending_of (Some (Unput step ending)) = ending
 ending_of (Some (Unpublished ending)) = ending
@@ -27,7 +27,7 @@ ending_after true (Refused cause) = Some (served.NotClosed cause)
 ending_after _ _ = None
 
 -- steps wait to be published only where the session knows of it
-abbrev pub IsReady : Option Kept → List Step → Type 0
+abbrev pub IsReady : Option PendingStep → List Step → Type 0
 IsReady None pending = pending ≡ []
 IsReady (Some (Unput step ending)) pending = pending ≡ []
 IsReady (Some (Unpublished ending)) pending = Unit {0}

@@ -4,7 +4,7 @@ use std::collections::VecDeque;
 
 /// What is kept of a record in memory: none of its bytes.
 #[derive(Clone, Copy, Debug, PartialEq, Eq)]
-pub struct Kept {
+pub struct RecordRef {
     /// The version of its node.
     pub version: u32,
     /// The inode that its node is about.
@@ -14,13 +14,13 @@ pub struct Kept {
     /// The sector in which it stands.
     pub sector: u32,
     /// Where it begins there, in bytes.
-    pub place: u32,
+    pub offset: u32,
 }
 
 /// What is known of the device: its sizes, the ring of sectors that hold the log, the sector
 /// that was begun last, and the records.
 #[derive(Drop)]
-pub struct Book {
+pub struct LogIndex {
     /// How many sectors the device has.
     pub sectors: u32,
     /// How many bytes a sector has.
@@ -39,5 +39,5 @@ pub struct Book {
     /// How often the oldest sector was to be erased since the mount. At 2^64 - 1 it stays.
     pub erases: u64,
     /// The records, the oldest first.
-    pub records: VecDeque<Kept>,
+    pub records: VecDeque<RecordRef>,
 }

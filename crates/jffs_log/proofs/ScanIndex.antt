@@ -1,4 +1,4 @@
--- The book of an image whose sectors were read.
+-- The index of an image whose sectors were read.
 use Rattle.std.proofs.Common.{◌≡◌, ◌⊎◌, inl, inr, ⊎_elim, ℕ, ◌-◌, ◌*◌, ◌/◌, ◌<◌, Bool, true, false, cond, not, ◌||◌, ltb, eqb, List, [], ◌∷◌, ◌++◌, length, map, filter, flat_map, replicate, get_or, Option, Some, None, Result, Ok, Err, refl, sym, ap, subst, ◌∙◌, arith, length-drop}
 use Rattle.std.specs.List.{list_any, last_or, enumerate_from}
 use Rattle.std.proofs.lemmas.Bool.{cases_Bool}
@@ -10,14 +10,14 @@ use Rattle.jffs_node.specs.declared.read.Read.TheVariants.{Closed, Free, Torn, B
 use Rattle.jffs_node.specs.Reading.{Reading, reading, reading_len, is_erased, found, broken_rule, closed_or_bad}
 use Rattle.jffs_node.proofs.Sound.{only}
 use Rattle.jffs_flash.specs.Sizes.{is_geometry}
-use Rattle.jffs_log.specs.declared.book.Kept.{Kept}
+use Rattle.jffs_log.specs.declared.log_index.RecordRef.{RecordRef}
 use Rattle.jffs_log.specs.declared.scanning.ScanWhy.{ScanWhy}
 use Rattle.jffs_log.specs.declared.scanning.ScanWhy.TheVariants.{NoErased, Scattered}
 use Rattle.jffs_log.specs.Image.{Sector, Placed, sector_of, records_in, starts, oldest_of, is_one_run, turned, log_sectors, nodes_of, is_free, free_in, free_of_tail}
 use Rattle.jffs_log.specs.Sector.{HoldsNodes}
 use Rattle.jffs_log.specs.Volume.{sectors_in, sector_bytes}
 use Rattle.jffs_log.specs.Ring.{IsRing}
-use Rattle.jffs_log.specs.Book.{kept, HasTail, IsKept}
+use Rattle.jffs_log.specs.LogIndex.{ref_of, HasTail, Describes}
 use Rattle.jffs_log.specs.ScanRead.{oldest_sector, AreRead, IsSpelled, rest_of, number_of_tail, used_of_tail}
 use Rattle.jffs_log.proofs.Ring.{Numbered, ring_log, ring_reads}
 use Rattle.jffs_log.proofs.MountedLog.{placed_nodes}
@@ -114,7 +114,7 @@ free_holds sector h free =
     let bytes = only 255 rest blank ∙ ap (λ (k : ℕ). replicate k 255) (length-drop (reading_len (reading sector)) sector) in
     subst (λ (xs : List ℕ). HoldsNodes sector (reading sector).nodes xs) bytes h.holds
 
--- The book.
+-- The index.
 module _ (count len : ℕ) (image : List ℕ) (list : List Numbered) (first : ℕ) (held : List Numbered) (whole : length image ≡ count * len) (read : AreRead count len image list) (is : IsLocated (sectors_in count len image) first held) where
   pub tail_open : (t : Numbered) → last_or None held ≡ Some t → is_free t.1.reading.ending ≡ true → HasTail count len image held t.0 (reading_len t.1.reading) (len - reading_len t.1.reading)
   tail_open t last free =
@@ -146,9 +146,9 @@ module _ (count len : ℕ) (image : List ℕ) (list : List Numbered) (first : �
       (λ (no : is_free t.1.reading.ending ≡ false). inl (ap (λ b. cond b (len - reading_len t.1.reading) 0) no))
       (cases_Bool (is_free t.1.reading.ending))
 
-  pub kept_is : (sizes : is_geometry count len ≡ true) (many tail used free : ℕ) (records : List Kept) → length held ≡ many → tail ≡ number_of_tail (last_or None held) → used ≡ used_of_tail (last_or None held)
-      → free ≡ free_of_tail len (last_or None held) → records ≡ map kept (flat_map records_in held) → IsKept count len image first many tail used free records
-  kept_is sizes many tail used free records counted number filled exact listed = record {
+  pub described_is : (sizes : is_geometry count len ≡ true) (many tail used free : ℕ) (records : List RecordRef) → length held ≡ many → tail ≡ number_of_tail (last_or None held) → used ≡ used_of_tail (last_or None held)
+      → free ≡ free_of_tail len (last_or None held) → records ≡ map ref_of (flat_map records_in held) → Describes count len image first many tail used free records
+  described_is sizes many tail used free records counted number filled exact listed = record {
     sizes = sizes;
     whole = whole;
     held = held;

@@ -1,4 +1,4 @@
--- The order of places in the index of children.
+-- The order of keys in the index of children.
 use Rattle.std.proofs.Common.{◌≡◌, ℕ, zero, suc, ◌≤◌, Bool, true, false, cond, eqb, ltb, List, Option, Some, None, refl, sym, ap, ◌∙◌, arith, ⊎_elim, nat_cmp}
 use Rattle.std.specs.declared.cmp.Ordering.{Ordering}
 use Rattle.std.specs.declared.cmp.Ordering.TheVariants.{Less, Equal, Greater}
@@ -9,14 +9,14 @@ use Rattle.std.specs.Cmp.Lexicographic.{slice_cmp, nat_list_cmp_total, options_t
 use Rattle.std.specs.BTreeMap.{is_at}
 use Rattle.std.proofs.lemmas.Bool.{cases_lt, cases_eq, lt-ltb, le-ltb, eqb-true, ne_eqb}
 use Rattle.std.proofs.lemmas.Slice.Eq.{bytes_eq-Decides}
-use Rattle.jffs_tree.specs.Index.{Place, place_cmp}
+use Rattle.jffs_tree.specs.Index.{ChildKey, key_cmp}
 
 -- directory and name alone
-abbrev head_cmp : Place → Place → Ordering
+abbrev head_cmp : ChildKey → ChildKey → Ordering
 head_cmp a b = ordering_then (nat_cmp a.0 b.0) (option_cmp (slice_cmp nat_cmp) a.1 b.1)
 
 head_total : IsTotalOrder head_cmp
-head_total = then_total (on_total (λ (t : Place). t.0) nat_cmp_total) (on_total (λ (t : Place). t.1) (options_total nat_list_cmp_total))
+head_total = then_total (on_total (λ (t : ChildKey). t.0) nat_cmp_total) (on_total (λ (t : ChildKey). t.1) (options_total nat_list_cmp_total))
 
 -- parts of an answer of two steps
 pub then_low : (a b : Ordering) → is_gt (ordering_then a b) ≡ false → is_gt a ≡ false
@@ -66,34 +66,34 @@ pub zero_low : (b : ℕ) → is_gt (nat_cmp 0 b) ≡ false
 zero_low zero = refl
 zero_low (suc b) = ap (λ t. is_gt (cond t Less (cond (eqb 0 (suc b)) Equal Greater))) (lt-ltb 0 (suc b) (omega arith))
 
--- What lies between the first place of a name and another place of it is a place of it too.
-pub between : (p : ℕ) (o : Option (List ℕ)) (j : ℕ) (k : Place) → is_gt (place_cmp (p, o, 0) k) ≡ false → is_gt (place_cmp k (p, o, j)) ≡ false → (k.0 ≡ p) × (k.1 ≡ o) × (k.2 ≤ j)
+-- What lies between the first key of a name and another key of it is a key of it too.
+pub between : (p : ℕ) (o : Option (List ℕ)) (j : ℕ) (k : ChildKey) → is_gt (key_cmp (p, o, 0) k) ≡ false → is_gt (key_cmp k (p, o, j)) ≡ false → (k.0 ≡ p) × (k.1 ≡ o) × (k.2 ≤ j)
 between p o j k low high =
     let tied = level (head_cmp (p, o, 0) k) (head_cmp k (p, o, 0)) (head_total.antisymm (p, o, 0) k) (then_low _ _ low) (then_low _ _ high) in
     let parts = then_tied (nat_cmp k.0 p) (option_cmp (slice_cmp nat_cmp) k.1 o) tied in
     (nat_tied k.0 p parts.0, name_tied k.1 o parts.1, nat_low k.2 j (ap (λ a. is_gt (ordering_then a (nat_cmp k.2 j))) (sym tied) ∙ high))
 
-pub first_of_name : (p : ℕ) (o : Option (List ℕ)) (j : ℕ) → is_gt (place_cmp (p, o, 0) (p, o, j)) ≡ false
+pub first_of_name : (p : ℕ) (o : Option (List ℕ)) (j : ℕ) → is_gt (key_cmp (p, o, 0) (p, o, j)) ≡ false
 first_of_name p o j = ap (λ a. is_gt (ordering_then a (nat_cmp 0 j))) (tied_itself head_total (p, o, 0)) ∙ zero_low j
 
 -- The same of a directory.
-pub between_names : (p : ℕ) (o : Option (List ℕ)) (j : ℕ) (k : Place) → is_gt (place_cmp (p, None, 0) k) ≡ false → is_gt (place_cmp k (p, o, j)) ≡ false → k.0 ≡ p
+pub between_names : (p : ℕ) (o : Option (List ℕ)) (j : ℕ) (k : ChildKey) → is_gt (key_cmp (p, None, 0) k) ≡ false → is_gt (key_cmp k (p, o, j)) ≡ false → k.0 ≡ p
 between_names p o j k low high =
     nat_tied k.0 p (level (nat_cmp p k.0) (nat_cmp k.0 p) (nat_cmp_total.antisymm p k.0) (then_low _ _ (then_low _ _ low)) (then_low _ _ (then_low _ _ high)))
 
-pub first_of_directory : (p : ℕ) (o : Option (List ℕ)) (j : ℕ) → is_gt (place_cmp (p, None, 0) (p, o, j)) ≡ false
+pub first_of_directory : (p : ℕ) (o : Option (List ℕ)) (j : ℕ) → is_gt (key_cmp (p, None, 0) (p, o, j)) ≡ false
 first_of_directory p None j = first_of_name p None j
 first_of_directory p (Some x) j = ap (λ a. is_gt (ordering_then (ordering_then a Less) (nat_cmp 0 j))) (tied_itself nat_cmp_total p)
 
--- Places that the order doesn't tell apart are one.
-pub same_place : (a b : Place) → is_at (place_cmp a) b ≡ true → a ≡ b
-same_place a b h =
-    let last = then_tied (head_cmp a b) (nat_cmp a.2 b.2) ((Equal-is (place_cmp a b)).0 h) in
+-- Keys that the order doesn't tell apart are one.
+pub same_key : (a b : ChildKey) → is_at (key_cmp a) b ≡ true → a ≡ b
+same_key a b h =
+    let last = then_tied (head_cmp a b) (nat_cmp a.2 b.2) ((Equal-is (key_cmp a b)).0 h) in
     let first = then_tied (nat_cmp a.0 b.0) (option_cmp (slice_cmp nat_cmp) a.1 b.1) last.0 in
     let x = nat_tied a.0 b.0 first.0 in
     let y = name_tied a.1 b.1 first.1 in
     let z = nat_tied a.2 b.2 last.1 in
     λ i. (x i, y i, z i)
 
-pub own_place : (a : Place) → is_at (place_cmp a) a ≡ true
-own_place a = ap is_eq (ap (λ o. ordering_then o (nat_cmp a.2 a.2)) (tied_itself head_total a) ∙ tied_itself nat_cmp_total a.2)
+pub own_key : (a : ChildKey) → is_at (key_cmp a) a ≡ true
+own_key a = ap is_eq (ap (λ o. ordering_then o (nat_cmp a.2 a.2)) (tied_itself head_total a) ∙ tied_itself nat_cmp_total a.2)

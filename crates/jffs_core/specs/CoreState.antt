@@ -1,0 +1,30 @@
+-- The state of a core.
+use Rattle.std.specs.Prelude.{◌≡◌, ℕ, Bool, List}
+use Rattle.jffs_tree.specs.Origin.{Tree}
+use Rattle.jffs_tree.specs.declared.wish.Limits.{Limits}
+use Rattle.jffs_log.specs.declared.log_index.LogIndex.{LogIndex}
+use Rattle.jffs_core.specs.declared.answer.Answer.{Answer}
+
+-- The image of the device, how often it failed, whether an erase was among that, the log's index, and the core's tree, numbers, flags and answers.
+pub record CoreState : Type 0 where
+  pub image : List ℕ
+  pub faults : ℕ
+  pub erase_failed : Bool
+  pub index : LogIndex
+  pub tree : Tree
+  pub limits : Limits
+  pub clean : Bool
+  pub failed : Bool
+  pub closed : Bool
+  pub answers : List Answer
+  pub capacity : ℕ
+
+-- the same in all but the capacity reserved for answers
+abbrev pub IsSameButCapacity : CoreState → CoreState → Type 0
+IsSameButCapacity old new = new ≡ record old { capacity = new.capacity }
+
+-- the answers, their capacity, and whether the session is over, are the same
+pub record SameAnswers (old new : CoreState) : Type 0 where
+  pub answers : new.answers ≡ old.answers
+  pub capacity : new.capacity ≡ old.capacity
+  pub closed : new.closed ≡ old.closed

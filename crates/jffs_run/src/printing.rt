@@ -2,7 +2,7 @@
 
 use crate::reader::ReaderEnd;
 use jffs_core::Answer;
-use jffs_serve::Served;
+use jffs_line::CONTROL;
 use jffs_text::{WRITERS_MAX, cause_name, write_hex};
 use jffs_tree::Outcome;
 use std::io;
@@ -39,12 +39,15 @@ pub(crate) fn print_readers<W: Write>(readers: &[ReaderEnd], out: &mut W) -> io:
     Ok(())
 }
 
-/// `closed`, or `not closed CAUSE`; the cause is Ended where nothing answered the Unmount.
-pub(crate) fn print_served<W: Write>(served: Served, out: &mut W) -> io::Result<()> {
-    match served {
-        Served::Closed => writeln!(out, "closed"),
-        Served::NotClosed(cause) => writeln!(out, "not closed {}", cause_name(cause)),
-        Served::Ended | Served::Memory => writeln!(out, "not closed Ended"),
+/// `closed`, or `not closed CAUSE`, as the control's Unmount was answered; the cause is Ended where
+/// nothing answered it.
+pub(crate) fn print_ending<W: Write>(answers: &[Answer], out: &mut W) -> io::Result<()> {
+    match answers.iter().find(|answer| answer.writer == CONTROL) {
+        Some(answer) => match answer.outcome {
+            Outcome::Refused(cause) => writeln!(out, "not closed {}", cause_name(cause)),
+            _ => writeln!(out, "closed"),
+        },
+        None => writeln!(out, "not closed Ended"),
     }
 }
 

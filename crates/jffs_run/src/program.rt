@@ -3,7 +3,7 @@
 use crate::ending::{Fault, Why, status_of};
 use crate::fault::RunFault;
 use crate::outcome::Run;
-use crate::printing::{print_answers, print_readers, print_served};
+use crate::printing::{print_answers, print_ending, print_readers};
 use crate::reading::{read_file, read_whole};
 use crate::threads::run_threads;
 use crate::writer::NoGate;
@@ -184,7 +184,7 @@ fn run_on<Rt: AllocGlobal + Threads + Wait + Sync, F: Flash + Send + Drop, W: Wr
         answers,
         waiting: _,
         readers,
-        served,
+        served: _,
         flash,
     } = run_once(rt, script, flash)?;
     let answers = moved_apart(answers)?;
@@ -196,7 +196,7 @@ fn run_on<Rt: AllocGlobal + Threads + Wait + Sync, F: Flash + Send + Drop, W: Wr
     } = scan(alloc, flash).map_err(scan_fault)?;
     print_answers(&answers, out)?;
     print_readers(&readers, out)?;
-    print_served(served, out)?;
+    print_ending(&answers, out)?;
     writeln!(out, "{}", if clean { "scan clean" } else { "scan unclean" })?;
     dump(alloc, &tree, out)?;
     out.flush()?;

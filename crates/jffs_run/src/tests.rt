@@ -2,6 +2,7 @@
 
 mod calls;
 mod hundred;
+mod lines;
 mod many;
 mod threads;
 

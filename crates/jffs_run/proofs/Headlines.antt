@@ -16,7 +16,7 @@ use Rattle.jffs_serve.specs.Replies.{Reply, AllReply, answer_in, any_closed, Fit
 use Rattle.jffs_text.specs.declared.script.Writer.{Writer}
 use Rattle.jffs_text.specs.declared.script.ReaderStatement.{ReaderStatement}
 use Rattle.jffs_run.specs.declared.reader.ReaderEnd.{ReaderEnd}
-use Rattle.jffs_run.specs.Looking.{HasSeen}
+use Rattle.jffs_run.specs.Looking.{HaveSeen}
 use Rattle.jffs_text.specs.Wishes.{wishes_of}
 use Rattle.jffs_run.specs.Numbered.{numbered}
 use Rattle.jffs_run.specs.Ends.{EachFrom, AreCopies, commands_at, accepted_by, all_hands, HandedIn, HandedInAll}
@@ -28,7 +28,9 @@ use Rattle.jffs_node.specs.declared.node.Node.{Node}
 use Rattle.jffs_core.specs.CoreState.{CoreState}
 use Rattle.jffs_core.specs.Past.{Represents}
 use Rattle.jffs_core.specs.declared.answer.Answer.{Answer}
-use Rattle.jffs_serve.specs.Answered.{RunsTo}
+use Rattle.jffs_log.specs.LogIndex.{HasSizes}
+use Rattle.jffs_serve.specs.Chain.{RunsTo}
+use Rattle.jffs_serve.specs.Answered.{ErasesSince}
 
 abbrev seqs : List Request → List ℕ
 seqs requests = map (λ (r : Request). r.seq) requests
@@ -193,11 +195,12 @@ module _ {H : Type 0} (g : Hand.Ghosts H) where
       → All (λ hand. of (g.sender hand) (requests_in replies) ++ of (g.sender hand) waiting ≡ g.accepted hand) (all_hands g hands)
       → All (λ hand. IsNumbered (g.accepted hand)) (all_hands g hands)
       → ((sender : ℕ) → (Contains (map g.sender (all_hands g hands)) sender → ⊥) → of sender (requests_in replies) ++ of sender waiting ≡ [])
-      → EachFrom (HasSeen (record { opening = start.tree; steps = map (λ (r : Reply). r.step) replies }) statements) 0 ends
+      → HaveSeen (record { opening = start.tree; steps = map (λ (r : Reply). r.step) replies }) statements ends
+      → HasSizes start.index.sectors start.index.sector_size core.index → ErasesSince start (length replies) core
       → IsLeftBy core device → ((mounted past : List Node) → Represents mounted past start → RunsTo start core mounted past replies)
       → FitsServed served (any_closed (map answer_in replies)) replies
       → IsRun start (account_with script statements hands (map answer_in replies) waiting ends served device)
-  is_run start core script statements hands replies waiting ends served device eight count numbers first whole copies unmounts replied settled counted others seen left lawful ending =
+  is_run start core script statements hands replies waiting ends served device eight count numbers first whole copies unmounts replied settled counted others seen sizes erases left lawful ending =
       let writers : List H = hands.writers.items in
       let tail : List H = hands.cleaner ∷ hands.control.hand ∷ [] in
       let accepted : ℕ → List Request = λ sender. accepted_by g sender (writers ++ tail) in
@@ -221,6 +224,8 @@ module _ {H : Type 0} (g : Hand.Ghosts H) where
         ending = ending;
         core = core;
         left = left;
+        sizes = sizes;
+        erases = erases;
         lawful = lawful;
         replies = replies;
         each_replies = replied;

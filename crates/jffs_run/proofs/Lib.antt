@@ -7,4 +7,5 @@ pub mod Crews
 pub mod Runs
 pub mod Scanning
 pub mod Unmounting
+pub mod Turns
 pub mod Heavy

@@ -29,9 +29,9 @@ use Rattle.jffs_text.specs.declared.script.Writer.{Writer}
 use Rattle.jffs_text.specs.declared.script.ReaderStatement.{ReaderStatement}
 use Rattle.jffs_run.specs.declared.reader.ReaderEnd.{ReaderEnd}
 use Rattle.jffs_run.specs.declared.crew.Crew.{Crew}
-use Rattle.jffs_run.specs.Ends.{EachFrom, end_of, all_hands}
+use Rattle.jffs_run.specs.Ends.{end_of, all_hands}
 use Rattle.jffs_run.specs.Crew.{HasHandedIn, crew_hands}
-use Rattle.jffs_run.specs.Looking.{HasSeen, IsWhole}
+use Rattle.jffs_run.specs.Looking.{HaveSeen, IsWhole}
 use Rattle.jffs_flash.specs.Device.{Device}
 use Rattle.jffs_core.specs.Past.{IsLeftBy}
 use Rattle.jffs_run.specs.Headline.{IsRun, requests_in}
@@ -75,7 +75,7 @@ module _ {H : Type 0} (g : Hand.Ghosts H) where
       → All (λ hand. taken (g.sender hand) ++ of (g.sender hand) waiting ≡ g.accepted hand) (all_hands g hands)
       → All (λ hand. IsNumbered (g.accepted hand)) (all_hands g hands)
       → ((w : ℕ) → (Contains (map g.sender (all_hands g hands)) w → ⊥) → taken w ++ of w waiting ≡ [])
-      → ((history : History) → IsWhole published (length core.answers) history → EachFrom (HasSeen history statements) 0 ends)
+      → ((history : History) → IsWhole published (length core.answers) history → HaveSeen history statements ends)
       → IsLeftBy core device
       → FitsServed served core.closed replies
       → IsRun start.core (account_with g script statements hands core.answers waiting ends served device)
@@ -100,5 +100,5 @@ module _ {H : Type 0} (g : Hand.Ghosts H) where
       (λ k d below. let w : ℕ = g.sender (get_or (all_hands g hands) k d) in ap (λ (l : List Request). l ++ of w waiting) (sym (taken_is w)) ∙ settled k d below)
       numbered
       (λ w none. ap (λ (l : List Request). l ++ of w waiting) (sym (taken_is w)) ∙ others w none)
-      (seen history whole) left has.lawful
+      (seen history whole) has.sizes has.erases left has.lawful
       (subst (λ (closed : Bool). FitsServed served closed replies) (has.closed ∙ ap any_closed answers_are) ending))

@@ -9,13 +9,13 @@ use Rattle.jffs_core.specs.Run.{IsLawful}
 use Rattle.jffs_core.specs.CoreState.{CoreState}
 use Rattle.jffs_core.specs.declared.answer.Answer.{Answer}
 use Rattle.jffs_core.proofs.Scanning.{scans_find, failed_finds_with}
-use Rattle.jffs_serve.specs.Answered.{RunsTo, volume_of, IsRequested, any_failure}
+use Rattle.jffs_serve.specs.Chain.{RunsTo}
+use Rattle.jffs_serve.specs.ChainLaws.{EndsSo, volume_of, IsRequested, any_failure}
 use Rattle.jffs_serve.specs.Replies.{Reply, AllReply, answer_in}
-use Rattle.jffs_serve.proofs.Turns.{replies_are_lawful}
-use Rattle.jffs_serve.proofs.Running.{failures_are_faults}
+use Rattle.jffs_serve.proofs.ChainLaws.{chains_end_so, failures_are_faults, replies_are_lawful}
 use Rattle.jffs_flash.specs.Device.{Device}
 use Rattle.jffs_log.specs.ScanFound.{scan_of}
-use Rattle.jffs_core.specs.Past.{IsLeftBy}
+use Rattle.jffs_core.specs.Past.{IsLeftBy, Represents}
 use Rattle.jffs_run.specs.Headline.{requests_in}
 use Rattle.jffs_run.specs.Scanned.{RunsLeaveContents, FailedRunsLeaveHistory, RunsWithoutFaults}
 
@@ -27,6 +27,10 @@ lawful_answers :
 lawful_answers start core mounted replies answers all are ran =
     subst (λ (given : List Answer). IsLawful (volume_of start) mounted (requests_in replies) given ran.after) (sym are) (replies_are_lawful start core mounted mounted replies all ran)
 
+-- what the chain of a run from a mount on tells of its end
+ends_so : (start core : CoreState) (mounted : List Node) (replies : List Reply) → Represents mounted mounted start → (ran : RunsTo start core mounted mounted replies) → EndsSo mounted start core replies ran.after
+ends_so start core mounted replies stands ran = chains_end_so mounted mounted ran.after start core replies stands ran.chain
+
 -- a scan of the device is one of the core's image
 same_scan : (core : CoreState) (device : Device) → IsLeftBy core device → scan_of device ≡ scan core.index.sector_size (split core.index.sectors core.index.sector_size core.image)
 same_scan core device left = λ i. scan (left.sizes.1 i) (split (left.sizes.0 i) (left.sizes.1 i) (left.image_is i))
@@ -35,7 +39,8 @@ pub runs_leave_contents : RunsLeaveContents
 runs_leave_contents before start account fresh run works =
     let mounted = past_of fresh.scanned.log in
     let ran = run.lawful mounted mounted fresh.stands in
-    let finds = scans_find mounted ran.after run.core ran.stands works in
+    let ends = ends_so start run.core mounted run.replies fresh.stands ran in
+    let finds = scans_find mounted ran.after run.core ends.stands works in
     record {
       after = ran.after;
       lawful = lawful_answers start run.core mounted run.replies account.answers run.each_replies run.answers_are ran;
@@ -51,7 +56,8 @@ failed_runs_leave_history before start account fresh run fails intact =
     let mounted = past_of fresh.scanned.log in
     let ran = run.lawful mounted mounted fresh.stands in
     let left = run.left in
-    let f = failed_finds_with (IsRequested (volume_of start) run.replies ran.after) mounted ran.after run.core (let s = ran.stands in s.grown) (ran.in_hand fresh.works fails) (sym left.erases_are ∙ intact) in
+    let ends = ends_so start run.core mounted run.replies fresh.stands ran in
+    let f = failed_finds_with (IsRequested (volume_of start) run.replies ran.after) mounted ran.after run.core (let s = ends.stands in s.grown) (ends.in_hand fresh.works fails) (sym left.erases_are ∙ intact) in
     record {
       after = ran.after;
       lawful = lawful_answers start run.core mounted run.replies account.answers run.each_replies run.answers_are ran;
@@ -69,11 +75,12 @@ runs_without_faults before start account fresh run same =
     let mounted = past_of fresh.scanned.log in
     let ran = run.lawful mounted mounted fresh.stands in
     let left = run.left in
+    let ends = ends_so start run.core mounted run.replies fresh.stands ran in
     let still : run.core.faults ≡ start.faults = sym left.faults_are ∙ (same ∙ fresh.device_is.faults_are) in
     let works : run.core.failed ≡ false = elim (cases_Bool run.core.failed) [
-      | inl fails ↦ absurd (let risen = ran.faults fresh.works fails in omega (arith, still, risen))
+      | inl fails ↦ absurd (let risen = ends.faults fresh.works fails in omega (arith, still, risen))
       | inr works ↦ works
     ] in (
-      subst (λ (given : List Answer). any_failure given ≡ false) (sym run.answers_are) (failures_are_faults start run.core mounted mounted run.replies ran fresh.works still),
+      subst (λ (given : List Answer). any_failure given ≡ false) (sym run.answers_are) (failures_are_faults start run.core mounted mounted run.replies fresh.stands ran fresh.works still),
       runs_leave_contents before start account fresh run works,
     )

@@ -23,9 +23,9 @@ use Rattle.jffs_core.specs.Run.{AreAnswered}
 use Rattle.jffs_serve.specs.declared.session.Served.{Served}
 use Rattle.jffs_serve.specs.declared.session.Served.TheVariants as ending
 use Rattle.jffs_serve.specs.Copies.{IsCopy}
-use Rattle.jffs_serve.specs.Answered.{volume_of}
+use Rattle.jffs_serve.specs.ChainLaws.{volume_of}
 use Rattle.jffs_serve.specs.Replies.{Reply, answer_in, any_closed, RefusesUnmount, FitsServed}
-use Rattle.jffs_serve.proofs.Turns.{replies_are_lawful}
+use Rattle.jffs_serve.proofs.ChainLaws.{replies_are_lawful}
 use Rattle.jffs_text.specs.declared.command.Command.{Command}
 use Rattle.jffs_text.specs.declared.command.Command.TheVariants as command
 use Rattle.jffs_text.specs.Wishes.{wish_of, wishes_of}
@@ -82,10 +82,8 @@ of_each P (q ∷ requests) each =
 -- an Unmount that was refused is the control's
 refused_one : (replies : List Reply) (cause : Cause) → AllByRecursion IsControls (requests_in replies) → RefusesUnmount replies cause → AnswersUnmount replies (Refused cause)
 refused_one [] cause all refuses = refuses
-refused_one (r ∷ replies) cause all refuses = elim refuses [
-  | inl here ↦ inl (all.0 here.0, here.1)
-  | inr later ↦ inr (refused_one replies cause all.1 later)
-]
+refused_one (r ∷ []) cause all refuses = inl (all.0 refuses.0, refuses.1)
+refused_one (r ∷ q ∷ replies) cause all refuses = inr (refused_one (q ∷ replies) cause all.1 refuses)
 
 -- only an Unmount is answered Closed
 closes_unmount : (o : Outcome) (t : Turn) (q : Request) (copies own : List Node) → OutcomeIs o t q copies own → is_closed o ≡ true → (q.wish ≡ Unmount) × (o ≡ Closed)

@@ -8,12 +8,14 @@ use Rattle.jffs_node.specs.declared.node.Node.{Node}
 use Rattle.jffs_core.specs.CoreState.{CoreState}
 use Rattle.jffs_core.specs.Past.{Represents}
 use Rattle.jffs_core.specs.declared.answer.Answer.{Answer}
-use Rattle.jffs_serve.specs.Answered.{RunsTo}
+use Rattle.jffs_log.specs.LogIndex.{HasSizes}
+use Rattle.jffs_serve.specs.Chain.{RunsTo}
+use Rattle.jffs_serve.specs.Answered.{ErasesSince}
 use Rattle.jffs_serve.specs.Replies.{Reply, AllReply, answer_in, any_closed, FitsServed}
 use Rattle.jffs_text.specs.Wishes.{wishes_of}
 use Rattle.jffs_run.specs.Numbered.{numbered}
-use Rattle.jffs_run.specs.Ends.{EachFrom, commands_at, AreCopies}
-use Rattle.jffs_run.specs.Looking.{HasSeen}
+use Rattle.jffs_run.specs.Ends.{commands_at, AreCopies}
+use Rattle.jffs_run.specs.Looking.{HaveSeen}
 use Rattle.jffs_core.specs.Past.{IsLeftBy}
 use Rattle.jffs_run.specs.Account.{Account}
 
@@ -28,9 +30,9 @@ numbers_of sender (answer ∷ answers) = cond (eqb answer.writer sender) (answer
 
 -- Some order of the accepted requests was answered, each once, and what each sender has waiting is what it had accepted beyond that, so that its answers are numbered 1, 2, 3, ..
 -- Of each writer the first of its commands were accepted, and every one if an Unmount was; of the control one Unmount at most, of the cleaner copies alone, and no others
--- From whatever history the core represented at the start, the answers are lawful for these requests, and the core at the end, which left the device as it is, represents the history after them
+-- From whatever history the core represented at the start, these requests were answered in a chain of turns, to the core at the end, which left the device as it is, of the same sizes, with so many erases at most
 -- What was served is determined by the answers
--- Each reader saw what its path reads after a beginning of the answers, from the tree at the start on, or counts as one that saw nothing
+-- There is an end for each reader's statement: it saw what its path reads after a beginning of the answers, from the tree at the start on, or counts as one that saw nothing
 pub record IsRun (start : CoreState) (account : Account) : Type 0 where
   pub replies : List Reply
   pub each_replies : AllReply replies
@@ -44,6 +46,8 @@ pub record IsRun (start : CoreState) (account : Account) : Type 0 where
   pub others : (sender : ℕ) → ((slot : ℕ) → slot < length account.script → sender ≢ slot + 1) → sender ≢ 9 → sender ≢ 10 → account.accepted sender ≡ []
   pub core : CoreState
   pub left : IsLeftBy core account.device
+  pub sizes : HasSizes start.index.sectors start.index.sector_size core.index
+  pub erases : ErasesSince start (length replies) core
   pub lawful : (mounted past : List Node) → Represents mounted past start → RunsTo start core mounted past replies
   pub ending : FitsServed account.served (any_closed account.answers) replies
-  pub seen : EachFrom (HasSeen (record { opening = start.tree; steps = map (λ (r : Reply). r.step) replies }) account.statements) 0 account.ends
+  pub seen : HaveSeen (record { opening = start.tree; steps = map (λ (r : Reply). r.step) replies }) account.statements account.ends

@@ -11,25 +11,23 @@ use Rattle.jffs_log.specs.Image.{past_of}
 use Rattle.jffs_log.specs.Room.{weight, heavy}
 use Rattle.jffs_core.specs.CoreState.{CoreState}
 use Rattle.jffs_core.specs.Step.{decision}
-use Rattle.jffs_serve.specs.Answered.{volume_of}
+use Rattle.jffs_core.specs.Answering.{turn_of}
 use Rattle.jffs_serve.specs.Replies.{Reply}
-use Rattle.jffs_serve.specs.Turns.{IsReplied, AreReplied, has_two, all_keep_two}
+use Rattle.jffs_serve.specs.ChainLaws.{HasTwo, all_keep_two}
 use Rattle.jffs_flash.specs.Device.{Device}
 use Rattle.jffs_core.specs.Past.{IsFresh}
 use Rattle.jffs_run.specs.Account.{Account}
 use Rattle.jffs_run.specs.Headline.{IsRun}
+use Rattle.jffs_run.specs.Turns.{InRun}
 
--- The request was taken after these replies. It asked for no Unmount, and if its node was fresh, the live records weighed the stated share of the volume then.
-pub record TakenWhenHeavy (start : CoreState) (mounted : List Node) (before : List Reply) (r : Reply) : Type 0 where
-  pub taken : List Node
-  pub after : List Node
-  pub so_far : AreReplied (volume_of start) true mounted before taken
-  pub replied : IsReplied (volume_of start) true taken r after
-  pub share : (n : NewNode) → decision replied.turn r.request ≡ Ok n → is_fresh (with n 0 0 0) ≡ true → heavy start.index.sectors start.index.sector_size ≤ weight taken
+-- The request asked for no Unmount, and if its node was fresh, the live records weighed the stated share of the volume at its turn.
+pub record TakenWhenHeavy {start : CoreState} {mounted : List Node} {account : Account} (run : IsRun start account) (before : List Reply) (r : Reply) (later : List Reply) : Type 0 where
+  pub turn : InRun run mounted before r later
+  pub share : (n : NewNode) → decision (turn_of turn.within.taken turn.within.was turn.within.now) r.request ≡ Ok n → is_fresh (with n 0 0 0) ≡ true → heavy start.index.sectors start.index.sector_size ≤ weight turn.within.taken
   pub no_unmount : r.request.wish ≢ Unmount
 
 -- From a mount on that found two sectors erased, and while each answer keeps two, NoSpace is answered only so.
 abbrev pub RunsHaveRoom : Type 0
 RunsHaveRoom = (before : Device) (start : CoreState) (account : Account) (fresh : IsFresh before start) (run : IsRun start account)
-    → (first later : List Reply) (r : Reply) → has_two start ≡ true → run.replies ≡ first ++ r ∷ later → all_keep_two first ≡ true → r.step.outcome ≡ Refused NoSpace
-    → TakenWhenHeavy start (past_of fresh.scanned.log) first r
+    → (first later : List Reply) (r : Reply) → HasTwo start → run.replies ≡ first ++ r ∷ later → all_keep_two first ≡ true → r.step.outcome ≡ Refused NoSpace
+    → TakenWhenHeavy {mounted = past_of fresh.scanned.log} run first r later

@@ -9,4 +9,5 @@ pub mod Headline
 pub mod Accepted
 pub mod Scanned
 pub mod Unmounted
+pub mod Turns
 pub mod Heavy

@@ -1,5 +1,5 @@
 -- What becomes of a reader.
-use Rattle.std.specs.Prelude.{◌≡◌, ◌≢◌, ℕ, List, Some, None}
+use Rattle.std.specs.Prelude.{◌≡◌, ◌≢◌, ℕ, List, length, Some, None}
 use Rattle.jffs_node.specs.declared.node.Kind.TheVariants.{File}
 use Rattle.jffs_tree.specs.State.{resolve}
 use Rattle.jffs_tree.specs.Origin.{state_in}
@@ -9,7 +9,7 @@ use Rattle.jffs_index.specs.Histories.{view_of, BeginsWith}
 use Rattle.jffs_index.specs.Shown.{Shown}
 use Rattle.jffs_index.specs.Outcomes.{outcome_at}
 use Rattle.jffs_text.specs.declared.script.ReaderStatement.{ReaderStatement}
-use Rattle.jffs_run.specs.Ends.{HasAt}
+use Rattle.jffs_run.specs.Ends.{EachFrom, HasAt}
 use Rattle.jffs_run.specs.declared.reader.ReaderEnd.{ReaderEnd}
 use Rattle.jffs_run.specs.declared.reader.ReaderEnd.TheVariants.{NotSeen, NoFile, Bytes}
 
@@ -40,6 +40,11 @@ SeenIn history statement end = (first : History) × BeginsWith history first × 
 -- so did the reader of the statement at this slot
 abbrev pub HasSeen : History → List ReaderStatement → ℕ → ReaderEnd → Type 0
 HasSeen history statements slot end = (statement : ReaderStatement) × HasAt statements slot statement × SeenIn history statement end
+
+-- there is an end for each statement, and so did the reader of each
+pub record HaveSeen (history : History) (statements : List ReaderStatement) (ends : List ReaderEnd) : Type 0 where
+  pub every : length ends ≡ length statements
+  pub each : EachFrom (HasSeen history statements) 0 ends
 
 -- where as many answers were published as were given, this is the published history
 abbrev pub IsWhole : History → ℕ → History → Type 0

@@ -9,7 +9,7 @@ use Rattle.jffs_core.specs.CoreState.{CoreState}
 use Rattle.jffs_core.specs.History.{contents}
 use Rattle.jffs_core.specs.Finding.{FindsWith}
 use Rattle.jffs_core.specs.Run.{IsLawful}
-use Rattle.jffs_serve.specs.Answered.{volume_of, any_failure, IsRequested}
+use Rattle.jffs_serve.specs.ChainLaws.{volume_of, any_failure, IsRequested}
 use Rattle.jffs_serve.specs.Replies.{Reply}
 use Rattle.jffs_flash.specs.Device.{Device}
 use Rattle.jffs_log.specs.ScanFound.{scan_of}

@@ -1,6 +1,7 @@
 //! Laws over the definitions. The functions do nothing: their contracts are the laws.
 
 ghost use Rattle.jffs_run.specs.Heavy.{RunsHaveRoom};
+ghost use Rattle.jffs_run.specs.Turns.{AnswersAreDurable, FailedStaysFailed, NoSpaceMeansNoRoom};
 ghost use Rattle.jffs_run.specs.Scanned.{RunsLeaveContents, FailedRunsLeaveHistory, RunsWithoutFaults};
 ghost use Rattle.jffs_run.specs.Unmounted.{RunsEndUnmounted};
 
@@ -29,4 +30,21 @@ pub fn runs_without_faults()
 /// (S - 4)(3Z/4 - 64) bytes when its request is taken.
 pub fn runs_have_room()
     ensures { RunsHaveRoom }
+{}
+
+/// What `run_threads` answers NoSpace had no room at that very turn: its node, the free bytes and the erased sectors
+/// are those when its request was taken.
+pub fn no_space_means_no_room()
+    ensures { NoSpaceMeansNoRoom }
+{}
+
+/// After an answer of `run_threads` that tells of a failed device each is Failed.
+pub fn failed_stays_failed()
+    ensures { FailedStaysFailed }
+{}
+
+/// In a run whose device works to the end, a scan of the device as it is with any one answer finds what the fresh nodes
+/// up to there make: a loss of power after it loses nothing that was answered.
+pub fn answers_are_durable()
+    ensures { AnswersAreDurable }
 {}

@@ -8,8 +8,7 @@ ghost use Rattle.jffs_tree.specs.declared.wish.Wish.TheVariants.{Unmount};
 ghost use Rattle.jffs_line.specs.Requests.{request};
 ghost use Rattle.jffs_run.specs.Crew.{IsFit, HasHandedIn};
 ghost use Rattle.jffs_run.specs.Serving.{HasServed};
-ghost use Rattle.jffs_run.specs.Ends.{EachFrom};
-ghost use Rattle.jffs_run.specs.Looking.{HasSeen, IsWhole};
+ghost use Rattle.jffs_run.specs.Looking.{HaveSeen, IsWhole};
 
 use crate::cleaner::{join_cleaner, start_cleaner};
 use crate::crew::{Crew, Finished};
@@ -80,7 +79,7 @@ fn run_in<
     requires ready { CanServe side.session side.publisher }
     ensures fault { IfErr result (λ fault. fault.flash ≡ None → fault.why ≡ RunWhy.Spawn) }
     ensures hands { IfOk result (λ finished. HasHandedIn H.Hand script.entry.now.writers.items crew finished.hands) }
-    ensures readers { IfOk result (λ finished. (history : History) → IsWhole (published finished.log.side.publisher) (length finished.log.side.session.core.answers) history → EachFrom (HasSeen history script.entry.now.readers.items) 0 finished.readers.items) }
+    ensures readers { IfOk result (λ finished. (history : History) → IsWhole (published finished.log.side.publisher) (length finished.log.side.session.core.answers) history → HaveSeen history script.entry.now.readers.items finished.readers.items) }
     ensures ends { IfOk result (λ finished. T.ends finished.log.side.taker ≡ T.ends side.taker) }
     ensures served { IfOk result (λ finished. HasServed side.session side.publisher (T.taken side.taker) finished.log.side.session finished.log.side.publisher (T.taken finished.log.side.taker) finished.log.served) }
 {
@@ -193,7 +192,7 @@ pub(crate) fn run_all<
     requires ready { CanServe side.session side.publisher }
     ensures fault { IfErr result (λ fault. fault.flash ≡ None → fault.why ≡ RunWhy.Spawn) }
     ensures hands { IfOk result (λ finished. HasHandedIn H.Hand script.now.writers.items crew finished.hands) }
-    ensures readers { IfOk result (λ finished. (history : History) → IsWhole (published finished.log.side.publisher) (length finished.log.side.session.core.answers) history → EachFrom (HasSeen history script.now.readers.items) 0 finished.readers.items) }
+    ensures readers { IfOk result (λ finished. (history : History) → IsWhole (published finished.log.side.publisher) (length finished.log.side.session.core.answers) history → HaveSeen history script.now.readers.items finished.readers.items) }
     ensures ends { IfOk result (λ finished. T.ends finished.log.side.taker ≡ T.ends side.taker) }
     ensures served { IfOk result (λ finished. HasServed side.session side.publisher (T.taken side.taker) finished.log.side.session finished.log.side.publisher (T.taken finished.log.side.taker) finished.log.served) }
 {

@@ -7,7 +7,8 @@ use Rattle.jffs_core.specs.CoreState.{CoreState}
 use Rattle.jffs_core.specs.Answering.{KeepsAnswer}
 use Rattle.jffs_core.specs.Erases.{ErasesAtMost}
 use Rattle.jffs_serve.specs.Replies.{Reply}
-use Rattle.jffs_serve.specs.Answered.{ErasesSince, KeepsHistory}
+use Rattle.jffs_serve.specs.Chain.{KeepsHistory}
+use Rattle.jffs_serve.specs.Answered.{ErasesSince}
 
 -- nothing was answered yet
 pub since_start : (start : CoreState) → ErasesSince start 0 start

@@ -15,7 +15,7 @@ use Rattle.jffs_core.specs.Jobs.{wants_cleaning, ReadRefused}
 use Rattle.jffs_core.proofs.Contents.{no_growth}
 use Rattle.jffs_core.proofs.Mounting.{clean_ends}
 use Rattle.jffs_core.proofs.Refusing.{works_past, fails_past}
-use Rattle.jffs_serve.specs.Answered.{KeepsHistory}
+use Rattle.jffs_serve.specs.Chain.{KeepsHistory}
 
 -- a core that had failed has failed still
 pub stays_failed : (old new : CoreState) → KeepsHistory old new → old.failed ≡ true → new.failed ≡ true

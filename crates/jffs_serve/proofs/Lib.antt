@@ -1,7 +1,7 @@
-pub mod Turns
-pub mod Running
 pub mod Erasing
 pub mod Replying
 pub mod Copying
 pub mod Keeping
+pub mod Chains
+pub mod ChainLaws
 pub mod Showing

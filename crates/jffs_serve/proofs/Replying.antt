@@ -1,5 +1,5 @@
 -- Replies that are made and sent.
-use Rattle.std.proofs.Common.{◌≡◌, ℕ, inl, inr, Bool, true, false, ◌||◌, List, [], ◌∷◌, ◌++◌, length, map, refl, sym, ap, subst, ◌∙◌, append_assoc, append-nil, Option, Some, None}
+use Rattle.std.proofs.Common.{◌≡◌, ℕ, Bool, true, false, ◌||◌, List, [], ◌∷◌, ◌++◌, length, map, refl, sym, ap, subst, ◌∙◌, append_assoc, append-nil, Option, Some, None}
 use Rattle.std.proofs.lemmas.List.{map-append}
 use Rattle.std.proofs.lemmas.List.Elements.{filter-append}
 use Rattle.std.proofs.lemmas.List.Folds.{list_any-append}
@@ -27,10 +27,18 @@ use Rattle.jffs_serve.specs.declared.session.Served.TheVariants as served
 use Rattle.jffs_serve.specs.declared.session.Session.{Session}
 use Rattle.jffs_serve.specs.PendingStep.{unput, ending_of, ending_after}
 use Rattle.jffs_serve.specs.Replies.{Reply, Replies, AllReply, answer_in, any_closed, RefusesUnmount, FitsServed}
-use Rattle.jffs_serve.specs.Answered.{Start, HasReplied, KeepsHistory, FitsEnding, RepliesMore, HasSameReplies}
+use Rattle.jffs_serve.specs.Chain.{KeepsHistory, IsReplied}
+use Rattle.jffs_serve.specs.Answered.{Start, HasReplied, FitsEnding, RepliesMore, HasSameReplies}
 use Rattle.jffs_serve.proofs.Keeping.{same_but_capacity}
 use Rattle.jffs_serve.proofs.Erasing.{since_start, since_answer, since_same}
-use Rattle.jffs_serve.proofs.Running.{step_of, reply_of, runs_more, runs_same, runs_from}
+use Rattle.jffs_serve.proofs.Chains.{chain_stands, runs_more, runs_same, runs_from}
+
+-- the step of a request
+abbrev pub step_of : Request → Outcome → Option Node → Step
+step_of request outcome node = record { writer = request.writer; seq = request.seq; outcome = outcome; node = node }
+
+abbrev pub reply_of : Request → Outcome → Option Node → Reply
+reply_of request outcome node = record { request = request; step = step_of request outcome node }
 
 -- a mapped list with one element more
 map_more : {A B : Type 0} (f : A → B) (xs : List A) (x : A) (front : List B) → (front ++ map f xs) ++ f x ∷ [] ≡ front ++ map f (xs ++ x ∷ [])
@@ -45,8 +53,9 @@ all_reply_more (q ∷ replies) r all open_still here =
     (all.0, last, all_reply_more replies r all.2 parts.1 here)
 
 refuses_last : (replies : List Reply) (r : Reply) (cause : Cause) → r.request.wish ≡ Unmount → r.step.outcome ≡ Refused cause → RefusesUnmount (replies ++ r ∷ []) cause
-refuses_last [] r cause wish outcome = inl (wish, outcome)
-refuses_last (q ∷ replies) r cause wish outcome = inr (refuses_last replies r cause wish outcome)
+refuses_last [] r cause wish outcome = (wish, outcome)
+refuses_last (q ∷ []) r cause wish outcome = (wish, outcome)
+refuses_last (q ∷ p ∷ replies) r cause wish outcome = refuses_last (p ∷ replies) r cause wish outcome
 
 -- how serving ends with a reply
 ends_so :
@@ -100,7 +109,16 @@ replied_more start old new request outcome node unmounts put before now replies 
       ending = ends_so unmounts outcome r replies old.closed new.closed wish refl closed;
       sizes = (was.sizes.0 ∙ sizes.0, was.sizes.1 ∙ sizes.1);
       erases = since_answer start.core old new replies r request.writer request.seq outcome was.sizes.0 same was.erases erased;
-      lawful = λ mounted past stands. runs_more start.core old new mounted past request outcome node replies was.sizes was.reply open_still (acts mounted) same (was.lawful mounted past stands);
+      lawful = λ mounted past stands.
+          let run = was.lawful mounted past stands in
+          let replied : IsReplied mounted run.after old r new = record {
+            answer = acts mounted run.after (chain_stands mounted past run.after start.core old replies stands run.chain);
+            opened = opened;
+            kept = same;
+            sizes = sizes;
+            erases = erased;
+          } in
+          runs_more start.core old new mounted past replies r run replied;
     }
 
 -- nothing that replies speak of has changed
@@ -226,5 +244,5 @@ nothing_replied core put taken closed = record {
   ending = λ s ends. absurd (cc);
   sizes = (refl, refl);
   erases = since_start core;
-  lawful = λ mounted past stands. runs_from core mounted past stands;
+  lawful = λ mounted past stands. runs_from core mounted past;
 }

@@ -1,6 +1,7 @@
 pub mod PendingStep
 pub mod Replies
-pub mod Turns
+pub mod Chain
+pub mod ChainLaws
 pub mod Answered
 pub mod Showing
 pub mod Copies

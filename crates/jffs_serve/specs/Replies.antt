@@ -1,5 +1,5 @@
 -- Requests with the steps that answer them.
-use Rattle.std.specs.Prelude.{◌≡◌, ◌⊎◌, Bool, true, List, [], ◌∷◌}
+use Rattle.std.specs.Prelude.{◌≡◌, Bool, true, List, [], ◌∷◌}
 use Rattle.std.specs.List.{list_any}
 use Rattle.jffs_line.specs.declared.request.Request.{Request}
 use Rattle.jffs_tree.specs.declared.wish.Cause.{Cause}
@@ -30,16 +30,17 @@ abbrev pub AllReply : List Reply → Type 0
 AllReply [] = Unit {0}
 AllReply (r ∷ replies) = Replies r × (is_closed r.step.outcome ≡ true → replies ≡ []) × AllReply replies
 
--- an Unmount was refused for this cause
+-- the last of them refuses an Unmount for this cause
 abbrev pub RefusesUnmount : List Reply → Cause → Type 0
 RefusesUnmount [] cause = ⊥
-RefusesUnmount (r ∷ replies) cause = ((r.request.wish ≡ Unmount) × (r.step.outcome ≡ Refused cause)) ⊎ RefusesUnmount replies cause
+RefusesUnmount (r ∷ []) cause = (r.request.wish ≡ Unmount) × (r.step.outcome ≡ Refused cause)
+RefusesUnmount (r ∷ q ∷ replies) cause = RefusesUnmount (q ∷ replies) cause
 
 -- whether the session was closed by one of these answers
 abbrev pub any_closed : List Answer → Bool
 any_closed answers = list_any (λ (a : Answer). is_closed a.outcome) answers
 
--- Closed is served only where an Unmount was answered Closed, NotClosed only where one was refused for that cause
+-- Closed is served only where an Unmount was answered Closed, NotClosed only where the last answer refused one for that cause
 abbrev pub FitsServed : Served → Bool → List Reply → Type 0
 FitsServed served.Closed closed replies = closed ≡ true
 FitsServed (served.NotClosed cause) closed replies = RefusesUnmount replies cause

@@ -1,18 +1,31 @@
 //! Laws over the definitions. The functions do nothing: their contracts are the laws.
 
-ghost use Rattle.jffs_serve.specs.Answered.{FailuresAreFaults, RepliesAreLawful};
-ghost use Rattle.jffs_serve.specs.Turns.{RepliesHaveTwo, NoSpaceIsHeavy, UnmountsHaveSpace};
+ghost use Rattle.jffs_serve.specs.ChainLaws.{ChainsEndSo, ChainsSplit, FailedAnswersFailed, FailuresAreFaults, NoSpaceIsHeavy, NoRoomAtTheTurn, RepliesAreLawful, UnmountsHaveSpace};
 
 /// The answers of a session are a lawful run of the requests.
 pub fn replies_are_lawful()
     ensures { RepliesAreLawful }
 {}
 
-/// Where two sectors are known to be erased, which they are from a mount that found two on, up to
-/// the first answer Closed, Memory, VersionsSpent or Device: a fresh node is answered NoSpace only
-/// where the live records weigh (S - 4)(3Z/4 - 64) bytes, and an Unmount never is.
+/// A session is a chain of turns. It splits at each reply, which keeps what was before it and what
+/// came after it; and its end tells of erased sectors, faults, and what was in hand when the device
+/// failed.
+pub fn sessions_are_chains()
+    ensures ends { ChainsEndSo }
+    ensures splits { ChainsSplit }
+{}
+
+/// At each turn: a request is answered NoSpace only where its node has no room then, and once a core
+/// has failed each answer is Failed.
+pub fn turns_are_real()
+    ensures no_space { NoRoomAtTheTurn }
+    ensures failed { FailedAnswersFailed }
+{}
+
+/// Where two sectors are erased, which they are from a mount that found two on, up to the first
+/// answer Closed, Memory, VersionsSpent or Device: a fresh node is answered NoSpace only where the
+/// live records weigh (S - 4)(3Z/4 - 64) bytes, and an Unmount never is.
 pub fn full_volumes_are_heavy()
-    ensures turns { RepliesHaveTwo }
     ensures fresh { NoSpaceIsHeavy }
     ensures unmounts { UnmountsHaveSpace }
 {}

@@ -21,7 +21,10 @@ mod tests;
 
 pub use cleaner::{CleanerEnd, clean_loop, clean_until};
 pub use jobs::{JOBS_MAX, JobEnd, Jobs, job_ring};
-pub use laws::{failures_are_faults, full_volumes_are_heavy, replies_are_lawful};
+pub use laws::{
+    failures_are_faults, full_volumes_are_heavy, replies_are_lawful, sessions_are_chains,
+    turns_are_real,
+};
 pub use pauses::{Ended, Pauses};
 pub use serving::serve;
 pub use session::{Served, Session};

@@ -1,4 +1,4 @@
-use Rattle.std.proofs.Common.{rules, ◌≡◌, inl, inr, ℕ, List, [], length, sym, ◌∙◌, ap, subst, false, ◌∷◌, IsTrue}
+use Rattle.std.proofs.Common.{rules, ◌≡◌, inl, inr, ℕ, List, [], length, sym, ◌∙◌, ap, subst, false, ◌∷◌, IsTrue, arith}
 use Rattle.jffs_text.specs.declared.script.Writer.{Writer}
 use Rattle.jffs_text.specs.declared.script.ReaderStatement.{ReaderStatement}
 use Rattle.jffs_core.specs.declared.answer.Answer.{Answer}
@@ -26,9 +26,21 @@ returns-clause-readers g c = λ history whole.
     let served = rw c.in-Some.ensures.promise at c.join-log.ensures in
     let handles = c.start_readers-looking.result.handles.items in
     let looking = subst (λ (rs : List ReaderStatement). EachFrom (IsLooking before rs) 0 handles) c.deref.ensures.value (c.start_readers-looking.ensures.started before c.requires.crew.looking) in
-    c.join_readers-ends.ensures.seen c.args.script.now.readers.items history
-    (subst (λ (i : Index). EachFrom (IsLooking i c.args.script.now.readers.items) 0 handles) (sym served.1.index) looking)
-    (λ counted. whole (counted ∙ ap (length {A = Answer}) (c.answers.ensures ∙ ap (λ (s : CoreState). s.answers) c.core.ensures)))
+    let all : IsTrue c.start_readers-looking.result.all = search rules in
+    let started = c.start_readers-looking.ensures.all all in
+    let joined = c.join_readers-ends.ensures in
+    record {
+      every =
+          let ends = c.join_readers-ends.result.ok in
+          let statements = c.args.script.now.readers.ok in
+          let crew = c.requires.crew in
+          let count = joined.count in
+          let many = crew.readers in
+          omega (arith, ends, statements, count, many, started);
+      each = joined.seen c.args.script.now.readers.items history
+          (subst (λ (i : Index). EachFrom (IsLooking i c.args.script.now.readers.items) 0 handles) (sym served.1.index) looking)
+          (λ counted. whole (counted ∙ ap (length {A = Answer}) (c.answers.ensures ∙ ap (λ (s : CoreState). s.answers) c.core.ensures)));
+    }
 
 pub returns-clause-hands : goal.returns-clause-hands
 returns-clause-hands g c =

@@ -1,4 +1,4 @@
-use Rattle.jffs_serve.proofs.Running.{failures_are_faults}
+use Rattle.jffs_serve.proofs.ChainLaws.{failures_are_faults}
 use Rattle.jffs_serve.proofs.laws.failures_are_faults.Goals as goal
 
 pub returns : goal.returns

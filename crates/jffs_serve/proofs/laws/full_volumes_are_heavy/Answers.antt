@@ -1,5 +1,5 @@
-use Rattle.jffs_serve.proofs.Turns.{replies_have_two, no_space_is_heavy, unmounts_have_space}
+use Rattle.jffs_serve.proofs.ChainLaws.{no_space_is_heavy, unmounts_have_space}
 use Rattle.jffs_serve.proofs.laws.full_volumes_are_heavy.Goals as goal
 
 pub returns : goal.returns
-returns c = record { turns = replies_have_two; fresh = no_space_is_heavy; unmounts = unmounts_have_space }
+returns c = record { fresh = no_space_is_heavy; unmounts = unmounts_have_space }

@@ -1,4 +1,4 @@
-use Rattle.jffs_serve.proofs.Turns.{replies_are_lawful}
+use Rattle.jffs_serve.proofs.ChainLaws.{replies_are_lawful}
 use Rattle.jffs_serve.proofs.laws.replies_are_lawful.Goals as goal
 
 pub returns : goal.returns

@@ -5,8 +5,7 @@ use Rattle.jffs_serve.specs.declared.session.PendingStep.TheVariants.{Unput}
 use Rattle.jffs_serve.specs.declared.session.Served.{Served}
 use Rattle.jffs_serve.specs.Answered.{HasReplied}
 use Rattle.jffs_serve.specs.Replies.{Reply}
-use Rattle.jffs_serve.proofs.Replying.{replied_more}
-use Rattle.jffs_serve.proofs.Running.{reply_of}
+use Rattle.jffs_serve.proofs.Replying.{replied_more, reply_of}
 use Rattle.jffs_serve.proofs.Showing.{shows_step}
 use Rattle.jffs_serve.proofs.session.Session.answer.Goals as goal
 

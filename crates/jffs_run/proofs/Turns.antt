@@ -1,12 +1,12 @@
 -- The turns of a run.
-use Rattle.std.proofs.Common.{◌≡◌, List, ◌∷◌, ◌++◌, inl, inr, true, false, map, subst, refl}
-use Rattle.std.proofs.lemmas.Bool.{both_ways, cases_Bool, false_from_ne_true}
+use Rattle.std.proofs.Common.{◌≡◌, List, ◌∷◌, ◌++◌, false, subst}
+use Rattle.std.proofs.lemmas.Bool.{both_ways, false_from_ne_true}
 use Rattle.jffs_node.specs.declared.node.Node.{Node}
 use Rattle.jffs_log.specs.Image.{past_of}
 use Rattle.jffs_core.specs.CoreState.{CoreState}
 use Rattle.jffs_core.specs.Past.{Represents}
 use Rattle.jffs_core.proofs.Scanning.{scans_find}
-use Rattle.jffs_serve.specs.Replies.{Reply, answer_in}
+use Rattle.jffs_serve.specs.Replies.{Reply}
 use Rattle.jffs_serve.specs.Chain.{Chain, after_reply}
 use Rattle.jffs_serve.specs.ChainLaws.{EndsSo}
 use Rattle.jffs_serve.proofs.Chains.{chains_split}
@@ -31,7 +31,8 @@ no_space_means_no_room before start account fresh run first later r are is =
     let mounted = past_of fresh.scanned.log in
     let turn = turn_in run mounted first r later fresh.stands are in
     let at = turn.within in
-    (turn, no_room_at_the_turn mounted at.taken at.was at.now r at.replied is)
+    let refused = no_room_at_the_turn mounted at.taken at.was at.now r at.replied is in
+    (turn, refused.0, refused.1)
 
 pub failed_stays_failed : FailedStaysFailed
 failed_stays_failed before start account fresh run first later r are tells =

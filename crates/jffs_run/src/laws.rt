@@ -1,6 +1,6 @@
 //! Laws over the definitions. The functions do nothing: their contracts are the laws.
 
-ghost use Rattle.jffs_run.specs.Heavy.{RunsHaveRoom};
+ghost use Rattle.jffs_run.specs.Heavy.{RunsHaveRoom, SpaceIsSure};
 ghost use Rattle.jffs_run.specs.Turns.{AnswersAreDurable, FailedStaysFailed, NoSpaceMeansNoRoom};
 ghost use Rattle.jffs_run.specs.Scanned.{RunsLeaveContents, FailedRunsLeaveHistory, RunsWithoutFaults};
 ghost use Rattle.jffs_run.specs.Unmounted.{RunsEndUnmounted};
@@ -30,6 +30,13 @@ pub fn runs_without_faults()
 /// (S - 4)(3Z/4 - 64) bytes when its request is taken.
 pub fn runs_have_room()
     ensures { RunsHaveRoom }
+{}
+
+/// From a mount on that found two sectors erased, up to the first answer Closed, Memory, VersionsSpent or Device: where
+/// the live records weigh less than (S - 4)(3Z/4 - 64) bytes, `run_threads` refuses a fresh node that the tree allows for
+/// want of memory, of versions or of a device that works, and for nothing else.
+pub fn space_is_sure()
+    ensures { SpaceIsSure }
 {}
 
 /// What `run_threads` answers NoSpace had no room at that very turn: its node, the free bytes and the erased sectors

@@ -61,11 +61,11 @@ module _ {mounted past : List Node} {was now : CoreState} {r : Reply} (replied :
   abbrev after : List Node
   after = after_reply replied
 
-  step : IsStep the_turn r.request r.step.outcome after
+  pub step : IsStep the_turn r.request r.step.outcome after
   step = replied.answer.answers.step
 
   -- what the outcome says, where it is this one
-  outcome_is : (o : Outcome) → r.step.outcome ≡ o → OutcomeIs o the_turn r.request step.copies step.own
+  pub outcome_is : (o : Outcome) → r.step.outcome ≡ o → OutcomeIs o the_turn r.request step.copies step.own
   outcome_is o is = subst (λ (x : Outcome). OutcomeIs x the_turn r.request step.copies step.own) is step.outcome
 
   pub says_failed : was.failed ≡ true → r.step.outcome ≡ Refused causes.Failed

@@ -5,18 +5,7 @@ ghost use Rattle.jffs_core.specs.History.{ContentsAreState};
 ghost use Rattle.jffs_core.specs.RoomSteps.{CleaningOnlyCopies, StoppedOnlyCopies, MakingRoomOnlyCopies, NoSpaceIsAStep, UnmountsHaveRoom};
 ghost use Rattle.jffs_core.specs.Past.{ScansFindContents, FailedScansFind};
 ghost use Rattle.jffs_core.specs.Finding.{DeviceScansFind, StoppedScansFind};
-ghost use Rattle.jffs_core.specs.Rows.{Cleaning, LastOfHundred, Numbers, Growing, Spent, Filled};
 ghost use Rattle.jffs_core.specs.Run.{RunsGoOn, LawfulRunsGrow};
-
-/// Copies, offsets, numbers and weight are as on these examples.
-pub fn examples_are_stepped()
-    ensures cleaning { Cleaning }
-    ensures last { LastOfHundred }
-    ensures numbers { Numbers }
-    ensures growing { Growing }
-    ensures spent { Spent }
-    ensures filled { Filled }
-{}
 
 /// A run that nothing has closed may go on by one request and its answer.
 pub fn runs_go_on()

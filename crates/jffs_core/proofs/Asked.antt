@@ -1,5 +1,5 @@
 -- The node of a request.
-use Rattle.std.proofs.Common.{◌≡◌, inl, inr, ℕ, ◌/◌, ◌^◌, ◌≤◌, ◌<◌, true, false, not, List, [], ◌∷◌, Option, Some, None, is_none, Ok, refl, sym, ap, subst, ◌∙◌, arith}
+use Rattle.std.proofs.Common.{◌≡◌, inl, inr, ℕ, ◌/◌, ◌^◌, ◌≤◌, ◌<◌, Bool, true, false, not, List, [], ◌∷◌, length, Option, Some, None, is_none, Ok, refl, sym, ap, subst, ◌∙◌, arith}
 use Rattle.std.proofs.lemmas.Bool.{and_parts, both_ways, not-true}
 use Rattle.jffs_node.specs.declared.node.Node.{Node}
 use Rattle.jffs_node.specs.Record.{record_len, is_fresh, is_unmount}
@@ -20,10 +20,11 @@ use Rattle.jffs_log.specs.LogIndex.{HasSizes, layout_in}
 use Rattle.jffs_core.specs.CoreState.{CoreState}
 use Rattle.jffs_core.specs.History.{MayFollow}
 use Rattle.jffs_core.specs.Run.{OnlyCopies}
-use Rattle.jffs_core.specs.Step.{IsInHand, MakesRoom, had_room, room_of}
-use Rattle.jffs_core.specs.Past.{RepresentsWorking, has_room_for}
+use Rattle.jffs_core.specs.Step.{IsInHand, MakesRoom, had_room, gets_room, past_with_room, room_can_be_made, room_of}
+use Rattle.jffs_core.specs.Past.{RepresentsWorking, gc_state, has_room_for}
 use Rattle.jffs_core.specs.Appending.{MayPut}
 use Rattle.jffs_core.specs.Answering.{IsNodeOf, turn_of}
+use Rattle.jffs_log.specs.Cleaning.{room_made}
 use Rattle.jffs_log.specs.RoomLaws.{suits_room}
 use Rattle.jffs_log.specs.History.{KeepsRules}
 use Rattle.jffs_log.proofs.Appended.{sizes_small}
@@ -100,10 +101,24 @@ module _ (past : List Node) (c : CoreState) (q : Request) (node : Node) (known :
   pub fresh_room : is_copy_wish q.wish ≡ false → is_unmount_wish q.wish ≡ false → rooms.Fresh ≡ room_of of.new
   fresh_room k u = fresh_room_of of.new (not-true (is_unmount of.new.kind) (and_parts (not of.new.copy) (not (is_unmount of.new.kind)) (fresh_is k u)).1)
 
-  pub its_full : (new : CoreState) → rooms.Fresh ≡ room_of of.new → has_room_for c rooms.Fresh (record_len node) ≡ false → had_room (turn_of past c new) of.new ≡ false
-  its_full new is e =
+  pub its_room : (new : CoreState) (room : Room) (b : Bool) → room ≡ room_of of.new → has_room_for c room (record_len node) ≡ b → had_room (turn_of past c new) of.new ≡ b
+  its_room new room b is e =
       let log = layout_in c.image c.index in
-      ap (λ r. has_room r (record_len (with of.new 0 0 0)) log.free log.erased) (sym is) ∙ ap (λ k. has_room rooms.Fresh k log.free log.erased) (ap record_len (sym of.is)) ∙ e
+      ap (λ r. has_room r (record_len (with of.new 0 0 0)) log.free log.erased) (sym is) ∙ ap (λ k. has_room room k log.free log.erased) (ap record_len (sym of.is)) ∙ e
+
+  pub its_full : (new : CoreState) → rooms.Fresh ≡ room_of of.new → has_room_for c rooms.Fresh (record_len node) ≡ false → had_room (turn_of past c new) of.new ≡ false
+  its_full new is e = its_room new rooms.Fresh false is e
+
+  -- what is said of its length, of the length of the node that was decided on
+  pub by_length : (P : ℕ → Type 0) → P (record_len node) → P (record_len (with of.new 0 0 0))
+  by_length P h = subst P (ap record_len of.is) h
+
+  -- whether it gets room, and what the history is then, by the length of the record
+  pub its_gets : (new : CoreState) (len : ℕ) (b : Bool) → len ≡ record_len node → room_can_be_made c.index.sector_size len (length (layout_in c.image c.index).sectors) (gc_state past c) ≡ b → gets_room (turn_of past c new) of.new ≡ b
+  its_gets new len b same e = ap (λ k. room_can_be_made c.index.sector_size k (length (layout_in c.image c.index).sectors) (gc_state past c)) (ap record_len (sym of.is) ∙ sym same) ∙ e
+
+  pub its_past : (new : CoreState) (len : ℕ) → len ≡ record_len node → (room_made c.index.sector_size len (length (layout_in c.image c.index).sectors) (gc_state past c)).past ≡ past_with_room (turn_of past c new) of.new
+  its_past new len same = ap (λ k. (room_made c.index.sector_size k (length (layout_in c.image c.index).sectors) (gc_state past c)).past) (same ∙ ap record_len of.is)
 
   pub its_makes_room : (new : CoreState) → rooms.Fresh ≡ room_of of.new → has_room_for c rooms.Fresh (record_len node) ≡ false → is_fresh (with of.new 0 0 0) ≡ true → MakesRoom (turn_of past c new) q
   its_makes_room new is e fresh = (of.new, record { decided = its_decision; none = its_full new is e }, fresh)

@@ -4,7 +4,7 @@ use Rattle.std.specs.List.{AllByRecursion}
 use Rattle.std.specs.Int.{from_bool}
 use Rattle.std.proofs.Math.Seq.{take-suc}
 use Rattle.std.proofs.lemmas.List.{take-append-drop}
-use Rattle.std.proofs.lemmas.Bool.{and_parts, both_ways, false_from_ne_true}
+use Rattle.std.proofs.lemmas.Bool.{and_parts, and_from, both_ways, false_from_ne_true}
 use Rattle.jffs_node.specs.declared.node.Node.{Node}
 use Rattle.jffs_node.specs.Record.{record_len, dsize, fits_rest}
 use Rattle.jffs_node.proofs.Each.{each_at}
@@ -53,6 +53,7 @@ copying_begins nodes c works = record {
       added = record { copies = []; true_copies = tt; joined = refl };
       stands = record { works = works; faults = refl; represents = known };
       turn = refl;
+      room = refl;
       counted = omega arith;
     },
   );
@@ -112,6 +113,10 @@ copying_goes_on nodes past after k copies more node is_copied old middle new bel
             ∙ ap (handled z node) h.turn
             ∙ sym (handled_in_parts z (take k nodes) (node ∷ []) s).0
             ∙ ap (λ ns. handled_each z ns s) (sym taken);
+        room =
+            ap (λ ns. copies_have_room z ns s) taken
+            ∙ (handled_in_parts z (take k nodes) (node ∷ []) s).1
+            ∙ and_from (copies_have_room z (take k nodes) s) _ h.room (and_from (copy_has_room node (handled_each z (take k nodes) s)) true (ap (copy_has_room node) (sym h.turn) ∙ one.room) refl);
         counted = let a = one.counted in let b = h.counted in let e = one_if is_copied in omega arith;
       },
     )
@@ -196,5 +201,6 @@ module _ (nodes past after : List Node) (copies : ℕ) (old middle : CoreState) 
         (λ i. record { past = after; log = e.log i })
         ∙ ap (λ (s : GcState). record { past = s.past; log = erase_oldest s.log }) h.turn
         ∙ ap (λ ns. let a = handled_each old.index.sector_size ns (gc_state past old) in record { past = a.past; log = erase_oldest a.log }) oldest;
+    room = ap (λ ns. copies_have_room old.index.sector_size ns (gc_state past old)) (sym oldest) ∙ h.room;
     counted = h.counted;
   }

@@ -1,5 +1,5 @@
 -- What a call of the log leaves of the core that made it.
-use Rattle.std.proofs.Common.{◌≡◌, ◌≤◌, inl, Bool, List, length, ap, ◌∙◌}
+use Rattle.std.proofs.Common.{◌≡◌, ◌<◌, ◌≤◌, ℕ, inl, Bool, false, List, length, sym, ap, subst, ◌∙◌, Result, Ok, Err, OnOk, IfErr}
 use Rattle.std.proofs.lemmas.Bool.{both_ways}
 use Rattle.jffs_node.specs.declared.node.Node.{Node}
 use Rattle.jffs_tree.specs.Origin.{Tree}
@@ -60,3 +60,24 @@ read_refused causes.InodesSpent past old new before after h works fails = absurd
 read_refused causes.VersionsSpent past old new before after h works fails = absurd h
 read_refused causes.NoSpace past old new before after h works fails = absurd h
 read_refused causes.Failed past old new before after h works fails = absurd h
+
+-- What a core is left with where a read stopped.
+pub read_stops : (why : Cause) (past : List Node) (old new : LogState) (before after : CoreState) → ReadStopped why old new → old.failed ≡ false → IsPast past old.device.image old.index after.tree after.limits after.clean → before.faults ≡ old.device.faults
+    → after.failed ≡ new.failed → after.faults ≡ new.device.faults → after.image ≡ new.device.image → after.index ≡ new.index → RefusedAt why past before after
+read_stops why past old new before after stopped works known begun failed faults image index =
+    read_refused why past old new before after stopped
+    (λ same. record {
+      works = failed ∙ ap (λ (l : LogState). l.failed) same ∙ works;
+      faults = faults ∙ ap (λ (l : LogState). l.device.faults) same ∙ sym begun;
+      represents = read_past past old.device.image after.image old.index after.index after.tree after.limits after.clean (image ∙ ap (λ (l : LogState). l.device.image) same) (index ∙ ap (λ (l : LogState). l.index) same) known;
+    })
+    (λ read. record {
+      fails = failed ∙ read.failed;
+      faults = subst (λ (k : ℕ). before.faults < k) (sym faults) (subst (λ (k : ℕ). k < new.device.faults) (sym begun) read.device.faults);
+      left = read_left past old new after known read image index;
+    })
+
+-- What follows both of Ok and of an error holds.
+pub either_way : {A E : Type 0} (r : Result A E) (P : Type 0) → OnOk r P → IfErr r (λ _. P) → P
+either_way (Ok x) P h k = h
+either_way (Err e) P h k = k

@@ -1,13 +1,13 @@
 -- Cleaning adds true copies alone, and NoSpace after a turn of it is a lawful answer.
-use Rattle.std.proofs.Common.{◌≡◌, ℕ, zero, suc, ◌+◌, ◌^◌, ◌≤◌, true, cond, List, [], ◌∷◌, ◌++◌, length, inr, ⊎_elim, Some, None, refl, sym, ap, subst, arith}
+use Rattle.std.proofs.Common.{◌≡◌, ℕ, zero, suc, ◌+◌, ◌^◌, ◌≤◌, true, false, ◌&&◌, ◌||◌, cond, List, [], ◌∷◌, ◌++◌, length, inr, ⊎_elim, Some, None, refl, sym, ap, subst, ◌∙◌, arith}
 use Rattle.std.specs.List.{AllByRecursion}
-use Rattle.std.proofs.lemmas.Bool.{lt-ltb, cases_Bool, both_ways}
+use Rattle.std.proofs.lemmas.Bool.{lt-ltb, cases_Bool, both_ways, and_parts, or_left, false_from_ne_true}
 use Rattle.jffs_node.specs.declared.node.Node.{Node}
 use Rattle.jffs_node.specs.Record.{record_len}
 use Rattle.jffs_tree.specs.Origin.{is_live}
 use Rattle.jffs_tree.proofs.Copies.{cleaning_copies_are_true}
 use Rattle.jffs_log.specs.Room.{next_version, weight}
-use Rattle.jffs_log.specs.Cleaning.{GcState, version_after, copied, with_copy, handled, handled_each, cleaned, oldest_records, fresh_has_room, room_made, is_history}
+use Rattle.jffs_log.specs.Cleaning.{GcState, version_after, copied, with_copy, handled, handled_each, cleaned, oldest_records, copies_have_room, fresh_has_room, room_made, is_history}
 use Rattle.jffs_log.specs.RoomLaws.{Among}
 use Rattle.jffs_log.proofs.Puts.{map_all}
 use Rattle.jffs_log.proofs.Copied.{copies_take_over, unmounts_are_dead, live_present}
@@ -18,7 +18,7 @@ use Rattle.jffs_log.proofs.Parts.{versions_follow, logs_weigh_less}
 use Rattle.jffs_core.specs.History.{AreOwnCopies}
 use Rattle.jffs_core.specs.Run.{OnlyCopies}
 use Rattle.jffs_core.specs.RoomSteps.{CleaningOnlyCopies, StoppedOnlyCopies, MakingRoomOnlyCopies, NoSpaceIsAStep}
-use Rattle.jffs_core.specs.Step.{HadNoRoom}
+use Rattle.jffs_core.specs.Step.{HadNoRoom, gets_room, room_can_be_made}
 use Rattle.jffs_tree.specs.Decide.{with}
 use Rattle.jffs_tree.specs.declared.wish.Cause.TheVariants as causes
 use Rattle.jffs_tree.specs.declared.wish.Outcome.{Outcome}
@@ -100,17 +100,38 @@ module _ (total z weight len : ℕ) (low : 64 ≤ z) (enough : 6 ≤ total) wher
 pub making_room_only_copies : MakingRoomOnlyCopies
 making_room_only_copies total z len s low enough sound two few = made_only total z _ len low enough (length s.log.sectors) s (start total z s sound two) few
 
+-- A record that has room needs none made.
+pub room_at_once : (z len k : ℕ) (s : GcState) → fresh_has_room len s ≡ true → (room_can_be_made z len k s ≡ true) × (room_made z len k s ≡ s)
+room_at_once z len zero s has = (has, refl)
+room_at_once z len (suc k) s has = (or_left (fresh_has_room len s) _ has, ap (λ t. cond t s (room_made z len k (cleaned z s))) has)
+
+-- Where room can be made it is there once it was.
+made_has_room : (z len k : ℕ) (s : GcState) → room_can_be_made z len k s ≡ true → fresh_has_room len (room_made z len k s) ≡ true
+made_has_room z len zero s can = can
+made_has_room z len (suc k) s can = ⊎_elim
+    (λ has. ap (fresh_has_room len) (room_at_once z len (suc k) s has).1 ∙ has)
+    (λ none.
+    let fits = copies_have_room z (oldest_records s.log.sectors) s in
+    let later = room_can_be_made z len k (cleaned z s) in
+    let both = and_parts fits later (ap (λ t. t || (fits && later)) (sym none) ∙ can) in
+    ap (λ t. fresh_has_room len (cond t s (room_made z len k (cleaned z s)))) none ∙ made_has_room z len k (cleaned z s) both.1)
+    (cases_Bool (fresh_has_room len s))
+
 pub no_space_is_a_step : NoSpaceIsAStep
 no_space_is_a_step t q n s gone taken held low enough two takes decided fresh short had none few =
     let z = t.volume.sector_size in
     let total = t.volume.sectors in
     let len = record_len (with n 0 0 0) in
-    let same = taken.erased in
+    let same : t.erased ≡ s.log.erased = ap (λ (x : GcState). x.log.erased) taken.session in
     let heavy_log = full_logs_are_heavy copies_take_over unmounts_are_dead total z len s low enough short taken.sound (omega arith) none in
     let part = logs_weigh_less s gone held in
-    let whole : weight t.past ≡ weight s.past = ap weight taken.past in
-    let made = subst (λ past. OnlyCopies past (room_made z len (length s.log.sectors) s).past) (sym taken.past) (making_room_only_copies total z len s low enough taken.sound (omega arith) few) in
+    let same_past : t.past ≡ s.past = ap (λ (x : GcState). x.past) taken.session in
+    let whole : weight t.past ≡ weight s.past = ap weight same_past in
+    let made = subst (λ past. OnlyCopies past (room_made z len (length s.log.sectors) s).past) (sym same_past) (making_room_only_copies total z len s low enough taken.sound (omega arith) few) in
     let no : HadNoRoom t q n = record { decided = decided; none = had } in
+    let full : gets_room t n ≡ false =
+    ap (λ (x : GcState). room_can_be_made z len (length x.log.sectors) x) taken.session
+    ∙ false_from_ne_true (room_can_be_made z len (length s.log.sectors) s) (λ can. both_ways _ none (made_has_room z len (length s.log.sectors) s can)) in
     record {
       copies = made.copies;
       own = [];
@@ -119,7 +140,7 @@ no_space_is_a_step t q n s gone taken held low enough two takes decided fresh sh
       copies_make_room = inr (n, no, fresh);
       clean_is_so = taken.clean;
       failed_says_so = ((λ f. absurd (both_ways t.failed taken.standing f)), (λ f. absurd (not_failed f)));
-      outcome = ((takes, (n, no, (λ f two. omega arith))), refl);
+      outcome = ((takes, (n, no, (λ f two. omega arith), (λ f. full))), refl);
     }
   where
     not_failed : ◌≡◌ {A = Outcome} (Refused causes.NoSpace) (Refused causes.Failed) → ⊥

@@ -1,11 +1,13 @@
 -- A scan of a core's image.
-use Rattle.std.proofs.Common.{◌≡◌, ◌⊎◌, inl, inr, false, List, ◌∷◌, ◌++◌, Ok, refl, sym, ap, subst, ◌∙◌}
+use Rattle.std.proofs.Common.{◌≡◌, ◌⊎◌, inl, inr, ⊎_elim, ◌≤◌, Bool, true, false, ◌||◌, cond, List, [], ◌∷◌, ◌++◌, length, filter, Ok, refl, sym, ap, subst, ◌∙◌, arith}
+use Rattle.std.specs.List.{list_any}
+use Rattle.std.proofs.lemmas.Bool.{cases_Bool}
 use Rattle.jffs_node.specs.declared.node.Node.{Node}
 use Rattle.jffs_tree.specs.State.{State, apply, state_of_past}
 use Rattle.jffs_tree.specs.Origin.{tree_of, state_in}
 use Rattle.jffs_tree.proofs.TrueCopy.{true_copy_keeps_state}
 use Rattle.jffs_tree.proofs.Copies.{state_of_tree}
-use Rattle.jffs_log.specs.Image.{is_clean}
+use Rattle.jffs_log.specs.Image.{Sector, erased_count, is_clean}
 use Rattle.jffs_log.specs.Volume.{split, sectors_in}
 use Rattle.jffs_log.specs.Scan.{Scanned, scan}
 use Rattle.jffs_log.specs.Live.{live_log}
@@ -15,9 +17,12 @@ use Rattle.jffs_core.specs.History.{IsOwnCopy, Grows, contents}
 use Rattle.jffs_core.specs.Step.{IsNodeFor}
 use Rattle.jffs_core.specs.Past.{ScansFindContents, FailedScansFind, HasFailed}
 use Rattle.jffs_core.specs.Answering.{turn_of}
-use Rattle.jffs_core.specs.Finding.{FindsWith, DeviceScansFind}
+use Rattle.jffs_core.specs.Erases.{OneIsErased}
+use Rattle.jffs_core.specs.Calls.{FailsIn}
+use Rattle.jffs_core.specs.Finding.{FindsWith, DeviceScansFind, StoppedScansFind}
 use Rattle.jffs_core.proofs.Contents.{contents_are_state}
 use Rattle.jffs_core.proofs.Deciding.{copies_state}
+use Rattle.jffs_core.proofs.Refusing.{failed_more}
 
 pub scans_find : ScansFindContents
 scans_find mounted past c h works =
@@ -83,3 +88,25 @@ device_scans_find mounted past old new q s h intact =
     let same : state_of_past h.after ≡ state_of_past past =
     ap state_of_past step.joined ∙ ap (λ (own : List Node). state_of_past (own ++ step.copies ++ past)) step.outcome.1 ∙ copies_state past step.copies step.copies_are_true in
     found_with (IsNodeFor (turn_of past old new) q h.after) mounted h.after past new s.grown same (h.in_hand refl) intact
+
+pub stopped_scans_find : StoppedScansFind
+stopped_scans_find mounted past old new s h intact =
+    let copies = h.added in
+    let same : state_of_past h.after ≡ state_of_past past = ap state_of_past copies.joined ∙ copies_state past copies.copies copies.true_copies in
+    let fails : FailsIn (IsOwnCopy h.after) h.after old new = h.why.1 in
+    found_with (λ n. ⊥) mounted h.after past new s.grown same (failed_more (IsOwnCopy h.after) (λ n. IsOwnCopy h.after n ⊎ ⊥) (λ n own. inl own) h.after new fails.left) intact
+
+-- One of these sectors is erased.
+any_counted : (sectors : List Sector) → list_any (λ (s : Sector). s.erased) sectors ≡ true → 1 ≤ erased_count sectors
+any_counted [] h = cc
+any_counted (x ∷ sectors) h = ⊎_elim
+    (λ here. subst (λ (t : Bool). 1 ≤ length (cond t (x ∷ filter (λ (s : Sector). s.erased) sectors) (filter (λ (s : Sector). s.erased) sectors))) (sym here) (omega arith))
+    (λ other.
+    let later = any_counted sectors (ap (λ (t : Bool). t || list_any (λ (s : Sector). s.erased) sectors) (sym other) ∙ h) in
+    subst (λ (t : Bool). 1 ≤ length (cond t (x ∷ filter (λ (s : Sector). s.erased) sectors) (filter (λ (s : Sector). s.erased) sectors))) (sym other) later)
+    (cases_Bool x.erased)
+
+pub one_is_erased : OneIsErased
+one_is_erased mounted past c h works =
+    let k = h.stands.working works in
+    any_counted (sectors_in c.index.sectors c.index.sector_size c.image) k.history.readable.erased

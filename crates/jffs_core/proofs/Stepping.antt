@@ -1,5 +1,5 @@
 -- Each answer is a lawful step.
-use Rattle.std.proofs.Common.{◌≡◌, ◌⊎◌, inl, inr, ℕ, ◌≤◌, Bool, true, false, ◌&&◌, List, [], ◌∷◌, ◌++◌, leb, ltb, Option, Some, None, Result, Err, refl, sym, ap, subst, ◌∙◌}
+use Rattle.std.proofs.Common.{◌≡◌, ◌⊎◌, inl, inr, ℕ, ◌≤◌, Bool, true, false, ◌&&◌, List, [], ◌∷◌, ◌++◌, length, leb, ltb, Option, Some, None, Result, Ok, Err, IsOk, refl, sym, ap, subst, ◌∙◌}
 use Rattle.std.proofs.lemmas.Bool.{lt-ltb, le-leb, or_right, both_ways}
 use Rattle.std.proofs.lemmas.Option.{none-some}
 use Rattle.jffs_node.specs.declared.node.Node.{Node}
@@ -14,31 +14,32 @@ use Rattle.jffs_tree.specs.Decide.{decide_on, with, unmount_node, is_unmount_wis
 use Rattle.jffs_line.specs.declared.request.Request.{Request}
 use Rattle.jffs_log.specs.declared.room.Room.{Room}
 use Rattle.jffs_log.specs.declared.room.Room.TheVariants as rooms
-use Rattle.jffs_log.specs.Room.{next_version, heavy, weight, has_room}
+use Rattle.jffs_log.specs.Room.{next_version, heavy, weight}
 use Rattle.jffs_log.specs.LogIndex.{layout_in}
 use Rattle.jffs_core.specs.declared.answer.Answered.{Answered}
 use Rattle.jffs_core.specs.CoreState.{CoreState}
 use Rattle.jffs_core.specs.History.{AreOwnCopies, MayFollow, Grows}
 use Rattle.jffs_core.specs.Run.{OnlyCopies, is_failure}
-use Rattle.jffs_core.specs.Step.{Turn, IsStep, IsInHand, OutcomeIs, ends_with_unmount, RefusedBy, HadNoRoom, MakesRoom, decision, takes_no_node, had_room, room_of}
+use Rattle.jffs_core.specs.Step.{Turn, IsStep, IsInHand, OutcomeIs, ends_with_unmount, RefusedBy, HadNoRoom, MakesRoom, decision, takes_no_node, had_room, gets_room, past_with_room, room_of}
 use Rattle.jffs_core.specs.Nodes.{listed}
 use Rattle.jffs_core.specs.RoomSteps.{UnmountsHaveRoom}
-use Rattle.jffs_core.specs.Past.{RepresentsWorking, RepresentsPast, HasFailed, has_room_for}
+use Rattle.jffs_core.specs.Past.{RepresentsWorking, RepresentsPast, HasFailed, gc_state, has_room_for}
 use Rattle.jffs_core.specs.Calls.{RefusedWith, KeepsTwo}
 use Rattle.jffs_core.specs.Appending.{MayPut, HasPut, PutRefused}
 use Rattle.jffs_core.specs.Answering.{IsNodeOf, HasAnswered, AnswersWith, KeepsAnswer, keeps_two, turn_of}
-use Rattle.jffs_log.specs.Cleaning.{Layout}
+use Rattle.jffs_log.specs.Cleaning.{GcState, Layout}
 use Rattle.jffs_log.proofs.Bound.{fresh_keeps_two}
 use Rattle.jffs_core.proofs.Deciding.{is_of_tree}
 use Rattle.jffs_core.proofs.Contents.{grows_along, step_grows}
 use Rattle.jffs_core.proofs.Mounting.{clean_ends}
 use Rattle.jffs_core.proofs.Refusing.{works_past, by_refusal, refused_past, fails_as, works_on_faults, same_cause, device_left, refused_keeps}
-use Rattle.jffs_core.proofs.Asked.{decision_is, unmount_is, its_version, own_in_hand}
+use Rattle.jffs_core.proofs.Asked.{decision_is, unmount_is, its_version, its_room, by_length, own_in_hand}
+use Rattle.jffs_core.proofs.RoomMade.{room_at_once}
 
 -- The causes of a decision, by the decision.
 pub by_tree : (cause : Cause) (t : Turn) (q : Request) → is_of_tree cause ≡ true → takes_no_node t q ≡ false → decision t q ≡ Err cause → RefusedBy cause t q []
 by_tree causes.VersionsSpent t q h takes is = (takes, inl (is, refl))
-by_tree causes.Memory t q h takes is = tt
+by_tree causes.Memory t q h takes is = cc
 by_tree causes.NoSpace t q h takes is = cc
 by_tree causes.Device t q h takes is = cc
 by_tree causes.Failed t q h takes is = cc
@@ -66,6 +67,11 @@ later_put_keeps node old middle new before h two = fresh_put_keeps node middle n
 pub which_refusal : (cause : Cause) (r : Result NewNode Cause) → (◌≡◌ {A = Result NewNode Cause} (Err cause) (Err causes.Memory) → ⊥) ⊎ (cause ≡ causes.Memory)
 which_refusal causes.Memory r = inr refl
 which_refusal _ r = inl (λ e. cc)
+
+-- the node of a decision that was taken
+pub granted : (r : Result NewNode Cause) → IsOk r → (n : NewNode) × (r ≡ Ok n)
+granted (Ok n) h = (n, refl)
+granted (Err cause) h = cc
 
 -- Steps of a core that works.
 module _ (past : List Node) (old new : CoreState) (q : Request) (works : old.failed ≡ false) (known : RepresentsWorking past old) where
@@ -104,10 +110,10 @@ module _ (past : List Node) (old new : CoreState) (q : Request) (works : old.fai
   }
 
   -- by the decision, or for want of memory
-  pub decided_against : (cause : Cause) → new ≡ old → takes_no_node (turn_of past old new) q ≡ false → (cause ≡ causes.Memory) ⊎ ((is_of_tree cause ≡ true) × (decide_on old.tree old.limits q.wish ≡ Err cause)) → HasAnswered past old new q (Refused cause) None
+  pub decided_against : (cause : Cause) → new ≡ old → takes_no_node (turn_of past old new) q ≡ false → ((cause ≡ causes.Memory) × ((n : NewNode) × (decide_on old.tree old.limits q.wish ≡ Ok n))) ⊎ ((is_of_tree cause ≡ true) × (decide_on old.tree old.limits q.wish ≡ Err cause)) → HasAnswered past old new q (Refused cause) None
   decided_against cause same takes why =
       let step : IsStep (turn_of past old new) q (Refused cause) past = elim why [
-        | inl memory ↦ subst (λ c. IsStep (turn_of past old new) q (Refused c) past) (sym memory) (step_of (Refused causes.Memory) [] [] (λ e. cc) tt (inl refl) (tt, refl))
+        | inl memory ↦ subst (λ c. IsStep (turn_of past old new) q (Refused c) past) (sym memory.0) (step_of (Refused causes.Memory) [] [] (λ e. cc) tt (inl refl) ((takes, (memory.1.0, decision_is past old q known ∙ memory.1.1)), refl))
         | inr tree ↦ step_of (Refused cause) [] [] (not_failed cause tree.0) tt (inl refl) (by_tree cause (turn_of past old new) q tree.0 takes (decision_is past old q known ∙ tree.1), refl)
       ] in
       record {
@@ -115,9 +121,9 @@ module _ (past : List Node) (old new : CoreState) (q : Request) (works : old.fai
         stands = subst (RepresentsPast past) (sym same) (works_past past old works known);
         step = step;
         own = step.outcome.1;
-        fails = ap (λ (c : CoreState). c.failed) same ∙ works ∙ sym (elim why [ inl memory ↦ ap (λ c. is_failure (Refused c)) memory | inr tree ↦ no_failure cause tree.0 ]);
+        fails = ap (λ (c : CoreState). c.failed) same ∙ works ∙ sym (elim why [ inl memory ↦ ap (λ c. is_failure (Refused c)) memory.0 | inr tree ↦ no_failure cause tree.0 ]);
         faults = λ w. ap (λ (c : CoreState). c.faults) same;
-        in_hand = λ e. absurd (elim why [ inl memory ↦ memory_only (ap (λ c. Refused c) (sym memory) ∙ e) | inr tree ↦ not_device cause tree.0 e ]);
+        in_hand = λ e. absurd (elim why [ inl memory ↦ memory_only (ap (λ c. Refused c) (sym memory.0) ∙ e) | inr tree ↦ not_device cause tree.0 e ]);
         two = λ k e. subst (λ (c : CoreState). 2 ≤ (layout_in c.image c.index).erased) (sym same) e;
       }
     where
@@ -125,28 +131,25 @@ module _ (past : List Node) (old new : CoreState) (q : Request) (works : old.fai
       memory_only e = cc
 
   -- a record was put at once
-  pub put_copy : (node : Node) → IsNodeOf old q node → is_copy_wish q.wish ≡ true → MayPut past old.index.sector_size rooms.Fresh node → HasPut rooms.Fresh node old new → HasAnswered past old new q (Copied node.version) (Some node)
-  put_copy node of copies may h = record {
+  pub put_copy : (node : Node) (of : IsNodeOf old q node) → is_copy_wish q.wish ≡ true → rooms.Fresh ≡ room_of of.new → MayPut past old.index.sector_size rooms.Fresh node → HasPut rooms.Fresh node old new → HasAnswered past old new q (Copied node.version) (Some node)
+  put_copy node of copies is may h = record {
     after = node ∷ past;
     stands = works_past (node ∷ past) new h.works (h.represents past known may);
     step = step_of (Copied node.version) [] (node ∷ []) (λ e. cc) tt (inl refl)
-        (of.new, copies, decision_is past old q known ∙ of.decided, refl, next_of node of, ap (λ (m : Node). m ∷ []) of.is);
+        (of.new, copies, decision_is past old q known ∙ of.decided, refl, its_version past old q node known of, ap (λ (m : Node). m ∷ []) of.is, its_room past old q node known of new rooms.Fresh true is h.had_room);
     own = refl;
     fails = h.works;
     faults = λ w. h.faults;
     in_hand = λ e. cc;
     two = λ k. fresh_put_keeps node old new h;
   }
-    where
-      next_of : (node : Node) → IsNodeOf old q node → next_version past ≡ Some node.version
-      next_of node of = ap (λ (l : Limits). l.next_version) (sym known.limits_are) ∙ of.next
 
-  pub put_unmount : (node : Node) → IsNodeOf old q node → is_unmount_wish q.wish ≡ true → MayPut past old.index.sector_size rooms.Unmount node → HasPut rooms.Unmount node old new → HasAnswered past old new q Closed (Some node)
-  put_unmount node of unmounts may h = record {
+  pub put_unmount : (node : Node) (of : IsNodeOf old q node) → is_unmount_wish q.wish ≡ true → rooms.Unmount ≡ room_of of.new → MayPut past old.index.sector_size rooms.Unmount node → HasPut rooms.Unmount node old new → HasAnswered past old new q Closed (Some node)
+  put_unmount node of unmounts is may h = record {
     after = node ∷ past;
     stands = works_past (node ∷ past) new h.works (h.represents past known may);
     step = step_of Closed [] (node ∷ []) (λ e. cc) tt (inl refl)
-        (unmounts, refl, inr (dirty, (of.new, node.version, decision_is past old q known ∙ of.decided, next, ap (λ (m : Node). m ∷ []) of.is)));
+        (unmounts, refl, inr (dirty, (of.new, node.version, decision_is past old q known ∙ of.decided, its_version past old q node known of, ap (λ (m : Node). m ∷ []) of.is, its_room past old q node known of new rooms.Unmount true is h.had_room)));
     own = refl;
     fails = h.works;
     faults = λ w. h.faults;
@@ -154,9 +157,6 @@ module _ (past : List Node) (old new : CoreState) (q : Request) (works : old.fai
     two = λ k. absurd (both_ways (keeps_two Closed) refl k);
   }
     where
-      next : next_version past ≡ Some node.version
-      next = ap (λ (l : Limits). l.next_version) (sym known.limits_are) ∙ of.next
-
       dirty : old.clean ≡ false
       dirty = by_wish (is_unmount_wish q.wish) old.clean unmounts of.takes_node
         where
@@ -190,45 +190,42 @@ module _ (past : List Node) (old new : CoreState) (q : Request) (works : old.fai
       no_next : next_version past ≡ None → ⊥
       no_next e = none-some node.version (sym e ∙ has_next)
 
-      full : has_room_for old room (record_len node) ≡ false → had_room (turn_of past old new) of.new ≡ false
-      full e =
-          let log = layout_in old.image old.index in
-          ap (λ r. has_room r (record_len (with of.new 0 0 0)) log.free log.erased) (sym is)
-          ∙ ap (λ k. has_room room k log.free log.erased) (ap record_len (sym of.is))
-          ∙ e
-
       by_cause : (c : Cause) → PutRefused room node c old new → RefusedWith P c past old new → (c ≡ causes.NoSpace → is_fresh (with of.new 0 0 0) ≡ true → ⊥) → IsStep (turn_of past old new) q (Refused c) past
       by_cause c h r none =
           by_refusal P past old new (λ c. PutRefused room node c old new → (c ≡ causes.NoSpace → is_fresh (with of.new 0 0 0) ≡ true → ⊥) → IsStep (turn_of past old new) q (Refused c) past)
           (λ w spent h none. absurd (no_next spent))
-          (λ w h none. step_of (Refused causes.Memory) [] [] (λ e. cc) tt (inl refl) (tt, refl))
+          (λ w h none. step_of (Refused causes.Memory) [] [] (λ e. cc) tt (inl refl) ((of.takes_node, (of.new, decision_is past old q known ∙ of.decided)), refl))
           (λ w h none. step_of (Refused causes.NoSpace) [] [] (λ e. cc) tt (inl refl)
-          ((of.takes_node, (of.new, record { decided = decision_is past old q known ∙ of.decided; none = full (h.no_room refl) }, (λ f two. absurd (none refl f)))), refl))
+          ((of.takes_node, (of.new, record { decided = decision_is past old q known ∙ of.decided; none = its_room past old q node known of new room false is (h.no_room refl) }, (λ f two. absurd (none refl f)), (λ f. absurd (none refl f)))), refl))
           (λ d h none. step_of (Refused causes.Device) [] [] (λ e. cc) tt (inl refl) (lt-ltb old.faults new.faults d.faults, refl))
           c r h none
 
   -- a fresh record was put at once
-  pub put_now : (node : Node) (of : IsNodeOf old q node) → is_fresh (with of.new 0 0 0) ≡ true → new.failed ≡ false → new.faults ≡ old.faults → KeepsTwo old new → RepresentsPast (node ∷ past) new → HasAnswered past old new q (Appended node.inode node.version) (Some node)
-  put_now node of fresh now_works no_fault two stands = record {
-    after = node ∷ past;
-    stands = stands;
-    step = step_of (Appended node.inode node.version) [] (node ∷ []) (λ e. cc) tt (inl refl)
-        (of.new, decision_is past old q known ∙ of.decided, fresh, ap (λ (m : Node). m.inode) (sym of.is), its_version past old q node known of, ap (λ (m : Node). m ∷ []) of.is);
-    own = refl;
-    fails = now_works;
-    faults = λ w. no_fault;
-    in_hand = λ e. cc;
-    two = λ k. two;
-  }
+  pub put_now : (node : Node) (of : IsNodeOf old q node) → is_fresh (with of.new 0 0 0) ≡ true → has_room_for old rooms.Fresh (record_len node) ≡ true → new.failed ≡ false → new.faults ≡ old.faults → KeepsTwo old new → RepresentsPast (node ∷ past) new → HasAnswered past old new q (Appended node.inode node.version) (Some node)
+  put_now node of fresh had now_works no_fault two stands =
+      let z = old.index.sector_size in
+      let log = layout_in old.image old.index in
+      let room = room_at_once z (record_len (with of.new 0 0 0)) (length log.sectors) (gc_state past old) (by_length past old q node known of (λ k. has_room_for old rooms.Fresh k ≡ true) had) in
+      record {
+        after = node ∷ past;
+        stands = stands;
+        step = step_of (Appended node.inode node.version) [] (node ∷ []) (λ e. cc) tt (inl refl)
+            (of.new, decision_is past old q known ∙ of.decided, fresh, ap (λ (m : Node). m.inode) (sym of.is), its_version past old q node known of, ap (λ (m : Node). m ∷ []) of.is, room.0, sym (ap (λ (s : GcState). s.past) room.1));
+        own = refl;
+        fails = now_works;
+        faults = λ w. no_fault;
+        in_hand = λ e. cc;
+        two = λ k. two;
+      }
 
   -- a fresh record was put, after own copies
   pub put_fresh : (node next : Node) (after : List Node) (of : IsNodeOf old q node) → is_fresh (with of.new 0 0 0) ≡ true → (copies : OnlyCopies past after) → (copies.copies ≡ []) ⊎ MakesRoom (turn_of past old new) q
-      → next ≡ with of.new next.version q.writer q.seq → next_version after ≡ Some next.version → new.failed ≡ false → new.faults ≡ old.faults → KeepsTwo old new → RepresentsPast (next ∷ after) new → HasAnswered past old new q (Appended next.inode next.version) (Some next)
-  put_fresh node next after of fresh copies room is version now_works no_fault two stands = record {
+      → (gets_room (turn_of past old new) of.new ≡ true) × (after ≡ past_with_room (turn_of past old new) of.new) → next ≡ with of.new next.version q.writer q.seq → next_version after ≡ Some next.version → new.failed ≡ false → new.faults ≡ old.faults → KeepsTwo old new → RepresentsPast (next ∷ after) new → HasAnswered past old new q (Appended next.inode next.version) (Some next)
+  put_fresh node next after of fresh copies room gets is version now_works no_fault two stands = record {
     after = next ∷ after;
     stands = stands;
     step = step_to (Appended next.inode next.version) copies.copies (next ∷ []) (next ∷ after) (ap (λ (nodes : List Node). next ∷ nodes) copies.joined) (λ e. cc) copies.true_copies room
-        (of.new, decision_is past old q known ∙ of.decided, fresh, ap (λ (m : Node). m.inode) (sym is), ap next_version (sym copies.joined) ∙ version, ap (λ (m : Node). m ∷ []) is);
+        (of.new, decision_is past old q known ∙ of.decided, fresh, ap (λ (m : Node). m.inode) (sym is), ap next_version (sym copies.joined) ∙ version, ap (λ (m : Node). m ∷ []) is, gets.0, sym copies.joined ∙ gets.1);
     own = refl;
     fails = now_works;
     faults = λ w. no_fault;
@@ -239,9 +236,9 @@ module _ (past : List Node) (old new : CoreState) (q : Request) (works : old.fai
   -- room couldn't be made
   pub make_stopped : (P : Node → Type 0) (node : Node) (cause : Cause) (after : List Node) (of : IsNodeOf old q node) → ((m : Node) → P m → IsInHand (turn_of past old new) q after m × MayFollow after m)
       → is_fresh (with of.new 0 0 0) ≡ true → had_room (turn_of past old new) of.new ≡ false → OnlyCopies past after → RefusedWith P cause after old new
-      → (cause ≡ causes.NoSpace → 2 ≤ (layout_in old.image old.index).erased → heavy old.index.sectors old.index.sector_size ≤ weight past) → (cause ≡ causes.NoSpace → KeepsTwo old new) → HasAnswered past old new q (Refused cause) None
-  make_stopped P node cause after of in_hand fresh none copies r bound two =
-      let step : IsStep (turn_of past old new) q (Refused cause) after = subst (IsStep (turn_of past old new) q (Refused cause)) (sym copies.joined) (by_cause cause r bound) in
+      → (cause ≡ causes.NoSpace → 2 ≤ (layout_in old.image old.index).erased → heavy old.index.sectors old.index.sector_size ≤ weight past) → (cause ≡ causes.NoSpace → gets_room (turn_of past old new) of.new ≡ false) → (cause ≡ causes.NoSpace → KeepsTwo old new) → HasAnswered past old new q (Refused cause) None
+  make_stopped P node cause after of in_hand fresh none copies r bound full two =
+      let step : IsStep (turn_of past old new) q (Refused cause) after = subst (IsStep (turn_of past old new) q (Refused cause)) (sym copies.joined) (by_cause cause r bound full) in
       record {
         after = after;
         stands = refused_past P after (λ m h. (in_hand m h).1) cause old new r;
@@ -259,16 +256,16 @@ module _ (past : List Node) (old new : CoreState) (q : Request) (works : old.fai
       made : MakesRoom (turn_of past old new) q
       made = (of.new, no_room, fresh)
 
-      by_cause : (c : Cause) → RefusedWith P c after old new → (c ≡ causes.NoSpace → 2 ≤ (layout_in old.image old.index).erased → heavy old.index.sectors old.index.sector_size ≤ weight past)
+      by_cause : (c : Cause) → RefusedWith P c after old new → (c ≡ causes.NoSpace → 2 ≤ (layout_in old.image old.index).erased → heavy old.index.sectors old.index.sector_size ≤ weight past) → (c ≡ causes.NoSpace → gets_room (turn_of past old new) of.new ≡ false)
           → IsStep (turn_of past old new) q (Refused c) (copies.copies ++ past)
-      by_cause c r bound =
+      by_cause c r bound full =
           by_refusal P after old new
-          (λ c. (c ≡ causes.NoSpace → 2 ≤ (layout_in old.image old.index).erased → heavy old.index.sectors old.index.sector_size ≤ weight past) → IsStep (turn_of past old new) q (Refused c) (copies.copies ++ past))
-          (λ w spent bound. step_of (Refused causes.VersionsSpent) copies.copies [] (λ e. cc) copies.true_copies (inr made) ((of.takes_node, inr (made, ap next_version (sym copies.joined) ∙ spent)), refl))
-          (λ w bound. step_of (Refused causes.Memory) copies.copies [] (λ e. cc) copies.true_copies (inr made) (tt, refl))
-          (λ w bound. step_of (Refused causes.NoSpace) copies.copies [] (λ e. cc) copies.true_copies (inr made) ((of.takes_node, (of.new, no_room, (λ f two. bound refl two))), refl))
-          (λ d bound. step_of (Refused causes.Device) copies.copies [] (λ e. cc) copies.true_copies (inr made) (lt-ltb old.faults new.faults d.faults, refl))
-          c r bound
+          (λ c. (c ≡ causes.NoSpace → 2 ≤ (layout_in old.image old.index).erased → heavy old.index.sectors old.index.sector_size ≤ weight past) → (c ≡ causes.NoSpace → gets_room (turn_of past old new) of.new ≡ false) → IsStep (turn_of past old new) q (Refused c) (copies.copies ++ past))
+          (λ w spent bound full. step_of (Refused causes.VersionsSpent) copies.copies [] (λ e. cc) copies.true_copies (inr made) ((of.takes_node, inr (made, ap next_version (sym copies.joined) ∙ spent)), refl))
+          (λ w bound full. step_of (Refused causes.Memory) copies.copies [] (λ e. cc) copies.true_copies (inr made) ((of.takes_node, (of.new, no_room.decided)), refl))
+          (λ w bound full. step_of (Refused causes.NoSpace) copies.copies [] (λ e. cc) copies.true_copies (inr made) ((of.takes_node, (of.new, no_room, (λ f two. bound refl two), (λ f. full refl))), refl))
+          (λ d bound full. step_of (Refused causes.Device) copies.copies [] (λ e. cc) copies.true_copies (inr made) (lt-ltb old.faults new.faults d.faults, refl))
+          c r bound full
 
 -- the answer in other words
 pub answers_same : (past : List Node) (old new : CoreState) (q : Request) (a b : Answered) → a ≡ b → HasAnswered past old new q b.outcome b.node → HasAnswered past old new q a.outcome a.node

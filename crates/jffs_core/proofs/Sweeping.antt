@@ -86,6 +86,7 @@ skipped past source c works known dead = record {
   added = record { copies = []; true_copies = tt; joined = refl };
   stands = record { works = works; faults = refl; represents = known };
   turn = ap (λ t. cond t (with_copy c.index.sector_size source (gc_state past c)) (gc_state past c)) (sym dead);
+  room = ap (λ t. not t || has_room rooms.Copy (record_len (copied past source)) (layout_in c.image c.index).free (layout_in c.image c.index).erased) dead;
   counted = omega arith;
 }
 
@@ -122,6 +123,7 @@ module _ (past : List Node) (c : CoreState) (source : Node) (version : ℕ) (kno
   copy_put new node is short h =
       let h2 : HasPut rooms.Copy (copied past source) c new = subst (λ m. HasPut rooms.Copy m c new) is h in
       let s = gc_state past c in
+      let log = layout_in c.image c.index in
       record {
         after = copied past source ∷ past;
         added = record {
@@ -131,6 +133,7 @@ module _ (past : List Node) (c : CoreState) (source : Node) (version : ℕ) (kno
         };
         stands = record { works = h2.works; faults = h2.faults; represents = h2.represents past known (copy_may short) };
         turn = (λ i. record { past = copied past source ∷ past; log = h2.log i }) ∙ ap (λ t. cond t (with_copy c.index.sector_size source s) s) (sym live);
+        room = ap (λ t. not t || has_room rooms.Copy (record_len (copied past source)) log.free log.erased) live ∙ h2.had_room;
         counted = omega arith;
       }
 

@@ -1,17 +1,19 @@
 -- Room made sector by sector.
-use Rattle.std.proofs.Common.{◌≡◌, ◌⊎◌, inl, inr, ℕ, zero, suc, ◌+◌, ◌≤◌, true, false, cond, List, [], length, refl, sym, ap, ◌∙◌, arith}
+use Rattle.std.proofs.Common.{◌≡◌, ◌⊎◌, inl, inr, ℕ, zero, suc, ◌+◌, ◌≤◌, Bool, true, false, ◌&&◌, ◌||◌, cond, List, [], length, refl, sym, ap, ◌∙◌, arith}
+use Rattle.std.proofs.lemmas.Bool.{or_left}
 use Rattle.jffs_node.specs.declared.node.Node.{Node}
 use Rattle.jffs_tree.specs.declared.wish.Cause.{Cause}
 use Rattle.jffs_log.specs.LogIndex.{HasSizes, layout_in}
-use Rattle.jffs_log.specs.Cleaning.{GcState, cleaned, fresh_has_room, room_made}
+use Rattle.jffs_log.specs.Cleaning.{GcState, cleaned, copies_have_room, fresh_has_room, oldest_records, room_made}
 use Rattle.jffs_log.proofs.Copied.{copies_take_over, unmounts_are_dead}
 use Rattle.jffs_log.proofs.Bound.{cleaning_has_room, no_room}
 use Rattle.jffs_core.specs.CoreState.{CoreState, SameAnswers}
 use Rattle.jffs_core.specs.Run.{OnlyCopies}
 use Rattle.jffs_core.specs.History.{IsOwnCopy}
 use Rattle.jffs_core.specs.Past.{RepresentsWorking, gc_state}
+use Rattle.jffs_core.specs.Step.{room_can_be_made}
 use Rattle.jffs_core.specs.Calls.{WorksOn}
-use Rattle.jffs_core.specs.Cleaning.{HasCleaned, HasMadeRoom, CleaningStopped}
+use Rattle.jffs_core.specs.Cleaning.{HasCleaned, HasMadeRoom, MakingStopped, SectorStopped}
 use Rattle.jffs_core.proofs.Lawful.{copies_along}
 use Rattle.jffs_core.proofs.Refusing.{refused_along}
 use Rattle.jffs_core.proofs.Full.{sizes_low}
@@ -21,6 +23,7 @@ pub record HasTurned (len left : ℕ) (past after : List Node) (old now : CoreSt
   pub copies : OnlyCopies past after
   pub stands : WorksOn after old now
   pub turn : room_made old.index.sector_size len left (gc_state after now) ≡ room_made old.index.sector_size len (length (layout_in old.image old.index).sectors) (gc_state past old)
+  pub room : room_can_be_made old.index.sector_size len (length (layout_in old.image old.index).sectors) (gc_state past old) ≡ room_can_be_made old.index.sector_size len left (gc_state after now)
   pub two : 2 ≤ (layout_in old.image old.index).erased → 2 ≤ (layout_in now.image now.index).erased
 
 pub record IsTurning (len left : ℕ) (old now : CoreState) : Type 0 where
@@ -42,6 +45,7 @@ turning_begins len left c works is few = record {
       copies = record { copies = []; true_copies = tt; joined = refl };
       stands = record { works = works; faults = refl; represents = known };
       turn = ap (λ k. room_made c.index.sector_size len k (gc_state past c)) is;
+      room = ap (λ k. room_can_be_made c.index.sector_size len k (gc_state past c)) (sym is);
       two = λ e. e;
     },
   );
@@ -49,12 +53,23 @@ turning_begins len left c works is few = record {
 
 -- it stops where there is room, or after the last
 pub turning_ends : (len left : ℕ) (past after : List Node) (old now : CoreState) → HasTurned len left past after old now → (left ≡ 0) ⊎ (fresh_has_room len (gc_state after now) ≡ true) → HasMadeRoom len past after old now
-turning_ends len left past after old now h why = record { copies = h.copies; stands = h.stands; turn = sym (stopped left why) ∙ h.turn; two = h.two }
+turning_ends len left past after old now h why = record { copies = h.copies; stands = h.stands; turn = sym (stopped left why) ∙ h.turn; room = h.room ∙ settled left why; two = h.two }
   where
     stopped : (k : ℕ) → (k ≡ 0) ⊎ (fresh_has_room len (gc_state after now) ≡ true) → room_made old.index.sector_size len k (gc_state after now) ≡ gc_state after now
     stopped zero w = refl
     stopped (suc k) (inl e) = absurd (omega arith)
     stopped (suc k) (inr e) = ap (λ t. cond t (gc_state after now) (room_made old.index.sector_size len k (cleaned old.index.sector_size (gc_state after now)))) e
+
+    settled : (k : ℕ) → (k ≡ 0) ⊎ (fresh_has_room len (gc_state after now) ≡ true) → room_can_be_made old.index.sector_size len k (gc_state after now) ≡ fresh_has_room len (gc_state after now)
+    settled zero w = refl
+    settled (suc k) (inl e) = absurd (omega arith)
+    settled (suc k) (inr e) = or_left (fresh_has_room len (gc_state after now)) _ e ∙ sym e
+
+-- without room yet, all hangs on the oldest sector
+one_more_turn : (z len left : ℕ) (s : GcState) (fits : Bool) → fresh_has_room len s ≡ false → copies_have_room z (oldest_records s.log.sectors) s ≡ fits → room_can_be_made z len (suc left) s ≡ (fits && room_can_be_made z len left (cleaned z s))
+one_more_turn z len left s fits none is =
+    ap (λ t. t || (copies_have_room z (oldest_records s.log.sectors) s && room_can_be_made z len left (cleaned z s))) none
+    ∙ ap (λ t. t && room_can_be_made z len left (cleaned z s)) is
 
 pub turning_goes_on : (len left copies : ℕ) (past after later : List Node) (old middle new : CoreState) → HasSizes old.index.sectors old.index.sector_size middle.index → HasTurned len (suc left) past after old middle → fresh_has_room len (gc_state after middle) ≡ false
     → 2 ≤ length (layout_in middle.image middle.index).sectors → HasCleaned after later copies middle new → HasTurned len left past later old new
@@ -66,6 +81,7 @@ turning_goes_on len left copies past after later old middle new sizes h none sev
       copies = copies_along past after later h.copies c.added;
       stands = record { works = c.stands.works; faults = c.stands.faults ∙ h.stands.faults; represents = c.stands.represents };
       turn = ap (room_made z len left) same ∙ sym (ap (λ t. cond t s (room_made z len left (cleaned z s))) none) ∙ h.turn;
+      room = h.room ∙ one_more_turn z len left s true none (ap (λ y. copies_have_room y (oldest_records s.log.sectors) s) sizes.1 ∙ c.room) ∙ ap (room_can_be_made z len left) (sym same);
       two = λ e.
           let k = h.stands.represents in
           let low = sizes_low middle.index.sectors middle.index.sector_size k.history.sizes in
@@ -75,12 +91,21 @@ turning_goes_on len left copies past after later old middle new sizes h none sev
           omega arith;
     }
 
-pub turning_stopped : (len left : ℕ) (past after later : List Node) (cause : Cause) (old middle new : CoreState) → HasTurned len left past after old middle → CleaningStopped cause after later middle new → CleaningStopped cause past later old new
-turning_stopped len left past after later cause old middle new h c = record {
-  copies = copies_along past after later h.copies c.copies;
-  stands = refused_along (IsOwnCopy later) cause later old middle new h.stands.faults c.stands;
-  no_room = λ e two. c.no_room e (h.two two);
-}
+pub turning_stopped : (len left : ℕ) (past after later : List Node) (cause : Cause) (old middle new : CoreState) → HasSizes old.index.sectors old.index.sector_size middle.index → HasTurned len (suc left) past after old middle → fresh_has_room len (gc_state after middle) ≡ false
+    → SectorStopped cause after later middle new → MakingStopped len cause past later old new
+turning_stopped len left past after later cause old middle new sizes h none one =
+    let z = old.index.sector_size in
+    let s = gc_state after middle in
+    let c = one.stopped in
+    let wants = one.wants in
+    record {
+      stopped = record {
+        copies = copies_along past after later h.copies c.copies;
+        stands = refused_along (IsOwnCopy later) cause later old middle new h.stands.faults c.stands;
+        no_room = λ e two. c.no_room e (h.two two);
+      };
+      none = λ e. h.room ∙ one_more_turn z len left s false none (ap (λ y. copies_have_room y (oldest_records s.log.sectors) s) sizes.1 ∙ wants.at_turn e);
+    }
 
 -- a log without room for a fresh record has several sectors
 pub full_has_several : (len : ℕ) (after : List Node) (c : CoreState) → RepresentsWorking after c → fresh_has_room len (gc_state after c) ≡ false → 2 ≤ length (layout_in c.image c.index).sectors

@@ -44,6 +44,7 @@ abbrev pub turn_of : List Node → CoreState → CoreState → Turn
 turn_of past old new = record {
   volume = record { sectors = old.index.sectors; sector_size = old.index.sector_size };
   past = past;
+  log = (layout_in old.image old.index).sectors;
   free = (layout_in old.image old.index).free;
   erased = (layout_in old.image old.index).erased;
   clean = old.clean;

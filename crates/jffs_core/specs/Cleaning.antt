@@ -7,21 +7,23 @@ use Rattle.jffs_tree.specs.declared.wish.Cause.TheVariants.{VersionsSpent, NoSpa
 use Rattle.jffs_tree.specs.Origin.{is_live}
 use Rattle.jffs_tree.specs.Laws.{NoneLive}
 use Rattle.jffs_log.specs.LogIndex.{layout_in, lives_in, oldest_in}
-use Rattle.jffs_log.specs.Cleaning.{Layout, handled, handled_each, copy_has_room, copies_have_room, oldest_records, cleaned, erase_oldest, room_made}
+use Rattle.jffs_log.specs.Cleaning.{Layout, handled, handled_each, copy_has_room, copies_have_room, oldest_records, cleaned, erase_oldest, fresh_has_room, room_made}
 use Rattle.jffs_log.specs.RoomLaws.{Among}
 use Rattle.jffs_core.specs.declared.cleaning.Cleaned.{Cleaned}
 use Rattle.jffs_core.specs.declared.cleaning.Cleaned.TheVariants.{Erased, OneSector}
 use Rattle.jffs_core.specs.CoreState.{CoreState}
 use Rattle.jffs_core.specs.Run.{OnlyCopies}
+use Rattle.jffs_core.specs.Step.{room_can_be_made}
 use Rattle.jffs_core.specs.Past.{gc_state, Represents}
 use Rattle.jffs_core.specs.Calls.{WorksOn, RefusedAt, KeepsTwo}
 
--- A record was handled at its turn: copied where it is live, else skipped.
+-- A record was handled at its turn: copied where it is live, and the copy had room, else skipped.
 pub record HasHandled (past : List Node) (source : Node) (copied : Bool) (old new : CoreState) : Type 0 where
   pub after : List Node
   pub added : OnlyCopies past after
   pub stands : WorksOn after old new
   pub turn : gc_state after new ≡ handled old.index.sector_size source (gc_state past old)
+  pub room : copy_has_room source (gc_state past old) ≡ true
   pub counted : length after ≡ (if copied then 1 else 0) + length past
 
 -- A live record wasn't copied.
@@ -35,13 +37,19 @@ pub record HasCopied (nodes past after : List Node) (copies : ℕ) (old new : Co
   pub added : OnlyCopies past after
   pub stands : WorksOn after old new
   pub turn : gc_state after new ≡ handled_each old.index.sector_size nodes (gc_state past old)
+  pub room : copies_have_room old.index.sector_size nodes (gc_state past old) ≡ true
   pub counted : length after ≡ copies + length past
+
+-- whether each copy that cleaning makes of the oldest sector has room at its turn
+abbrev pub copies_would_fit : List Node → CoreState → Bool
+copies_would_fit past c = copies_have_room c.index.sector_size (oldest_records (layout_in c.image c.index).sectors) (gc_state past c)
 
 -- The oldest sector was cleaned: one copy was made for each of its records that was live at its turn, and it was erased.
 pub record HasCleaned (past after : List Node) (copies : ℕ) (old new : CoreState) : Type 0 where
   pub added : OnlyCopies past after
   pub stands : WorksOn after old new
   pub turn : gc_state after new ≡ cleaned old.index.sector_size (gc_state past old)
+  pub room : copies_would_fit past old ≡ true
   pub counted : length after ≡ copies + length past
 
 -- The oldest sector was erased, and the history is the same.
@@ -49,11 +57,12 @@ pub record HasErased (past : List Node) (old new : CoreState) : Type 0 where
   pub stands : WorksOn past old new
   pub log : layout_in new.image new.index ≡ erase_oldest (layout_in old.image old.index)
 
--- Room was made for a fresh record of `len` bytes: copies were added, and the log is as after some cleanings.
+-- Room was made for a fresh record of `len` bytes, if that could be: copies were added, and the log is as after some cleanings.
 pub record HasMadeRoom (len : ℕ) (past after : List Node) (old new : CoreState) : Type 0 where
   pub copies : OnlyCopies past after
   pub stands : WorksOn after old new
   pub turn : gc_state after new ≡ room_made old.index.sector_size len (length (layout_in old.image old.index).sectors) (gc_state past old)
+  pub room : room_can_be_made old.index.sector_size len (length (layout_in old.image old.index).sectors) (gc_state past old) ≡ fresh_has_room len (gc_state after new)
   pub two : KeepsTwo old new
 
 -- Cleaning stopped with this cause. It had no room for a copy only where fewer than two sectors were erased.
@@ -62,9 +71,10 @@ pub record CleaningStopped (cause : Cause) (past after : List Node) (old new : C
   pub stands : RefusedAt cause after old new
   pub no_room : cause ≡ NoSpace → 2 ≤ (layout_in old.image old.index).erased → ⊥
 
--- whether each copy that cleaning makes of the oldest sector has room at its turn
-abbrev pub copies_would_fit : List Node → CoreState → Bool
-copies_would_fit past c = copies_have_room c.index.sector_size (oldest_records (layout_in c.image c.index).sectors) (gc_state past c)
+-- No more room was made for a fresh record of `len` bytes, with this cause: NoSpace only where none could be.
+pub record MakingStopped (len : ℕ) (cause : Cause) (past after : List Node) (old new : CoreState) : Type 0 where
+  pub stopped : CleaningStopped cause past after old new
+  pub none : cause ≡ NoSpace → room_can_be_made old.index.sector_size len (length (layout_in old.image old.index).sectors) (gc_state past old) ≡ false
 
 -- one of these records is live
 abbrev pub OneLives : List Node → List Node → Type 0

@@ -1,4 +1,4 @@
--- What a scan finds after the answer Device.
+-- What a scan finds after the answer Device, of a request and of a cleaning.
 use Rattle.std.specs.Prelude.{◌≡◌, ◌⊎◌, ℕ, false, List, ◌++◌, Ok}
 use Rattle.jffs_node.specs.declared.node.Node.{Node}
 use Rattle.jffs_tree.specs.State.{apply}
@@ -13,6 +13,7 @@ use Rattle.jffs_core.specs.History.{contents}
 use Rattle.jffs_core.specs.Step.{IsNodeFor}
 use Rattle.jffs_core.specs.Past.{Represents}
 use Rattle.jffs_core.specs.Answering.{Answers, turn_of}
+use Rattle.jffs_core.specs.Cleaning.{Stops}
 
 -- A scan finds what the fresh nodes since the mount made of the mounted state, or what one node of this kind makes of that.
 pub record FindsWith (One : Node → Type 0) (mounted past : List Node) (count len : ℕ) (image : List ℕ) : Type 0 where
@@ -26,3 +27,8 @@ pub record FindsWith (One : Node → Type 0) (mounted past : List Node) (count l
 abbrev pub DeviceScansFind : Type 0
 DeviceScansFind = (mounted past : List Node) (old new : CoreState) (q : Request) → Represents mounted past old → (answered : Answers mounted past old new q (Refused Device)) → new.erase_failed ≡ false
     → FindsWith (IsNodeFor (turn_of past old new) q answered.after) mounted past new.index.sectors new.index.sector_size new.image
+
+-- After a cleaning that stopped with Device, but for a failed erase, a scan finds the state before it: the history that is left, or that and one own copy more, makes no other.
+abbrev pub StoppedScansFind : Type 0
+StoppedScansFind = (mounted past : List Node) (old new : CoreState) → Represents mounted past old → Stops mounted past Device old new → new.erase_failed ≡ false
+    → FindsWith (λ n. ⊥) mounted past new.index.sectors new.index.sector_size new.image

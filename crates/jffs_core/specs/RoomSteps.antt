@@ -10,7 +10,7 @@ use Rattle.jffs_line.specs.declared.request.Request.{Request}
 use Rattle.jffs_log.specs.Cleaning.{GcState, handled_each, oldest_records, cleaned, fresh_has_room, room_made, version_after}
 use Rattle.jffs_log.specs.RoomLaws.{IsSound, Holds}
 use Rattle.jffs_core.specs.Run.{OnlyCopies}
-use Rattle.jffs_core.specs.Step.{Turn, IsStep, decision, takes_no_node, had_room, ends_with_unmount}
+use Rattle.jffs_core.specs.Step.{Turn, IsStep, decision, takes_no_node, had_room, session_of, ends_with_unmount}
 
 -- the versions up to here fit 32 bits
 abbrev pub HasVersions : GcState → Type 0
@@ -31,9 +31,7 @@ MakingRoomOnlyCopies = (sectors sector_size len : ℕ) (s : GcState) → 64 ≤ 
 
 -- the session that a request was taken in
 pub record TakenIn (t : Turn) (s : GcState) : Type 0 where
-  pub past : t.past ≡ s.past
-  pub free : t.free ≡ s.log.free
-  pub erased : t.erased ≡ s.log.erased
+  pub session : session_of t ≡ s
   pub clean : t.clean ≡ true → ends_with_unmount t.past ≡ true
   pub standing : t.failed ≡ false
   pub sound : IsSound t.volume.sectors t.volume.sector_size s

@@ -28,7 +28,7 @@ impl<F: Flash> Core<F> {
     ghost use Rattle.jffs_core.specs.CoreState.{SameAnswers};
     ghost use Rattle.jffs_core.specs.Past.{RepresentsWorking, Represents};
     ghost use Rattle.jffs_core.specs.Calls.{RefusedAt};
-    ghost use Rattle.jffs_core.specs.Cleaning.{Cleans, Stops, StopIs, ErasesDead, HasErasedDead, IsDeadOldest, DidClean, HasHandled, CopyStopped, HasCopied, HasErased, HasMadeRoom, CleaningStopped, SectorStopped};
+    ghost use Rattle.jffs_core.specs.Cleaning.{Cleans, Stops, StopIs, ErasesDead, HasErasedDead, IsDeadOldest, DidClean, HasHandled, CopyStopped, HasCopied, HasErased, HasMadeRoom, MakingStopped, SectorStopped};
     ghost use Rattle.jffs_core.specs.Erases.{ErasesAtMost};
     ghost use Rattle.jffs_core.specs.Trees.{KeepsTree};
 
@@ -107,7 +107,7 @@ impl<F: Flash> Core<F> {
     pub(crate) fn make_room(&mut self, len: u32) -> Result<(), Cause>
         requires working { self.old.failed ≡ false }
         ensures made { OnOk result ((past : List Node) → RepresentsWorking past self.old → (after : List Node) × HasMadeRoom len past after self.old self.new) }
-        ensures refused { IfErr result (λ cause. (past : List Node) → RepresentsWorking past self.old → (after : List Node) × CleaningStopped cause past after self.old self.new) }
+        ensures refused { IfErr result (λ cause. (past : List Node) → RepresentsWorking past self.old → (after : List Node) × MakingStopped len cause past after self.old self.new) }
         ensures works { OnOk result (self.new.failed ≡ false) }
         ensures same { SameAnswers self.old self.new }
         ensures sizes { HasSizes self.old.index.sectors self.old.index.sector_size self.new.index }

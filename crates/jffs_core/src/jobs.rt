@@ -1,6 +1,6 @@
 //! What a cleaner needs of the log side: whether it is wanted, and the oldest sector's bytes.
 
-ghost use Rattle.std.specs.Prelude.{◌≡◌, ◌≤◌, false, IfOk, OnOk, IfErr};
+ghost use Rattle.std.specs.Prelude.{◌≡◌, ◌≤◌, List, false, IfOk, OnOk, IfErr};
 ghost use Rattle.jffs_log.specs.Volume.{sector_bytes};
 ghost use Rattle.jffs_core.specs.Jobs.{wants_cleaning, ReadRefused};
 
@@ -9,6 +9,9 @@ use jffs_flash::Flash;
 use jffs_tree::Cause;
 
 impl<F: Flash> Core<F> {
+    ghost use Rattle.jffs_node.specs.declared.node.Node.{Node};
+    ghost use Rattle.jffs_core.specs.Past.{Represents};
+
     /// Whether the device works, the oldest sector isn't the tail, and at most half of the
     /// sectors are erased. Takes no memory.
     pub fn wants_cleaning(&self) -> bool
@@ -28,6 +31,7 @@ impl<F: Flash> Core<F> {
     pub fn oldest_image(&mut self) -> Result<Vec<u8>, Cause>
         requires some { self.old.failed ≡ false → 1 ≤ self.old.index.held }
         ensures same { self.new ≡ record self.old { failed = self.new.failed; faults = self.new.faults } }
+        ensures stands { (mounted past : List Node) → Represents mounted past self.old → Represents mounted past self.new }
         ensures bytes { IfOk result (λ bytes. bytes.items ≡ sector_bytes self.old.index.sector_size self.old.index.first self.old.image) }
         ensures works { OnOk result ((self.new.failed ≡ false) × (self.new ≡ self.old)) }
         ensures refused { IfErr result (λ cause. ReadRefused cause self.old self.new) }

@@ -1,21 +1,11 @@
 //! Laws over the definitions. The functions do nothing: their contracts are the laws.
 
+ghost use Rattle.jffs_core.specs.Erases.{OneIsErased};
 ghost use Rattle.jffs_core.specs.History.{ContentsAreState};
 ghost use Rattle.jffs_core.specs.RoomSteps.{CleaningOnlyCopies, StoppedOnlyCopies, MakingRoomOnlyCopies, NoSpaceIsAStep, UnmountsHaveRoom};
 ghost use Rattle.jffs_core.specs.Past.{ScansFindContents, FailedScansFind};
-ghost use Rattle.jffs_core.specs.Finding.{DeviceScansFind};
-ghost use Rattle.jffs_core.specs.Rows.{Cleaning, LastOfHundred, Numbers, Growing, Spent, Filled};
+ghost use Rattle.jffs_core.specs.Finding.{DeviceScansFind, StoppedScansFind};
 ghost use Rattle.jffs_core.specs.Run.{RunsGoOn, LawfulRunsGrow};
-
-/// Copies, offsets, numbers and weight are as on these examples.
-pub fn examples_are_stepped()
-    ensures cleaning { Cleaning }
-    ensures last { LastOfHundred }
-    ensures numbers { Numbers }
-    ensures growing { Growing }
-    ensures spent { Spent }
-    ensures filled { Filled }
-{}
 
 /// A run that nothing has closed may go on by one request and its answer.
 pub fn runs_go_on()
@@ -38,10 +28,16 @@ pub fn cleaning_is_lawful()
 {}
 
 /// A scan of a core's image finds what the fresh nodes since the mount made. After a failure, but for
-/// that of an erase, it finds that, or that with one node more; and after the answer Device the state
-/// before the request, or that after it.
+/// that of an erase, it finds that, or that with one node more; after the answer Device the state
+/// before the request, or that after it; and after a cleaning that stopped with Device the state before.
 pub fn scans_find_contents()
     ensures works { ScansFindContents }
     ensures failed { FailedScansFind }
     ensures device { DeviceScansFind }
+    ensures stopped { StoppedScansFind }
+{}
+
+/// While a core works, and so after each of its appends and erases, at least one sector is erased.
+pub fn one_sector_is_erased()
+    ensures { OneIsErased }
 {}

@@ -19,7 +19,7 @@ mod mounted;
 pub use answer::{Answer, Answered};
 pub use cleaning::Cleaned;
 pub use laws::{
-    cleaning_is_lawful, contents_are_kept, examples_are_stepped, runs_go_on, scans_find_contents,
+    cleaning_is_lawful, contents_are_kept, one_sector_is_erased, runs_go_on, scans_find_contents,
 };
 pub use mounted::Core;
 

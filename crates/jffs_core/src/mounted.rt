@@ -1,6 +1,7 @@
 //! A mounted device.
 
-ghost use Rattle.std.specs.Prelude.{◌≡◌, IfOk};
+ghost use Rattle.std.specs.Prelude.{◌≡◌, IfOk, IfErr};
+ghost use Rattle.jffs_log.specs.ScanFound.{IsRefused};
 
 use crate::answer::Answer;
 use jffs_flash::Flash;
@@ -53,9 +54,12 @@ impl<F: Flash> Core<F> {
     /// Mounts a device: scans it, whatever it holds, and never writes to it. The core represents
     /// the log that was found, without answers.
     ///
-    /// A refusal has the scan's reason, and hands the device back.
+    /// Each refusal is that of the scan, and hands the device back with the bytes that it had. Its reason is in the
+    /// image and none that is tried before it is, but for `Device`, where a read failed, and `Memory`, where
+    /// allocation failed.
     pub fn mount(alloc: Global, flash: F) -> Result<Core<F>, ScanFault<F>>
         ensures mounted { IfOk result (λ c. IsFresh (F.device flash) c) }
+        ensures refused { IfErr result (λ f. IsRefused (F.device flash) f.why (F.device f.flash)) }
     {
         let Mounted {
             log,

@@ -2,6 +2,7 @@
 
 mod cleaned;
 mod copies;
+mod examples;
 mod faults;
 mod images;
 mod refusals;

@@ -1,12 +1,14 @@
-use Rattle.std.proofs.Common.{◌≡◌, ◌∙◌, false, ◌&&◌, inl, inr, refl, sym, ap, Err}
+use Rattle.std.proofs.Common.{◌≡◌, ◌∙◌, false, ◌&&◌, inl, inr, refl, sym, ap, subst, Result, Err, IsOk}
 use Rattle.std.proofs.lemmas.Result.{err_from_is_err_and}
 use Rattle.std.proofs.lemmas.Bool.{and_left, and_right}
+use Rattle.jffs_tree.specs.declared.wish.Cause.{Cause}
+use Rattle.jffs_tree.specs.declared.wish.NewNode.{NewNode}
 use Rattle.jffs_tree.specs.Decide.{decide_on, is_unmount_wish}
 use Rattle.jffs_core.specs.CoreState.{CoreState}
 use Rattle.jffs_log.specs.Room.{limits as limits_of}
 use Rattle.jffs_core.proofs.Deciding.{decided_cause}
 use Rattle.jffs_core.proofs.Asked.{decision_is}
-use Rattle.jffs_core.proofs.Stepping.{already_closed, decided_against, which_refusal}
+use Rattle.jffs_core.proofs.Stepping.{already_closed, decided_against, granted, which_refusal}
 use Rattle.jffs_core.proofs.mounted.Core.carry_out.Goals as goal
 use Rattle.jffs_core.proofs.mounted.Core.carry_out.Goals.{else-is_unmount-via-then-is_unmount+else-self, else-is_unmount-via-else-is_unmount}
 
@@ -29,5 +31,5 @@ returns-in_err-new-clause-acted g c = let p = err_from_is_err_and c.from_residua
       | inl other ↦
           let is : decide_on v.tree v.limits q.wish ≡ Err _ = sym (c.in_err-new.ensures.decided other ∙ seen) in
           inr (decided_cause past (limits_of v.index.sector_size past) q.wish _ (decision_is past v q known ∙ is), is)
-      | inr memory ↦ inl memory
+      | inr memory ↦ inl (memory, granted (decide_on v.tree v.limits q.wish) (subst (λ (r : Result NewNode Cause). IsOk r) seen (c.in_err-new.ensures.last (ap (λ (k : Cause). Err k) memory))))
     ])

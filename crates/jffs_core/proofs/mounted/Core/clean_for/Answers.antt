@@ -1,18 +1,18 @@
-use Rattle.std.proofs.Common.{◌≡◌, ◌∙◌, false, ◌/◌, ◌≤◌, inl, inr, Some, None, ap, sym, subst}
+use Rattle.std.proofs.Common.{◌≡◌, ◌∙◌, true, false, ◌/◌, ◌≤◌, inl, inr, Some, None, ap, sym, subst}
 use Rattle.std.proofs.lemmas.Result.{err_from_is_err_and}
 use Rattle.jffs_node.specs.declared.node.Node.{Node}
 use Rattle.jffs_tree.specs.declared.wish.Outcome.TheVariants.{Appended}
 use Rattle.jffs_tree.specs.declared.wish.Cause.{Cause}
 use Rattle.jffs_tree.specs.declared.wish.Cause.TheVariants as causes
 use Rattle.jffs_log.specs.declared.room.Room.TheVariants as rooms
-use Rattle.jffs_log.specs.Cleaning.{Layout}
+use Rattle.jffs_log.specs.Cleaning.{GcState, Layout}
 use Rattle.jffs_core.specs.CoreState.{CoreState}
 use Rattle.jffs_core.specs.History.{IsOwnCopy, MayFollow}
 use Rattle.jffs_core.specs.Step.{IsInHand}
 use Rattle.jffs_core.specs.Past.{has_room_for}
 use Rattle.jffs_core.specs.Answering.{turn_of}
 use Rattle.jffs_core.proofs.Refusing.{copies_follow, works_past, refused_along}
-use Rattle.jffs_core.proofs.Asked.{own_in_hand, known_version, may_later, its_makes_room, its_len, its_short, its_full, fresh_is, fresh_room}
+use Rattle.jffs_core.proofs.Asked.{own_in_hand, known_version, may_later, its_makes_room, its_len, its_short, its_full, its_gets, its_past, fresh_is, fresh_room}
 use Rattle.jffs_core.proofs.Full.{turn_was_full}
 use Rattle.jffs_core.proofs.Stepping.{answers_same, make_stopped, later_put_keeps, put_fresh, none_left}
 use Rattle.jffs_core.proofs.mounted.Core.clean_for.Goals as goal
@@ -26,9 +26,11 @@ returns-in_err-make_room-clause-acted g c = let p = err_from_is_err_and c.from_r
     let q = c.args.request.now in
     let n = c.args.node in
     let made = c.in_err-make_room.ensures.refused past known in
-    let stopped = made.1 in
+    let making = made.1 in
+    let stopped = making.stopped in
     make_stopped past _ _ q c.requires.working known (IsOwnCopy made.0) n _ made.0 d (λ m own. (inl own, copies_follow made.0 m own)) (fresh_is past _ q n known d c.requires.no_copy c.requires.no_unmount)
-    (its_full past _ q n known d c.make_room.new.self (fresh_room past _ q n known d c.requires.no_copy c.requires.no_unmount) c.requires.no_room) stopped.copies stopped.stands (λ is two. absurd (stopped.no_room is two)) (λ is two. absurd (stopped.no_room is two))
+    (its_full past _ q n known d c.make_room.new.self (fresh_room past _ q n known d c.requires.no_copy c.requires.no_unmount) c.requires.no_room) stopped.copies stopped.stands (λ is two. absurd (stopped.no_room is two))
+    (λ is. its_gets past _ q n known d c.make_room.new.self c.record_len.result false c.record_len.ensures (making.none is)) (λ is two. absurd (stopped.no_room is two))
 
 pub returns-in_default-clause-acted : goal.returns-in_default-clause-acted
 returns-in_default-clause-acted g c = λ past known.
@@ -40,7 +42,7 @@ returns-in_default-clause-acted g c = λ past known.
     let none = none_left _ c.in_default.not-Some in
     let spent = known_version m.0 c.make_room.new.self None h.stands.represents (ap (λ (v : CoreState). v.limits.next_version) (sym c.self.view_is) ∙ none) in
     make_stopped past _ _ q c.requires.working known (IsOwnCopy m.0) n causes.VersionsSpent m.0 d (λ m2 own. (inl own, copies_follow m.0 m2 own)) (fresh_is past _ q n known d c.requires.no_copy c.requires.no_unmount)
-    (its_full past _ q n known d c.make_room.new.self (fresh_room past _ q n known d c.requires.no_copy c.requires.no_unmount) c.requires.no_room) h.copies (h.stands, spent) (λ is two. absurd (other is)) (λ is. absurd (other is))
+    (its_full past _ q n known d c.make_room.new.self (fresh_room past _ q n known d c.requires.no_copy c.requires.no_unmount) c.requires.no_room) h.copies (h.stands, spent) (λ is two. absurd (other is)) (λ is. absurd (other is)) (λ is. absurd (other is))
   where
     other : ◌≡◌ {A = Cause} causes.VersionsSpent causes.NoSpace → ⊥
     other e = cc
@@ -70,7 +72,10 @@ returns-clause-acted g c = λ past known.
     let fresh = fresh_is past _ q n known d c.requires.no_copy c.requires.no_unmount in
     answers_same past _ _ q c.appended.result (record { outcome = Appended later.inode later.version; node = Some later }) c.appended.ensures
     (put_fresh past _ _ q c.requires.working known n later m.0 d fresh h.copies
-    (inr (its_makes_room past _ q n known d c.append.new.self (fresh_room past _ q n known d c.requires.no_copy c.requires.no_unmount) c.requires.no_room fresh))
+    (inr (its_makes_room past _ q n known d c.append.new.self (fresh_room past _ q n known d c.requires.no_copy c.requires.no_unmount) c.requires.no_room fresh)) (
+      its_gets past _ q n known d c.append.new.self c.record_len.result true c.record_len.ensures (h.room ∙ ap (has_room_for c.make_room.new.self rooms.Fresh) c.record_len.ensures ∙ p.had_room),
+      ap (λ (s : GcState). s.past) h.turn ∙ its_past past _ q n known d c.append.new.self c.record_len.result c.record_len.ensures,
+    )
     (ap (λ (x : Node). record x { version = c.in-Some.version }) d.is)
     (known_version m.0 c.make_room.new.self (Some c.in-Some.version) h.stands.represents next)
     p.works (p.faults ∙ h.stands.faults) (later_put_keeps later c.args.self.now c.make_room.new.self c.append.new.self h.two p) (works_past _ _ p.works (p.represents m.0 h.stands.represents may)))
@@ -95,4 +100,5 @@ returns-in_err-append-clause-acted g c = let p = err_from_is_err_and c.from_resi
     (refused_along (λ x. x ≡ later) _ m.0 _ c.make_room.new.self _ h.stands.faults (r.stands m.0 h.stands.represents may))
     (λ is two. turn_was_full c.record_len.result past m.0 _ c.make_room.new.self known h (subst (λ k. k ≤ c.args.self.now.index.sector_size / 4) (sym len) (its_short past _ q n known d))
     (subst (λ k. has_room_for c.make_room.new.self rooms.Fresh k ≡ false) (sym len) (r.no_room is)) two)
+    (λ is. its_gets past _ q n known d c.append.new.self c.record_len.result false len (h.room ∙ ap (has_room_for c.make_room.new.self rooms.Fresh) len ∙ r.no_room is))
     (λ is two. subst (λ (l : Layout). 2 ≤ l.erased) (sym (r.kept is)) (h.two two))

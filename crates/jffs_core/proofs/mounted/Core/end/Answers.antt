@@ -12,7 +12,7 @@ append-requires-clause-follows g c =
 pub returns-clause-acted : goal.returns-clause-acted
 returns-clause-acted g c = λ past known.
     let d = c.requires.decided in
-    put_unmount past _ _ c.args.request.now c.requires.working known c.args.node d c.requires.unmounts
+    put_unmount past _ _ c.args.request.now c.requires.working known c.args.node d c.requires.unmounts (unmount_room past _ c.args.request.now c.args.node known d c.requires.unmounts)
     (unmount_may past _ c.args.request.now c.args.node known d c.requires.unmounts) c.in_ok-append.ensures.done
 
 pub returns-in_err-append-clause-acted : goal.returns-in_err-append-clause-acted

@@ -20,7 +20,7 @@ returns-clause-acted g c = λ past known.
     let n = c.args.node in
     let h = c.in_ok-append.ensures.done in
     answers_same past _ _ q c.appended.result (record { outcome = Appended n.inode n.version; node = Some n }) c.appended.ensures
-    (put_now past _ _ q c.requires.working known n d (fresh_is past _ q n known d c.requires.no_copy c.requires.no_unmount) h.works h.faults (fresh_put_keeps n _ _ h)
+    (put_now past _ _ q c.requires.working known n d (fresh_is past _ q n known d c.requires.no_copy c.requires.no_unmount) c.requires.room h.works h.faults (fresh_put_keeps n _ _ h)
     (works_past _ _ h.works (h.represents past known (fresh_may past _ q n known d c.requires.no_copy c.requires.no_unmount))))
 
 pub returns-in_err-append-clause-acted : goal.returns-in_err-append-clause-acted

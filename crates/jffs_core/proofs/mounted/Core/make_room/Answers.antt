@@ -36,7 +36,11 @@ returns-in_err-clean_one-clause-refused g c = let p = err_from_is_err_and c.from
     let d = c.loop-turn.invariant.done past known in
     let h = d.1 in
     let s = c.in_err-clean_one.ensures.stopped d.0 h.stands.represents in
-    (s.0, turning_stopped c.args.len _ past d.0 s.0 _ c.args.self.now c.loop-turn.self c.clean_one.new.self h (let one = s.1 in one.stopped))
+    let left : c.held-turn-end.result - c.loop-turn.turn ≡ suc (c.held-turn-end.result - (c.loop-turn.turn + 1)) = omega arith in (
+      s.0,
+      turning_stopped c.args.len _ past d.0 s.0 _ c.args.self.now c.loop-turn.self c.clean_one.new.self c.loop-turn.invariant.sizes (subst (λ j. HasTurned c.args.len j past d.0 c.args.self.now c.loop-turn.self) left h)
+          (sym c.has_room.ensures ∙ c.if-has_room.false) s.1,
+    )
 
 pub loop-turn-preserved : goal.loop-turn-preserved
 loop-turn-preserved g c =

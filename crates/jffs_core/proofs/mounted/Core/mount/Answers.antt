@@ -6,12 +6,10 @@ use Rattle.jffs_core.proofs.mounted.Core.mount.Goals as goal
 pub invariant_of-result : goal.invariant_of-result
 invariant_of-result g c = found_index _ _ _ _ _ c.in_ok-log.ensures.found
 
-pub returns : goal.returns
-returns g c =
+pub returns-clause-mounted : goal.returns-clause-mounted
+returns-clause-mounted g c =
     let m = c.in_ok-log.ensures.found in
     let same = sym m.device_is in
-    record {
-      mounted = found_fresh _ _ m.found
-          (record { sizes = m.found.sizes; image_is = ap (λ (d : Device). d.image) same; faults_are = ap (λ (d : Device). d.faults) same; erases_are = ap (λ (d : Device). d.erase_failed) same })
-          m.works refl c.new.ensures.items;
-    }
+    found_fresh _ _ m.found
+    (record { sizes = m.found.sizes; image_is = ap (λ (d : Device). d.image) same; faults_are = ap (λ (d : Device). d.faults) same; erases_are = ap (λ (d : Device). d.erase_failed) same })
+    m.works refl c.new.ensures.items

@@ -1,8 +1,8 @@
 -- What is found in blocks, and what a slot that is set changes.
-use Rattle.std.proofs.Common.{◌≡◌, ℕ, zero, suc, ◌+◌, ◌*◌, ◌/◌, ◌%◌, ◌<◌, Bool, true, false, cond, eqb, List, [], ◌∷◌, length, replicate, set, Option, Some, None, refl, sym, ap, subst, ◌∙◌, ⊎_elim, arith}
+use Rattle.std.proofs.Common.{◌≡◌, ℕ, zero, suc, ◌+◌, ◌*◌, ◌/◌, ◌%◌, ◌<◌, Bool, true, false, cond, eqb, List, [], ◌∷◌, length, get_or, replicate, set, Option, Some, None, refl, sym, ap, subst, ◌∙◌, ⊎_elim, arith}
 use Rattle.std.specs.declared.cmp.Ordering.{Ordering}
 use Rattle.std.specs.declared.cmp.Ordering.TheVariants.{Less, Equal, Greater}
-use Rattle.std.specs.Ordering.{nat_cmp, is_eq, match_ordering}
+use Rattle.std.specs.Ordering.{is_eq, match_ordering}
 use Rattle.std.specs.Cmp.{IsTotalOrder, nat_cmp_total, on_total, then_total}
 use Rattle.std.specs.Map.{lookup, remove_entry}
 use Rattle.std.specs.BTreeMap.{insert_entry, is_at}
@@ -11,9 +11,10 @@ use Rattle.std.specs.FinMap.Entries as entries
 use Rattle.std.proofs.lemmas.Bool.{true≢false, cond-true, cond-false, cases_eq, cases_lt, eq-eqb, ne_eqb}
 use Rattle.std.proofs.lemmas.List.{nil_from_length, length-replicate, get_or-replicate, get_or_past, get_or-set_same, get_or-set_other}
 use Rattle.jffs_tree.specs.declared.wish.Outcome.{Outcome}
-use Rattle.jffs_index.specs.declared.block.TheConstants.{SLOTS}
+use Rattle.jffs_tree.specs.declared.wish.Outcome.TheVariants.{Closed}
+use Rattle.jffs_index.specs.declared.block.Slots.{Slots}
 use Rattle.jffs_index.specs.Outcomes.{Outcomes, request_cmp, outcome_at, with_outcome, without_outcome}
-use Rattle.jffs_index.specs.Blocks.{Slots, slot, slot_in, Blocks, Entries, with_slot, with_slots, entries_of, outcomes_of}
+use Rattle.jffs_index.specs.Blocks.{slot, slot_in, Blocks, Entries, with_slot, with_slots, entries_of, outcomes_of}
 use Rattle.jffs_index.proofs.Entered.{tied_same, at_itself, back_at}
 
 request_total : IsTotalOrder request_cmp
@@ -38,7 +39,6 @@ get-with_slot m k None q = map.get-remove request_total m k q
 get-with_slot m k (Some outcome) q = map.get-insert request_total m k outcome q
 
 module _ (m : Entries) (k : ℕ × ℕ) (slots : Slots) where
-
   at_slot : (n i : ℕ) → i < n → map.get (with_slots m k slots n) (k.0, k.1 * 64 + i) ≡ slot slots i
   unfolding with_slots
   at_slot zero i below = absurd (omega arith)
@@ -218,18 +218,37 @@ module _ (blocks : Blocks) (w s b : ℕ) (block : b ≡ s / 64) where
   pub none_left : None ≡ lookup (is_at (request_cmp (w, b))) blocks → outcomes_of blocks ≡ without_outcome (outcomes_of blocks) w s
   none_left none = sym (none_removed (w, s) (outcomes_of blocks) (no_outcome none))
 
--- a slot of a block without outcomes
-pub none_at : (n at : ℕ) → slot (replicate n None) at ≡ None
-none_at n at =
-    let none : Option Outcome = None in
-    ⊎_elim (λ below. get_or-replicate n at none none below) (λ past. get_or_past (replicate n none) at none (omega (arith, length-replicate n none))) (cases_lt at n)
+-- a slot that nothing was put into
+pub none_filled : (n at : ℕ) → get_or (replicate n false) at false ≡ false
+none_filled n at =
+    ⊎_elim (λ below. get_or-replicate n at false false below) (λ past. get_or_past (replicate n false) at false (omega (arith, length-replicate n false))) (cases_lt at n)
 
--- the slots after one was set
-pub slot_after : (slots : Slots) (at k : ℕ) (v : Option Outcome) → at < length slots → slot (set slots at v) k ≡ cond (eqb k at) v (slot slots k)
-slot_after slots at k v below = ⊎_elim here other (cases_eq k at)
+abbrev held : Bool → Outcome → Option Outcome
+held filled outcome = cond filled (Some outcome) None
+
+-- an element that is set
+set_here : {A : Type 0} (xs : List A) (at k : ℕ) (x d : A) → at < length xs → k ≡ at → get_or (set xs at x) k d ≡ x
+set_here xs at k x d below same = ap (λ n. get_or (set xs at x) n d) same ∙ get_or-set_same xs at x d below
+
+-- a slot after one was filled
+pub slot_put : (slots : Slots) (at k : ℕ) (outcome : Outcome) → at < length slots.filled → at < length slots.outcomes
+    → held (get_or (set slots.filled at true) k false) (get_or (set slots.outcomes at outcome) k Closed) ≡ cond (eqb k at) (Some outcome) (slot slots k)
+slot_put slots at k outcome filled whole = ⊎_elim here other (cases_eq k at)
   where
-    here : k ≡ at → slot (set slots at v) k ≡ cond (eqb k at) v (slot slots k)
-    here same = ap (slot (set slots at v)) same ∙ get_or-set_same slots at v None below ∙ sym (cond-true _ _ _ (eq-eqb k at same))
+    here : k ≡ at → held (get_or (set slots.filled at true) k false) (get_or (set slots.outcomes at outcome) k Closed) ≡ cond (eqb k at) (Some outcome) (slot slots k)
+    here same = (λ i. held (set_here slots.filled at k true false filled same i) (set_here slots.outcomes at k outcome Closed whole same i)) ∙ sym (cond-true _ _ _ (eq-eqb k at same))
 
-    other : (k ≡ at → ⊥) → slot (set slots at v) k ≡ cond (eqb k at) v (slot slots k)
-    other differ = get_or-set_other slots at k v None differ ∙ sym (cond-false _ _ _ (ne_eqb k at differ))
+    other : (k ≡ at → ⊥) → held (get_or (set slots.filled at true) k false) (get_or (set slots.outcomes at outcome) k Closed) ≡ cond (eqb k at) (Some outcome) (slot slots k)
+    other differ =
+        (λ i. held (get_or-set_other slots.filled at k true false differ i) (get_or-set_other slots.outcomes at k outcome Closed differ i)) ∙ sym (cond-false _ _ _ (ne_eqb k at differ))
+
+-- a slot after one was emptied
+pub slot_cleared : (slots : Slots) (at k : ℕ) → at < length slots.filled
+    → held (get_or (set slots.filled at false) k false) (get_or slots.outcomes k Closed) ≡ cond (eqb k at) None (slot slots k)
+slot_cleared slots at k filled = ⊎_elim here other (cases_eq k at)
+  where
+    here : k ≡ at → held (get_or (set slots.filled at false) k false) (get_or slots.outcomes k Closed) ≡ cond (eqb k at) None (slot slots k)
+    here same = ap (λ b. held b (get_or slots.outcomes k Closed)) (set_here slots.filled at k false false filled same) ∙ sym (cond-true _ _ _ (eq-eqb k at same))
+
+    other : (k ≡ at → ⊥) → held (get_or (set slots.filled at false) k false) (get_or slots.outcomes k Closed) ≡ cond (eqb k at) None (slot slots k)
+    other differ = ap (λ b. held b (get_or slots.outcomes k Closed)) (get_or-set_other slots.filled at k false false differ) ∙ sym (cond-false _ _ _ (ne_eqb k at differ))

@@ -1,16 +1,18 @@
 -- How outcomes are kept: in blocks, each with a slot for every one of some numbers that follow one another.
-use Rattle.std.specs.Prelude.{ℕ, zero, suc, ◌+◌, ◌*◌, List, [], ◌∷◌, Option, Some, None, slice_index_or}
+use Rattle.std.specs.Prelude.{◌≡◌, ℕ, zero, suc, ◌+◌, ◌*◌, false, List, [], ◌∷◌, length, Option, Some, None, slice_index_or, if◌then◌else◌}
 use Rattle.std.specs.FinMap as map
 use Rattle.jffs_tree.specs.declared.wish.Outcome.{Outcome}
+use Rattle.jffs_tree.specs.declared.wish.Outcome.TheVariants.{Closed}
+use Rattle.jffs_index.specs.declared.block.Slots.{Slots}
 use Rattle.jffs_index.specs.declared.block.TheConstants.{SLOTS}
 use Rattle.jffs_index.specs.Outcomes.{Outcomes, request_cmp}
 
-abbrev pub Slots : Type 0
-Slots = List (Option Outcome)
-
 -- what a slot holds
 abbrev pub slot : Slots → ℕ → Option Outcome
-slot slots at = slice_index_or slots at None
+slot slots at = if slice_index_or slots.filled at false then Some (slice_index_or slots.outcomes at Closed) else None
+
+abbrev pub IsWhole : Slots → Type 0
+IsWhole slots = (length slots.filled ≡ SLOTS) × (length slots.outcomes ≡ SLOTS)
 
 -- blocks by their senders and numbers
 abbrev pub Blocks : Type 0

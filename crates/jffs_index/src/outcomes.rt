@@ -10,10 +10,11 @@ use std::marker::Model;
 
 /// For each sender and number the latest outcome, found in logarithmic time.
 ///
-/// The numbers of a sender follow one another, so blocks are full but for each sender's last.
+/// The numbers of a sender follow one another, so all its blocks but the last are full, and an
+/// outcome takes about 14 bytes. A number without neighbours takes a block of its own.
 #[derive(Drop)]
 pub(crate) struct Outcomes {
-    // By the sender and the block's number among those of the sender.
+    // By the sender, and the block's number among those of the sender.
     by_block: BTreeMap<(u16, u32), Block>,
     alloc: Global,
 }
@@ -61,11 +62,11 @@ impl Outcomes {
     {
         let key = (writer, block_of(seq));
         if let Some(block) = self.by_block.get_mut(&key) {
-            block.set(slot_of(seq), Some(outcome));
+            block.put(slot_of(seq), outcome);
             return Ok(());
         }
         let mut block = Block::empty(self.alloc)?;
-        block.set(slot_of(seq), Some(outcome));
+        block.put(slot_of(seq), outcome);
         self.by_block.insert(key, block)?;
         Ok(())
     }
@@ -74,7 +75,7 @@ impl Outcomes {
         ensures { self.new ≡ without_outcome self.old writer seq }
     {
         if let Some(block) = self.by_block.get_mut(&(writer, block_of(seq))) {
-            block.set(slot_of(seq), None);
+            block.clear(slot_of(seq));
         }
     }
 }

@@ -12,12 +12,12 @@ returns c =
     let old = c.self.inside.by_block.entries in
     elim c.match-get_mut.branch [
       | in-Some x ↦
-          let slots = x.set.new.self in
+          let slots = x.clear.new.self in
           let written = c.get_mut.follows.holds slots in
           rw x.self-inside-is
           (outcome_left old (c.get_mut.follows.lender slots).entries w s c.block_of.result x.slot_of.result c.block_of.ensures x.slot_of.ensures slots record {
             block = (written.3 (ap is_some (sym x.in-Some.ensures.value))).0;
-            held = λ i. x.set.ensures i ∙ ap (λ o. cond (eqb i x.slot_of.result) None (slot_in o i)) x.in-Some.ensures.value;
+            held = λ i. x.clear.ensures i ∙ ap (λ o. cond (eqb i x.slot_of.result) None (slot_in o i)) x.in-Some.ensures.value;
           }
           ∙ ap (λ (z : Outcomes). without_outcome z w s) c.self.view_is)
       | in_default x ↦ rw x.self-inside-is

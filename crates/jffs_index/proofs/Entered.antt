@@ -19,12 +19,12 @@ same_request writer seq w s =
 eqb-swap : (a b : ℕ) → eqb a b ≡ eqb b a
 eqb-swap a b = grind (arith, nat_tests)
 
-tied_same : (k q : ℕ × ℕ) → is_eq (request_cmp k q) ≡ true → k ≡ q
+pub tied_same : (k q : ℕ × ℕ) → is_eq (request_cmp k q) ≡ true → k ≡ q
 tied_same k q at =
     let both = and_parts _ _ (sym (same_request k.0 k.1 q.0 q.1) ∙ at) in
     λ i. (eqb-true k.0 q.0 both.0 i, eqb-true k.1 q.1 both.1 i)
 
-at_itself : (k : ℕ × ℕ) → is_eq (request_cmp k k) ≡ true
+pub at_itself : (k : ℕ × ℕ) → is_eq (request_cmp k k) ≡ true
 at_itself k = same_request k.0 k.1 k.0 k.1 ∙ (λ i. eq-eqb k.0 k.0 refl i && eq-eqb k.1 k.1 refl i)
 
 module _ (k q : ℕ × ℕ) (v : Outcome) where
@@ -74,7 +74,7 @@ module _ (k : ℕ × ℕ) (v : Outcome) where
   back_step e es more rest Greater is none =
       ap (λ o. cond (is_eq o) more (e ∷ remove_entry (is_at (request_cmp k)) more)) is ∙ ap (λ (z : Outcomes). e ∷ z) (rest none)
 
-  back_at : (es : Outcomes) → lookup (is_at (request_cmp k)) es ≡ None → remove_entry (is_at (request_cmp k)) (insert_entry request_cmp es k v) ≡ es
+  pub back_at : (es : Outcomes) → lookup (is_at (request_cmp k)) es ≡ None → remove_entry (is_at (request_cmp k)) (insert_entry request_cmp es k v) ≡ es
   back_at [] none = cond-true _ _ _ (at_itself k)
   back_at (e ∷ es) none = back_step e es (insert_entry request_cmp es k v) (back_at es) (request_cmp k e.0) refl none
 

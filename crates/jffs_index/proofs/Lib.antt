@@ -1,4 +1,5 @@
 pub mod Adding
+pub mod Blocks
 pub mod Entered
 pub mod Fronts
 pub mod Kept

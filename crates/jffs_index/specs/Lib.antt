@@ -1,3 +1,4 @@
+pub mod Blocks
 pub mod Books
 pub mod Ends
 pub mod Histories

@@ -1,6 +1,7 @@
 //! The published index: one writer publishes answered requests, and readers look at what was published, with no lock and no wait.
 #![tactic(auto)]
 
+mod block;
 mod inner;
 mod laws;
 mod open;

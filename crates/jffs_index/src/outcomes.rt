@@ -1,16 +1,22 @@
 //! How requests were answered, by their sender and number.
-ghost use Rattle.std.specs.Prelude.{◌≡◌, [], OnOk, OnErr, None};
+ghost use Rattle.std.specs.Prelude.{◌≡◌, ◌/◌, ◌%◌, [], OnOk, OnErr, None};
 ghost use Rattle.jffs_index.specs.Outcomes.{outcome_at, with_outcome, without_outcome};
 
+use crate::block::{Block, SLOTS};
 use jffs_tree::Outcome;
 use std::alloc::{AllocError, Global};
 use std::collections::BTreeMap;
 use std::marker::Model;
 
 /// For each sender and number the latest outcome, found in logarithmic time.
+///
+/// The numbers of a sender follow one another, so all its blocks but the last are full, and an
+/// outcome takes about 14 bytes. A number without neighbours takes a block of its own.
 #[derive(Drop)]
 pub(crate) struct Outcomes {
-    by_request: BTreeMap<(u16, u32), Outcome>,
+    // By the sender, and the block's number among those of the sender.
+    by_block: BTreeMap<(u16, u32), Block>,
+    alloc: Global,
 }
 
 impl Model for Outcomes {
@@ -18,7 +24,9 @@ impl Model for Outcomes {
 
     ghost Value = { Outcomes };
 
-    ghost view = { λ o. o.by_request.entries };
+    ghost use Rattle.jffs_index.specs.Blocks.{outcomes_of};
+
+    ghost view = { λ o. outcomes_of o.by_block.entries };
 }
 
 impl Outcomes {
@@ -26,14 +34,18 @@ impl Outcomes {
         ensures { result ≡ [] }
     {
         Outcomes {
-            by_request: BTreeMap::new(alloc),
+            by_block: BTreeMap::new(alloc),
+            alloc,
         }
     }
 
     pub(crate) fn get(&self, writer: u16, seq: u32) -> Option<Outcome>
         ensures { result ≡ outcome_at self.now writer seq }
     {
-        self.by_request.get(&(writer, seq)).copied()
+        match self.by_block.get(&(writer, block_of(seq))) {
+            Some(block) => block.get(slot_of(seq)),
+            None => None,
+        }
     }
 
     /// Enters an outcome. Only a request that has none yet takes memory; where that is refused
@@ -48,13 +60,36 @@ impl Outcomes {
         ensures refused { OnErr result (self.new ≡ self.old) }
         ensures new { OnErr result (outcome_at self.old writer seq ≡ None) }
     {
-        self.by_request.insert((writer, seq), outcome)?;
+        let key = (writer, block_of(seq));
+        if let Some(block) = self.by_block.get_mut(&key) {
+            block.put(slot_of(seq), outcome);
+            return Ok(());
+        }
+        let mut block = Block::empty(self.alloc)?;
+        block.put(slot_of(seq), outcome);
+        self.by_block.insert(key, block)?;
         Ok(())
     }
 
     pub(crate) fn leave(&mut self, writer: u16, seq: u32)
         ensures { self.new ≡ without_outcome self.old writer seq }
     {
-        self.by_request.remove(&(writer, seq));
+        if let Some(block) = self.by_block.get_mut(&(writer, block_of(seq))) {
+            block.clear(slot_of(seq));
+        }
     }
+}
+
+/// The block that has a number's slot.
+fn block_of(seq: u32) -> u32
+    ensures { result ≡ seq / SLOTS }
+{
+    seq / SLOTS as u32
+}
+
+/// Where in its block a number's slot is.
+fn slot_of(seq: u32) -> usize
+    ensures { result ≡ seq % SLOTS }
+{
+    seq as usize % SLOTS
 }

@@ -1,0 +1,82 @@
+//! The outcomes of requests whose numbers follow one another.
+ghost use Rattle.std.specs.Prelude.{◌≡◌, ◌<◌, ◌==◌, ℕ, IfOk, Some, None, if◌then◌else◌};
+ghost use Rattle.jffs_index.specs.Blocks.{slot};
+
+use jffs_tree::Outcome;
+use std::alloc::{AllocError, Global};
+use std::marker::Model;
+
+/// How many requests a block has a slot for.
+pub(crate) const SLOTS: usize = 64;
+
+/// Which slots hold an outcome, and the outcomes. In one list of `Option`s each would take three
+/// bytes more.
+#[derive(Drop)]
+pub(crate) struct Slots {
+    pub(crate) filled: [bool; SLOTS],
+    pub(crate) outcomes: [Outcome; SLOTS],
+}
+
+/// A slot for each of 64 requests whose numbers follow one another.
+#[derive(Drop)]
+pub(crate) struct Block {
+    slots: Box<Slots>,
+}
+
+impl Model for Block {
+    ghost use Rattle.jffs_index.specs.declared.block.Slots.{Slots};
+
+    ghost Value = { Slots };
+
+    ghost use Rattle.jffs_index.specs.Blocks.{IsWhole};
+
+    ghost view = { λ b. b.slots.value };
+
+    ghost invariant = { λ b. IsWhole b.slots.value };
+}
+
+impl Block {
+    /// A block without an outcome. Takes the memory of all its slots, 13 bytes each.
+    pub(crate) fn empty(alloc: Global) -> Result<Block, AllocError>
+        ensures { IfOk result (λ block. (at : ℕ) → slot block at ≡ None) }
+    {
+        let slots = Slots {
+            filled: [false; SLOTS],
+            outcomes: [Outcome::Closed; SLOTS],
+        };
+        Ok(Block {
+            slots: Box::new(alloc, slots)?,
+        })
+    }
+
+    /// What a slot holds.
+    pub(crate) fn get(&self, at: usize) -> Option<Outcome>
+        requires { at < SLOTS }
+        ensures { result ≡ slot self.now at }
+    {
+        if self.slots.filled[at] {
+            Some(self.slots.outcomes[at])
+        } else {
+            None
+        }
+    }
+
+    /// Puts an outcome into a slot, in place of one that it holds.
+    pub(crate) fn put(&mut self, at: usize, outcome: Outcome)
+        requires { at < SLOTS }
+        ensures { (k : ℕ) → slot self.new k ≡ (if k == at then Some outcome else slot self.old k) }
+    {
+        let slots: &mut Slots = &mut self.slots;
+        slots.filled[at] = true;
+        slots.outcomes[at] = outcome;
+    }
+
+    /// Takes the outcome out of a slot, if it holds one.
+    pub(crate) fn clear(&mut self, at: usize)
+        requires { at < SLOTS }
+        ensures { (k : ℕ) → slot self.new k ≡ (if k == at then None else slot self.old k) }
+    {
+        let slots: &mut Slots = &mut self.slots;
+        slots.filled[at] = false;
+    }
+}

@@ -1,6 +1,7 @@
 """Kills jffs_volume and jffs with SIGKILL at random moments, and reads with the second reader what the file holds then."""
 import os
 import random
+import shutil
 import signal
 import subprocess
 import sys
@@ -13,6 +14,10 @@ WRITE_MAX = SIZE // 4 - 64
 UNFINISHED = "/.put.new"
 NAMES = ["/a", "/b", "/c", "/d"]
 SESSIONS, COMMANDS = 8, 60
+# A loaded tree has these directories, and some of these files.
+FOLDERS = ["/d", "/d/e", "/f"]
+LOADED = ["/a", "/d-", "/d/a", "/d/b", "/d/e/a", "/f/a"]
+LOADS = 25
 # Of so many commands of a script the first ones are run to their end, and the run of the others is killed.
 SCRIPTS, LINES, FIRST = 200, 300, 100
 READER = TOP / "tools/read_volume.py"
@@ -20,10 +25,11 @@ READER = TOP / "tools/read_volume.py"
 
 class Session:
     """A volume in a file, the files that stand on it, and how often a command was killed."""
+    group, steps = "jffs_volume", COMMANDS
 
     def __init__(self, runner, program, seed):
         self.program, self.random, self.killed = program, random.Random(seed), 0
-        self.image = runner.folder / f"kill.{seed}.image"
+        self.image = runner.folder / f"{type(self).__name__}.{seed}.image"
         self.files, self.seconds = {}, 0.01
 
     def call(self, command, *words, data=b"", after=None):
@@ -45,6 +51,18 @@ class Session:
 
     def read(self):
         return read(self.image)
+
+    def begin(self):
+        """Makes the volume, and runs a first command to its end to see how long one takes; why it failed, or None."""
+        status = self.call("format", SECTORS, SIZE)
+        kind, words, data, done = self.first()
+        started = time.monotonic()
+        status = status or self.call(kind, *words, data=data)
+        self.seconds, self.files = time.monotonic() - started, done
+        return None if status == 0 and self.read() == done else f"status {status}"
+
+    def first(self):
+        return "put", [NAMES[0]], b"begun", {NAMES[0]: b"begun"}
 
     def choose(self):
         """A command with its words, its data, and the files once it is done."""
@@ -87,22 +105,96 @@ class Session:
     def settle(self, target, unfinished):
         """Finishes a put that was killed, or takes it back, as its help says."""
         if target in self.files:
-            status = self.call("rm", UNFINISHED)
+            status = self.call("rm", beside(target))
         else:
-            status = self.call("mv", UNFINISHED, target)
+            status = self.call("mv", beside(target), target)
             self.files = {**self.files, target: unfinished}
         return None if status == 0 and self.read() == self.files else f"an unfinished file stays: status {status}"
 
 
+class Loading(Session):
+    """A session that loads trees of the host."""
+    group, steps = "jffs_volume load", LOADS
+
+    def __init__(self, runner, program, seed):
+        super().__init__(runner, program, seed)
+        self.tree = runner.folder / f"load.{seed}"
+
+    def first(self):
+        return "load", [self.tree], b"", dict(self.draw())
+
+    def draw(self):
+        """Makes a tree on the host; its directories and files in the order in which a load takes them."""
+        chosen = [path for path in LOADED if self.random.random() < 0.8]
+        tree = {path: self.random.randbytes(self.random.choice([0, 10, 300, 500])) for path in chosen}
+        entries = sorted({**tree, **dict.fromkeys(FOLDERS)}.items())
+        shutil.rmtree(self.tree, ignore_errors=True)
+        self.tree.mkdir()
+        for path, content in entries:
+            target = self.tree / path[1:]
+            if content is None:
+                target.mkdir()
+            else:
+                target.write_bytes(content)
+        return entries
+
+    def load(self, entries):
+        """Loads the tree to its end; why what is left is wrong, or None."""
+        started = time.monotonic()
+        status, self.files = self.call("load", self.tree), {**self.files, **dict(entries)}
+        self.seconds = time.monotonic() - started
+        return None if status == 0 and self.read() == self.files else f"a whole load: status {status}"
+
+    def step(self):
+        """Loads a tree and kills the load, and then loads it to its end; why what is left is wrong, or None."""
+        entries = self.draw()
+        status = self.call("load", self.tree, after=self.random.uniform(0, 1.2 * self.seconds))
+        self.killed += status == -signal.SIGKILL
+        if status not in (0, -signal.SIGKILL):
+            return f"load ended with status {status}"
+        found = self.read()
+        if found is None:
+            return "no volume is left by load"
+        target = stopped_at(self.files, entries, found)
+        if target is None or status == 0 and found != {**self.files, **dict(entries)}:
+            return f"load left {sorted(found)} of {[path for path, _ in entries]} over {sorted(self.files)}"
+        unfinished = found.pop(beside(target), None)
+        self.files = found
+        return (None if unfinished is None else self.settle(target, unfinished)) or self.load(entries)
+
+
+def beside(target):
+    """The path that a put to this one writes first."""
+    return target.rpartition("/")[0] + UNFINISHED
+
+
+def stopped_at(files, entries, found):
+    """Where a load that was killed had come to: the path whose put has an unfinished file, or an empty one between two
+    entries; None unless the first entries are there, over the files of before, and nothing else but that one."""
+    files = dict(files)
+    for path, content in entries:
+        if found == files:
+            return ""
+        rest = dict(found)
+        unfinished = rest.pop(beside(path), None)
+        if content is not None and unfinished is not None:
+            without = {other: files[other] for other in files if other != path}
+            if rest == files and is_part(unfinished, content) or rest == without and unfinished == content:
+                return path
+        files[path] = content
+    return "" if found == files else None
+
+
 def read(path):
-    """The files on the volume in a file, as the second reader finds them; None where it finds no volume."""
+    """The directories, as None, and files on the volume in a file, as the second reader finds them; None where it finds
+    no volume."""
     with path.open("rb") as image:
         seen = subprocess.run([sys.executable, str(READER), str(SECTORS), str(SIZE)], stdin=image,
                               capture_output=True, text=True, check=False)
     if seen.returncode:
         return None
-    lines = [line.split(" ") for line in seen.stdout.splitlines() if line.startswith("f ")]
-    return {path: bytes.fromhex("" if text == "-" else text) for _, path, _, text in lines}
+    lines = [line.split(" ") for line in seen.stdout.splitlines() if line[:2] in ("d ", "f ") and line != "d /"]
+    return {words[1]: bytes.fromhex(words[3].strip("-")) if words[0] == "f" else None for words in lines}
 
 
 def script(seed):
@@ -206,17 +298,14 @@ def kills(runner):
     if not program:
         return
 
-    def play(seed):
-        session = Session(runner, program, seed)
-        status = session.call("format", SECTORS, SIZE)
-        runner.tally.add(f"kills {seed}, format", None if status == 0 else f"status {status}")
-        started = time.monotonic()
-        session.call("put", NAMES[0], data=b"begun")
-        session.seconds, session.files = time.monotonic() - started, {NAMES[0]: b"begun"}
-        for number in range(COMMANDS // runner.options.thin):
-            runner.tally.add(f"kills {seed}, command {number}", session.step())
-        runner.tally.count("jffs_volume", session.killed)
+    def play(make, seed):
+        session = make(runner, program, seed)
+        runner.tally.add(f"{make.group} {seed}, begin", session.begin())
+        for number in range(make.steps // runner.options.thin):
+            runner.tally.add(f"{make.group} {seed}, command {number}", session.step())
+        runner.tally.count(make.group, session.killed)
 
-    runner.each(range(SESSIONS), play)
+    for make in (Session, Loading):
+        runner.each(range(SESSIONS), lambda seed: play(make, seed))
     kill_scripts(runner)
     runner.tally.tell("commands killed", "sessions")

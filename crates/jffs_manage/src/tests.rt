@@ -1,7 +1,9 @@
 //! Calls of the program, each with its status and what it writes.
 
 mod faults;
+mod images;
 mod maps;
+mod texts;
 mod trees;
 
 use crate::run_volume;

@@ -1,0 +1,118 @@
+//! Images that no command leaves, written by hand from the format's page.
+
+use super::plays;
+use std::alloc::Global;
+use std::fs;
+use std::test::Fail;
+
+/// The record of a directory with the name `d`.
+fn directory(inode: u32, parent: u32, version: u32) -> [u8; 64] {
+    let mut record = [0u8; 64];
+    record[..8].copy_from_slice(b"JFF1\x02\x00\x01\x00");
+    record[8..12].copy_from_slice(&inode.to_be_bytes());
+    record[12..16].copy_from_slice(&parent.to_be_bytes());
+    record[16..20].copy_from_slice(&version.to_be_bytes());
+    record[35] = 1;
+    record[44] = b'd';
+    record
+}
+
+/// What an erased sector begins with.
+const FREE: [u8; 64] = [0xFF; 64];
+
+/// The image of sectors of 1,024 bytes that begin with these bytes, and are erased after them.
+fn image_of(alloc: Global, sectors: &[[u8; 64]]) -> Result<Vec<u8>, Fail> {
+    let mut image = Vec::new(alloc);
+    for sector in sectors {
+        image.extend_from_slice(sector)?;
+        for _ in 64..1024 {
+            image.push(0xFFu8)?;
+        }
+    }
+    Ok(image)
+}
+
+#[test]
+fn numbers_that_are_spent_have_their_texts(rt: HostRuntime) -> Result<(), Fail> {
+    let spent = directory(2, 1, u32::MAX);
+    let image = image_of(rt.alloc(), &[spent, FREE, FREE, FREE, FREE, FREE])?;
+    fs::write(&rt, "n.image", image)?;
+    plays(
+        &rt,
+        &[
+            ("check n.image", "", 0, "volume unclean, 1 records\n"),
+            ("ls n.image", "", 0, "d d\n"),
+            (
+                "mkdir n.image /e",
+                "",
+                4,
+                "jffs_volume: n.image: /e: no version is left\n",
+            ),
+            (
+                "rm n.image /d",
+                "",
+                4,
+                "jffs_volume: n.image: /d: no version is left\n",
+            ),
+        ],
+    )?;
+    let spent = directory(u32::MAX, 1, 1);
+    let image = image_of(rt.alloc(), &[spent, FREE, FREE, FREE, FREE, FREE])?;
+    fs::write(&rt, "n.image", image)?;
+    plays(
+        &rt,
+        &[
+            (
+                "mkdir n.image /e",
+                "",
+                4,
+                "jffs_volume: n.image: /e: no inode number is left\n",
+            ),
+            (
+                "put n.image /e",
+                "text",
+                4,
+                "jffs_volume: n.image: /e: no inode number is left\n",
+            ),
+            ("mv n.image /d /e", "", 0, ""),
+            ("ls n.image", "", 0, "d e\n"),
+        ],
+    )?;
+    fs::remove_file(&rt, "n.image")?;
+    Ok(())
+}
+
+/// A sector whose one byte 0 stands before an open gate is torn: no record, and not erased.
+#[test]
+fn each_image_that_is_no_volume_has_its_text(rt: HostRuntime) -> Result<(), Fail> {
+    let mut torn = FREE;
+    torn[0] = 0;
+    let (second, lost, older) = (directory(2, 1, 2), directory(9, 5, 1), directory(2, 5, 1));
+    for (sectors, wanted) in [
+        (
+            [torn, torn, torn, torn, torn, torn],
+            "jffs_volume: w.image: no volume: no sector is erased\n",
+        ),
+        (
+            [torn, FREE, torn, FREE, FREE, FREE],
+            "jffs_volume: w.image: no volume: the erased sectors are scattered\n",
+        ),
+        (
+            [second, second, FREE, FREE, FREE, FREE],
+            "jffs_volume: w.image: no volume: the versions of the log don't rise\n",
+        ),
+        (
+            [lost, FREE, FREE, FREE, FREE, FREE],
+            "jffs_volume: w.image: no volume: the nodes of the log make no tree\n",
+        ),
+        (
+            [FREE, FREE, older, FREE, FREE, FREE],
+            "jffs_volume: w.image: no volume: the record at byte 0 of sector 2 is bad: Size\n",
+        ),
+    ] {
+        fs::write(&rt, "w.image", image_of(rt.alloc(), &sectors)?)?;
+        plays(&rt, &[("check w.image --sector-size 1024", "", 3, wanted)])?;
+    }
+    fs::remove_file(&rt, "w.image")?;
+    Ok(())
+}

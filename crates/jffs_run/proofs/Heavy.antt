@@ -30,7 +30,7 @@ which_want causes.Memory t q copies n why decided other = tt
 which_want causes.Device t q copies n why decided other = tt
 which_want causes.Failed t q copies n why decided other = tt
 which_want causes.NoSpace t q copies n why decided other = absurd (other refl)
-which_want _ t q copies n why decided other = absurd (let both = sym why.0.1 ∙ decided in cc)
+which_want _ t q copies n why decided other = absurd (let both = sym why.1 ∙ decided in cc)
 
 pub space_is_sure : SpaceIsSure
 space_is_sure before start account fresh run first later r two are keep =

@@ -1,4 +1,5 @@
-//! The program `jffs`: a script in a file or on standard input, what became of it on standard output. With
+//! The program `jffs`: a script in a file or on standard input, what became of it on standard
+//! output. With
 //! `--volume FILE` the volume stays in that file.
 #![tactic(auto)]
 

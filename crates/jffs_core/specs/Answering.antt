@@ -1,5 +1,6 @@
 -- One request, one answer.
-use Rattle.std.specs.Prelude.{◌≡◌, ℕ, ◌<◌, ◌^◌, Bool, true, false, ◌&&◌, ◌||◌, nat_lt, List, [], ◌∷◌, ◌++◌, Option, Some, None, Result, Ok, Err}
+use Rattle.std.specs.Prelude.{◌≡◌, ℕ, ◌<◌, ◌^◌, Bool, true, false, ◌&&◌, ◌||◌, nat_lt, List, []}
+use Rattle.std.specs.Prelude.{◌∷◌, ◌++◌, Option, Some, None, Result, Ok, Err}
 use Rattle.jffs_node.specs.declared.node.Node.{Node}
 use Rattle.jffs_tree.specs.declared.wish.Cause.{Cause}
 use Rattle.jffs_tree.specs.declared.wish.Cause.TheVariants.{VersionsSpent, Memory, Device}
@@ -18,7 +19,8 @@ use Rattle.jffs_core.specs.Step.{Turn, IsStep, IsInHand}
 use Rattle.jffs_core.specs.Nodes.{listed}
 use Rattle.jffs_core.specs.Calls.{KeepsTwo}
 
--- the node that was decided on for the request, with the next version, by a core that represents some history
+-- the node that was decided on for the request, with the next version, by a core that represents
+-- some history
 pub record IsNodeOf (c : CoreState) (q : Request) (node : Node) : Type 0 where
   pub past : List Node
   pub known : RepresentsWorking past c
@@ -52,8 +54,12 @@ turn_of past old new = record {
   device_faulted = nat_lt old.faults new.faults;
 }
 
--- The answer is a lawful step from this history to another, which the core has then, and this node is what it appended for the request itself. The core has failed exactly where the answer is Device or Failed, and while it works the device failed no call. After Device only the node in hand may stand besides that history.
-pub record HasAnswered (past : List Node) (old new : CoreState) (q : Request) (o : Outcome) (node : Option Node) : Type 0 where
+-- The answer is a lawful step from this history to another, which the core has then, and this node
+-- is what it appended for the request itself. The core has failed exactly where the answer is
+-- Device or Failed, and while it works the device failed no call. After Device only the node in
+-- hand may stand besides that history.
+pub record HasAnswered (past : List Node) (old new : CoreState) (q : Request) (o : Outcome)
+    (node : Option Node) : Type 0 where
   pub after : List Node
   pub stands : RepresentsPast after new
   pub step : IsStep (turn_of past old new) q o after
@@ -69,7 +75,8 @@ HasActed past old new q (Ok a) = HasAnswered past old new q a.outcome a.node
 HasActed past old new q (Err cause) = HasAnswered past old new q (Refused cause) None
 
 -- the same of the history since a mount, but for the node
-pub record Answers (mounted past : List Node) (old new : CoreState) (q : Request) (o : Outcome) : Type 0 where
+pub record Answers (mounted past : List Node) (old new : CoreState) (q : Request) (o : Outcome) :
+    Type 0 where
   pub after : List Node
   pub stands : Represents mounted after new
   pub step : IsStep (turn_of past old new) q o after
@@ -79,7 +86,8 @@ pub record Answers (mounted past : List Node) (old new : CoreState) (q : Request
   pub two : keeps_two o ≡ true → KeepsTwo old new
 
 -- the answer with the node that was appended for the request itself
-pub record AnswersWith (mounted past : List Node) (old new : CoreState) (q : Request) (o : Outcome) (node : Option Node) : Type 0 where
+pub record AnswersWith (mounted past : List Node) (old new : CoreState) (q : Request) (o : Outcome)
+    (node : Option Node) : Type 0 where
   pub answers : Answers mounted past old new q o
   pub own : answers.step.own ≡ listed node
 
@@ -91,4 +99,8 @@ is_closed _ = false
 -- one answer more, and nothing else
 abbrev pub KeepsAnswer : ℕ → ℕ → Outcome → CoreState → CoreState → Type 0
 KeepsAnswer writer seq o old new =
-    new ≡ record old { answers = old.answers ++ record { writer = writer; seq = seq; outcome = o } ∷ []; closed = old.closed || is_closed o }
+    new ≡ record old {
+      answers = old.answers
+          ++ record { writer = writer; seq = seq; outcome = o } ∷ [];
+      closed = old.closed || is_closed o;
+    }

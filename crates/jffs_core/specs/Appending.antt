@@ -27,11 +27,14 @@ pub record HasPut (room : Room) (n : Node) (old new : CoreState) : Type 0 where
   pub works : new.failed ≡ false
   pub faults : new.faults ≡ old.faults
   pub had_room : has_room_for old room (record_len n) ≡ true
-  pub log : layout_in new.image new.index ≡ put old.index.sector_size room n (layout_in old.image old.index)
-  pub represents : (past : List Node) → RepresentsWorking past old → MayPut past old.index.sector_size room n → RepresentsWorking (n ∷ past) new
+  pub log : layout_in new.image new.index
+      ≡ put old.index.sector_size room n (layout_in old.image old.index)
+  pub represents : (past : List Node) → RepresentsWorking past old
+      → MayPut past old.index.sector_size room n → RepresentsWorking (n ∷ past) new
 
 -- why a node wasn't put
 pub record PutRefused (room : Room) (n : Node) (cause : Cause) (old new : CoreState) : Type 0 where
-  pub stands : (past : List Node) → RepresentsWorking past old → MayPut past old.index.sector_size room n → RefusedWith (λ m. m ≡ n) cause past old new
+  pub stands : (past : List Node) → RepresentsWorking past old
+      → MayPut past old.index.sector_size room n → RefusedWith (λ m. m ≡ n) cause past old new
   pub no_room : cause ≡ NoSpace → has_room_for old room (record_len n) ≡ false
   pub kept : cause ≡ NoSpace → layout_in new.image new.index ≡ layout_in old.image old.index

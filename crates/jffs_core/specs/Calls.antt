@@ -35,4 +35,5 @@ RefusedAt cause after old new = RefusedWith (IsOwnCopy after) cause after old ne
 
 -- where two sectors were erased, two are
 abbrev pub KeepsTwo : CoreState → CoreState → Type 0
-KeepsTwo old new = 2 ≤ (layout_in old.image old.index).erased → 2 ≤ (layout_in new.image new.index).erased
+KeepsTwo old new =
+    2 ≤ (layout_in old.image old.index).erased → 2 ≤ (layout_in new.image new.index).erased

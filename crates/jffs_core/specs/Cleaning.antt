@@ -1,5 +1,6 @@
 -- The oldest sector is cleaned, and dead ones are erased.
-use Rattle.std.specs.Prelude.{◌≡◌, ℕ, zero, suc, ◌+◌, ◌<◌, ◌≤◌, Bool, true, false, List, length, take, if◌then◌else◌}
+use Rattle.std.specs.Prelude.{◌≡◌, ℕ, zero, suc, ◌+◌, ◌<◌, ◌≤◌, Bool, true, false, List, length}
+use Rattle.std.specs.Prelude.{take, if◌then◌else◌}
 use Rattle.std.specs.List.{AllByRecursion}
 use Rattle.jffs_node.specs.declared.node.Node.{Node}
 use Rattle.jffs_tree.specs.declared.wish.Cause.{Cause}
@@ -7,7 +8,9 @@ use Rattle.jffs_tree.specs.declared.wish.Cause.TheVariants.{VersionsSpent, NoSpa
 use Rattle.jffs_tree.specs.Origin.{is_live}
 use Rattle.jffs_tree.specs.Laws.{NoneLive}
 use Rattle.jffs_log.specs.LogIndex.{layout_in, lives_in, oldest_in}
-use Rattle.jffs_log.specs.Cleaning.{Layout, handled, handled_each, copy_has_room, copies_have_room, oldest_records, cleaned, erase_oldest, fresh_has_room, room_made}
+use Rattle.jffs_log.specs.Cleaning.{Layout, handled, handled_each, copy_has_room, copies_have_room}
+use Rattle.jffs_log.specs.Cleaning.{oldest_records, cleaned, erase_oldest, fresh_has_room}
+use Rattle.jffs_log.specs.Cleaning.{room_made}
 use Rattle.jffs_log.specs.RoomLaws.{Among}
 use Rattle.jffs_core.specs.declared.cleaning.Cleaned.{Cleaned}
 use Rattle.jffs_core.specs.declared.cleaning.Cleaned.TheVariants.{Erased, OneSector}
@@ -18,7 +21,8 @@ use Rattle.jffs_core.specs.Past.{gc_state, Represents}
 use Rattle.jffs_core.specs.Calls.{WorksOn, RefusedAt, KeepsTwo}
 
 -- A record was handled at its turn: copied where it is live, and the copy had room, else skipped.
-pub record HasHandled (past : List Node) (source : Node) (copied : Bool) (old new : CoreState) : Type 0 where
+pub record HasHandled (past : List Node) (source : Node) (copied : Bool) (old new : CoreState) :
+    Type 0 where
   pub after : List Node
   pub added : OnlyCopies past after
   pub stands : WorksOn after old new
@@ -27,13 +31,15 @@ pub record HasHandled (past : List Node) (source : Node) (copied : Bool) (old ne
   pub counted : length after ≡ (if copied then 1 else 0) + length past
 
 -- A live record wasn't copied.
-pub record CopyStopped (cause : Cause) (past : List Node) (source : Node) (old new : CoreState) : Type 0 where
+pub record CopyStopped (cause : Cause) (past : List Node) (source : Node) (old new : CoreState) :
+    Type 0 where
   pub live : is_live past source.version ≡ true
   pub stands : RefusedAt cause past old new
   pub no_room : cause ≡ NoSpace → copy_has_room source (gc_state past old) ≡ false
 
 -- Several records were handled, and `copies` copies were made.
-pub record HasCopied (nodes past after : List Node) (copies : ℕ) (old new : CoreState) : Type 0 where
+pub record HasCopied (nodes past after : List Node) (copies : ℕ) (old new : CoreState) :
+    Type 0 where
   pub added : OnlyCopies past after
   pub stands : WorksOn after old new
   pub turn : gc_state after new ≡ handled_each old.index.sector_size nodes (gc_state past old)
@@ -42,9 +48,12 @@ pub record HasCopied (nodes past after : List Node) (copies : ℕ) (old new : Co
 
 -- whether each copy that cleaning makes of the oldest sector has room at its turn
 abbrev pub copies_would_fit : List Node → CoreState → Bool
-copies_would_fit past c = copies_have_room c.index.sector_size (oldest_records (layout_in c.image c.index).sectors) (gc_state past c)
+copies_would_fit past c =
+    copies_have_room c.index.sector_size (oldest_records (layout_in c.image c.index).sectors)
+    (gc_state past c)
 
--- The oldest sector was cleaned: one copy was made for each of its records that was live at its turn, and it was erased.
+-- The oldest sector was cleaned: one copy was made for each of its records that was live at its
+-- turn, and it was erased.
 pub record HasCleaned (past after : List Node) (copies : ℕ) (old new : CoreState) : Type 0 where
   pub added : OnlyCopies past after
   pub stands : WorksOn after old new
@@ -57,44 +66,60 @@ pub record HasErased (past : List Node) (old new : CoreState) : Type 0 where
   pub stands : WorksOn past old new
   pub log : layout_in new.image new.index ≡ erase_oldest (layout_in old.image old.index)
 
--- Room was made for a fresh record of `len` bytes, if that could be: copies were added, and the log is as after some cleanings.
+-- Room was made for a fresh record of `len` bytes, if that could be: copies were added, and the log
+-- is as after some cleanings.
 pub record HasMadeRoom (len : ℕ) (past after : List Node) (old new : CoreState) : Type 0 where
   pub copies : OnlyCopies past after
   pub stands : WorksOn after old new
-  pub turn : gc_state after new ≡ room_made old.index.sector_size len (length (layout_in old.image old.index).sectors) (gc_state past old)
-  pub room : room_can_be_made old.index.sector_size len (length (layout_in old.image old.index).sectors) (gc_state past old) ≡ fresh_has_room len (gc_state after new)
+  pub turn : gc_state after new
+      ≡ room_made old.index.sector_size len (length (layout_in old.image old.index).sectors)
+      (gc_state past old)
+  pub room : room_can_be_made old.index.sector_size len
+      (length (layout_in old.image old.index).sectors) (gc_state past old)
+      ≡ fresh_has_room len (gc_state after new)
   pub two : KeepsTwo old new
 
--- Cleaning stopped with this cause. It had no room for a copy only where fewer than two sectors were erased.
-pub record CleaningStopped (cause : Cause) (past after : List Node) (old new : CoreState) : Type 0 where
+-- Cleaning stopped with this cause. It had no room for a copy only where fewer than two sectors
+-- were erased.
+pub record CleaningStopped (cause : Cause) (past after : List Node) (old new : CoreState) :
+    Type 0 where
   pub copies : OnlyCopies past after
   pub stands : RefusedAt cause after old new
   pub no_room : cause ≡ NoSpace → 2 ≤ (layout_in old.image old.index).erased → ⊥
 
--- No more room was made for a fresh record of `len` bytes, with this cause: NoSpace only where none could be.
-pub record MakingStopped (len : ℕ) (cause : Cause) (past after : List Node) (old new : CoreState) : Type 0 where
+-- No more room was made for a fresh record of `len` bytes, with this cause: NoSpace only where none
+-- could be.
+pub record MakingStopped (len : ℕ) (cause : Cause) (past after : List Node) (old new : CoreState) :
+    Type 0 where
   pub stopped : CleaningStopped cause past after old new
-  pub none : cause ≡ NoSpace → room_can_be_made old.index.sector_size len (length (layout_in old.image old.index).sectors) (gc_state past old) ≡ false
+  pub none : cause ≡ NoSpace
+      → room_can_be_made old.index.sector_size len (length (layout_in old.image old.index).sectors)
+      (gc_state past old) ≡ false
 
 -- one of these records is live
 abbrev pub OneLives : List Node → List Node → Type 0
 OneLives past nodes = (n : Node) × Among n nodes × (is_live past n.version ≡ true)
 
--- The cleaning of a sector stops for want of room only where a copy had none at its turn, and for want of a version only where a record has still to be copied.
+-- The cleaning of a sector stops for want of room only where a copy had none at its turn, and for
+-- want of a version only where a record has still to be copied.
 pub record WantsCopy (cause : Cause) (past after : List Node) (c : CoreState) : Type 0 where
   pub at_turn : cause ≡ NoSpace → copies_would_fit past c ≡ false
-  pub to_copy : cause ≡ VersionsSpent → OneLives after (oldest_records (layout_in c.image c.index).sectors)
+  pub to_copy : cause ≡ VersionsSpent
+      → OneLives after (oldest_records (layout_in c.image c.index).sectors)
 
 -- The cleaning of one sector stopped, which isn't the log's only one.
-pub record SectorStopped (cause : Cause) (past after : List Node) (old new : CoreState) : Type 0 where
+pub record SectorStopped (cause : Cause) (past after : List Node) (old new : CoreState) :
+    Type 0 where
   pub several : 2 ≤ length (layout_in old.image old.index).sectors
   pub stopped : CleaningStopped cause past after old new
   pub wants : WantsCopy cause past after old
 
--- What a cleaning answers: the sector that was cleaned, or that the log has at most one, and nothing was changed.
+-- What a cleaning answers: the sector that was cleaned, or that the log has at most one, and
+-- nothing was changed.
 abbrev pub DidClean : Cleaned → List Node → CoreState → CoreState → Type 0
 DidClean (Erased sector copies) past old new =
-    (sector ≡ old.index.first) × (2 ≤ length (layout_in old.image old.index).sectors) × ((after : List Node) × HasCleaned past after copies old new)
+    (sector ≡ old.index.first) × (2 ≤ length (layout_in old.image old.index).sectors)
+    × ((after : List Node) × HasCleaned past after copies old new)
 DidClean OneSector past old new = (new ≡ old) × (length (layout_in old.image old.index).sectors < 2)
 
 -- A cleaning that came to its end, of a core that represented this history.
@@ -108,10 +133,12 @@ pub record Cleans (mounted past : List Node) (done : Cleaned) (old new : CoreSta
 -- why a call that cleans or erases stopped
 abbrev pub StopIs : Cause → List Node → CoreState → CoreState → Type 0
 StopIs Failed after old new = (old.failed ≡ true) × (new ≡ old)
-StopIs NoSpace after old new = RefusedAt NoSpace after old new × (2 ≤ (layout_in old.image old.index).erased → ⊥)
+StopIs NoSpace after old new =
+    RefusedAt NoSpace after old new × (2 ≤ (layout_in old.image old.index).erased → ⊥)
 StopIs cause after old new = (old.failed ≡ false) × RefusedAt cause after old new
 
--- A cleaning that stopped, of a core that represented this history, and unless the core had failed, of a log of several sectors. The copies that were made stay.
+-- A cleaning that stopped, of a core that represented this history, and unless the core had failed,
+-- of a log of several sectors. The copies that were made stay.
 pub record Stops (mounted past : List Node) (cause : Cause) (old new : CoreState) : Type 0 where
   pub after : List Node
   pub added : OnlyCopies past after
@@ -125,7 +152,8 @@ abbrev pub erased_times : ℕ → Layout → Layout
 erased_times zero log = log
 erased_times (suc k) log = erase_oldest (erased_times k log)
 
--- The oldest sector may be erased: none of its records is live, and it is another one than the tail.
+-- The oldest sector may be erased: none of its records is live, and it is another one than the
+-- tail.
 pub record IsDeadOldest (c : CoreState) : Type 0 where
   pub several : 2 ≤ length (layout_in c.image c.index).sectors
   pub dead : AllByRecursion (λ p. lives_in c.tree p ≡ false) (oldest_in c.image c.index)
@@ -134,7 +162,8 @@ pub record IsDeadOldest (c : CoreState) : Type 0 where
 abbrev pub AreDead : List Node → List (List Node) → Type 0
 AreDead past sectors = AllByRecursion (NoneLive past) sectors
 
--- The `count` oldest sectors were erased, none of which held a live record; the history is the same, and the oldest sector that is left may not be erased.
+-- The `count` oldest sectors were erased, none of which held a live record; the history is the
+-- same, and the oldest sector that is left may not be erased.
 pub record ErasesDead (mounted past : List Node) (count : ℕ) (old new : CoreState) : Type 0 where
   pub works : old.failed ≡ false
   pub still_works : new.failed ≡ false

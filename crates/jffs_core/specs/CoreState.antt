@@ -5,7 +5,8 @@ use Rattle.jffs_tree.specs.declared.wish.Limits.{Limits}
 use Rattle.jffs_log.specs.declared.log_index.LogIndex.{LogIndex}
 use Rattle.jffs_core.specs.declared.answer.Answer.{Answer}
 
--- The image of the device, how often it failed, whether an erase was among that, the log's index, and the core's tree, numbers, flags and answers.
+-- The image of the device, how often it failed, whether an erase was among that, the log's index,
+-- and the core's tree, numbers, flags and answers.
 pub record CoreState : Type 0 where
   pub image : List ℕ
   pub faults : ℕ

@@ -15,20 +15,30 @@ use Rattle.jffs_core.specs.Past.{Represents}
 use Rattle.jffs_core.specs.Answering.{Answers, turn_of}
 use Rattle.jffs_core.specs.Cleaning.{Stops}
 
--- A scan finds what the fresh nodes since the mount made of the mounted state, or what one node of this kind makes of that.
-pub record FindsWith (One : Node → Type 0) (mounted past : List Node) (count len : ℕ) (image : List ℕ) : Type 0 where
+-- A scan finds what the fresh nodes since the mount made of the mounted state, or what one node of
+-- this kind makes of that.
+pub record FindsWith (One : Node → Type 0) (mounted past : List Node) (count len : ℕ)
+    (image : List ℕ) : Type 0 where
   pub scanned : Scanned
   pub found : scan len (split count len image) ≡ Ok scanned
   pub added : List Node
   pub since : past ≡ added ++ mounted
-  pub state_is : (state_in scanned.tree ≡ contents mounted added) ⊎ ((n : Node) × One n × (state_in scanned.tree ≡ apply (contents mounted added) n))
+  pub state_is : (state_in scanned.tree ≡ contents mounted added)
+      ⊎ ((n : Node) × One n × (state_in scanned.tree ≡ apply (contents mounted added) n))
 
--- After the answer Device, but for a failed erase, a scan finds the state before the request, or that which the request's own node makes of it.
+-- After the answer Device, but for a failed erase, a scan finds the state before the request, or
+-- that which the request's own node makes of it.
 abbrev pub DeviceScansFind : Type 0
-DeviceScansFind = (mounted past : List Node) (old new : CoreState) (q : Request) → Represents mounted past old → (answered : Answers mounted past old new q (Refused Device)) → new.erase_failed ≡ false
-    → FindsWith (IsNodeFor (turn_of past old new) q answered.after) mounted past new.index.sectors new.index.sector_size new.image
+DeviceScansFind =
+    (mounted past : List Node) (old new : CoreState) (q : Request) → Represents mounted past old
+    → (answered : Answers mounted past old new q (Refused Device)) → new.erase_failed ≡ false
+    → FindsWith (IsNodeFor (turn_of past old new) q answered.after) mounted past new.index.sectors
+    new.index.sector_size new.image
 
--- After a cleaning that stopped with Device, but for a failed erase, a scan finds the state before it: the history that is left, or that and one own copy more, makes no other.
+-- After a cleaning that stopped with Device, but for a failed erase, a scan finds the state before
+-- it: the history that is left, or that and one own copy more, makes no other.
 abbrev pub StoppedScansFind : Type 0
-StoppedScansFind = (mounted past : List Node) (old new : CoreState) → Represents mounted past old → Stops mounted past Device old new → new.erase_failed ≡ false
+StoppedScansFind =
+    (mounted past : List Node) (old new : CoreState) → Represents mounted past old
+    → Stops mounted past Device old new → new.erase_failed ≡ false
     → FindsWith (λ n. ⊥) mounted past new.index.sectors new.index.sector_size new.image

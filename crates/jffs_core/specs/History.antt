@@ -1,4 +1,5 @@
--- The history of a core: the nodes that the mount found, and every node appended since, the newest first. Nothing is taken out of it.
+-- The history of a core: the nodes that the mount found, and every node appended since, the newest
+-- first. Nothing is taken out of it.
 use Rattle.std.specs.Prelude.{◌≡◌, ◌⊎◌, true, List, [], ◌∷◌, ◌++◌, filter, Some}
 use Rattle.jffs_node.specs.declared.node.Node.{Node}
 use Rattle.jffs_node.specs.Record.{is_fresh, is_unmount}
@@ -21,7 +22,8 @@ HasNextVersion past n = next_version past ≡ Some n.version
 
 -- a copy that the log side made besides a request's node: true where it stands
 abbrev pub IsOwnCopy : List Node → Node → Type 0
-IsOwnCopy past c = (c.writer ≡ 0) × (c.seq ≡ 0) × HasNextVersion past c × ((e : Entry) × IsTrueCopy past c e)
+IsOwnCopy past c =
+    (c.writer ≡ 0) × (c.seq ≡ 0) × HasNextVersion past c × ((e : Entry) × IsTrueCopy past c e)
 
 -- copies one after another, the newest first
 abbrev pub AreOwnCopies : List Node → List Node → Type 0
@@ -30,7 +32,8 @@ AreOwnCopies past (c ∷ copies) = AreOwnCopies past copies × IsOwnCopy (copies
 
 -- what may be added to a history
 abbrev pub MayFollow : List Node → Node → Type 0
-MayFollow past n = (is_fresh n ≡ true) ⊎ ((is_unmount n.kind ≡ true) ⊎ ((e : Entry) × IsTrueCopy past n e))
+MayFollow past n =
+    (is_fresh n ≡ true) ⊎ ((is_unmount n.kind ≡ true) ⊎ ((e : Entry) × IsTrueCopy past n e))
 
 -- each of these may follow the nodes before it
 abbrev pub IsGrown : List Node → List Node → Type 0
@@ -45,4 +48,6 @@ pub record Grows (past after : List Node) : Type 0 where
 
 -- What the fresh nodes make is what all nodes make.
 abbrev pub ContentsAreState : Type 0
-ContentsAreState = (mounted added : List Node) → IsGrown mounted added → contents mounted added ≡ state_of_past (added ++ mounted)
+ContentsAreState =
+    (mounted added : List Node) → IsGrown mounted added
+    → contents mounted added ≡ state_of_past (added ++ mounted)

@@ -8,9 +8,13 @@ use Rattle.jffs_core.specs.CoreState.{CoreState}
 
 -- the device works, the oldest sector isn't the tail, and at most half of the sectors are erased
 abbrev pub wants_cleaning : CoreState → Bool
-wants_cleaning s = not s.failed && (nat_le 2 s.index.held && nat_le (erased_count (sectors_in s.index.sectors s.index.sector_size s.image)) (s.index.sectors / 2))
+wants_cleaning s = not s.failed
+    && (nat_le 2 s.index.held
+    && nat_le (erased_count (sectors_in s.index.sectors s.index.sector_size s.image))
+    (s.index.sectors / 2))
 
--- Why the oldest sector wasn't read: for want of memory or on a core that had failed, where nothing is changed, or the device failed, and so has the core.
+-- Why the oldest sector wasn't read: for want of memory or on a core that had failed, where nothing
+-- is changed, or the device failed, and so has the core.
 abbrev pub ReadRefused : Cause → CoreState → CoreState → Type 0
 ReadRefused Memory old new = (old.failed ≡ false) × (new ≡ old)
 ReadRefused Device old new = (old.failed ≡ false) × (new.failed ≡ true) × (old.faults < new.faults)

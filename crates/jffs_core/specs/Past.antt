@@ -24,7 +24,8 @@ abbrev pub is_clean_in : List ℕ → LogIndex → Bool
 is_clean_in image b = is_clean (sectors_in b.sectors b.sector_size image)
 
 -- What a core that works has is what this history makes, of which the image holds the newest part.
-pub record IsPast (past : List Node) (image : List ℕ) (b : LogIndex) (tree : Tree) (limits : Limits) (clean : Bool) : Type 0 where
+pub record IsPast (past : List Node) (image : List ℕ) (b : LogIndex) (tree : Tree) (limits : Limits)
+    (clean : Bool) : Type 0 where
   pub history : IsHistory image b past
   pub sound : IsSound b.sectors b.sector_size (record { past = past; log = layout_in image b })
   pub tree_is : tree ≡ tree_of past
@@ -35,8 +36,10 @@ pub record IsPast (past : List Node) (image : List ℕ) (b : LogIndex) (tree : T
 abbrev pub RepresentsWorking : List Node → CoreState → Type 0
 RepresentsWorking past c = IsPast past c.image c.index c.tree c.limits c.clean
 
--- The index has the sizes of the device. Unless the device failed, it describes the image, and the core represents some history.
-pub record HasLogIndex (failed : Bool) (count len : ℕ) (image : List ℕ) (b : LogIndex) (tree : Tree) (limits : Limits) (clean : Bool) : Type 0 where
+-- The index has the sizes of the device. Unless the device failed, it describes the image, and the
+-- core represents some history.
+pub record HasLogIndex (failed : Bool) (count len : ℕ) (image : List ℕ) (b : LogIndex) (tree : Tree)
+    (limits : Limits) (clean : Bool) : Type 0 where
   pub sizes : HasSizes count len b
   pub index : failed ≡ false → IsLogIndex image b
   pub past : failed ≡ false → (past : List Node) × IsPast past image b tree limits clean
@@ -47,13 +50,15 @@ gc_state past c = record { past = past; log = layout_in c.image c.index }
 
 -- a record of `len` bytes has room in the log
 abbrev pub has_room_for : CoreState → Room → ℕ → Bool
-has_room_for c room len = has_room room len (layout_in c.image c.index).free (layout_in c.image c.index).erased
+has_room_for c room len =
+    has_room room len (layout_in c.image c.index).free (layout_in c.image c.index).erased
 
 -- of the history, or of it and one node more of this kind
 abbrev pub OrOneMore : (Node → Type 0) → List Node → (List Node → Type 0) → Type 0
 OrOneMore More past P = P past ⊎ ((n : Node) × More n × P (n ∷ past))
 
--- What stands of a core whose device failed. Tree and image may each have one node more, of this kind, and of an image nothing is known once an erase failed.
+-- What stands of a core whose device failed. Tree and image may each have one node more, of this
+-- kind, and of an image nothing is known once an erase failed.
 pub record HasFailed (More : Node → Type 0) (past : List Node) (c : CoreState) : Type 0 where
   pub clean : c.clean ≡ true → ends_with_unmount past ≡ true
   pub tree : OrOneMore More past (λ found. c.tree ≡ tree_of found)
@@ -69,14 +74,16 @@ pub record Represents (mounted past : List Node) (c : CoreState) : Type 0 where
   pub grown : Grows mounted past
   pub stands : RepresentsPast past c
 
--- The device is as a core has it: of the same sizes, with its image and its count of faults, and an erase failed where one did.
+-- The device is as a core has it: of the same sizes, with its image and its count of faults, and an
+-- erase failed where one did.
 pub record IsLeftBy (c : CoreState) (device : Device) : Type 0 where
   pub sizes : HasSizes device.sectors device.sector_size c.index
   pub image_is : device.image ≡ c.image
   pub faults_are : device.faults ≡ c.faults
   pub erases_are : device.erase_failed ≡ c.erase_failed
 
--- What a mount of the device gives: a core that represents the log that a scan finds, and has answered nothing.
+-- What a mount of the device gives: a core that represents the log that a scan finds, and has
+-- answered nothing.
 pub record IsFresh (device : Device) (c : CoreState) : Type 0 where
   pub scanned : Scanned
   pub found : scan_of device ≡ Ok scanned
@@ -87,10 +94,12 @@ pub record IsFresh (device : Device) (c : CoreState) : Type 0 where
   pub not_closed : c.closed ≡ false
   pub no_answers : c.answers ≡ []
 
--- What a scan of a core's image finds: the tree of the history, whose state is what the fresh nodes since the mount made.
+-- What a scan of a core's image finds: the tree of the history, whose state is what the fresh nodes
+-- since the mount made.
 pub record FindsContents (mounted past : List Node) (c : CoreState) : Type 0 where
   pub scanned : Scanned
-  pub found : scan c.index.sector_size (split c.index.sectors c.index.sector_size c.image) ≡ Ok scanned
+  pub found : scan c.index.sector_size (split c.index.sectors c.index.sector_size c.image)
+      ≡ Ok scanned
   pub tree_is : scanned.tree ≡ c.tree
   pub clean_is : scanned.clean ≡ c.clean
   pub added : List Node
@@ -99,9 +108,17 @@ pub record FindsContents (mounted past : List Node) (c : CoreState) : Type 0 whe
 
 -- A scan of the image of a core that works finds the contents.
 abbrev pub ScansFindContents : Type 0
-ScansFindContents = (mounted past : List Node) (c : CoreState) → Represents mounted past c → c.failed ≡ false → FindsContents mounted past c
+ScansFindContents =
+    (mounted past : List Node) (c : CoreState) → Represents mounted past c → c.failed ≡ false
+    → FindsContents mounted past c
 
--- After a failure, but for that of an erase, a scan finds the history, or it and one node more that may follow.
+-- After a failure, but for that of an erase, a scan finds the history, or it and one node more that
+-- may follow.
 abbrev pub FailedScansFind : Type 0
-FailedScansFind = (mounted past : List Node) (c : CoreState) → Represents mounted past c → c.failed ≡ true → c.erase_failed ≡ false
-    → OrOneMore (MayFollow past) past (λ found. (scanned : Scanned) × (scan c.index.sector_size (split c.index.sectors c.index.sector_size c.image) ≡ Ok scanned) × (scanned.tree ≡ tree_of found))
+FailedScansFind =
+    (mounted past : List Node) (c : CoreState) → Represents mounted past c → c.failed ≡ true
+    → c.erase_failed ≡ false
+    → OrOneMore (MayFollow past) past
+    (λ found. (scanned : Scanned)
+    × (scan c.index.sector_size (split c.index.sectors c.index.sector_size c.image)
+    ≡ Ok scanned) × (scanned.tree ≡ tree_of found))

@@ -7,10 +7,12 @@ use Rattle.jffs_tree.specs.declared.wish.Outcome.TheVariants.{Refused}
 use Rattle.jffs_tree.specs.declared.wish.NewNode.{NewNode}
 use Rattle.jffs_tree.specs.Decide.{with, is_unmount_wish}
 use Rattle.jffs_line.specs.declared.request.Request.{Request}
-use Rattle.jffs_log.specs.Cleaning.{GcState, handled_each, oldest_records, cleaned, fresh_has_room, room_made, version_after}
+use Rattle.jffs_log.specs.Cleaning.{GcState, handled_each, oldest_records, cleaned, fresh_has_room}
+use Rattle.jffs_log.specs.Cleaning.{room_made, version_after}
 use Rattle.jffs_log.specs.RoomLaws.{IsSound, Holds}
 use Rattle.jffs_core.specs.Run.{OnlyCopies}
-use Rattle.jffs_core.specs.Step.{Turn, IsStep, decision, takes_no_node, had_room, session_of, ends_with_unmount}
+use Rattle.jffs_core.specs.Step.{Turn, IsStep, decision, takes_no_node, had_room, session_of}
+use Rattle.jffs_core.specs.Step.{ends_with_unmount}
 
 -- the versions up to here fit 32 bits
 abbrev pub HasVersions : GcState → Type 0
@@ -18,16 +20,24 @@ HasVersions s = version_after s.past ≤ 2 ^ 32
 
 -- Cleaning adds true copies alone.
 abbrev pub CleaningOnlyCopies : Type 0
-CleaningOnlyCopies = (sectors sector_size : ℕ) (s : GcState) → IsSound sectors sector_size s → HasVersions (cleaned sector_size s) → OnlyCopies s.past (cleaned sector_size s).past
+CleaningOnlyCopies =
+    (sectors sector_size : ℕ) (s : GcState) → IsSound sectors sector_size s
+    → HasVersions (cleaned sector_size s) → OnlyCopies s.past (cleaned sector_size s).past
 
 -- So does a cleaning that ends early, after some of the records.
 abbrev pub StoppedOnlyCopies : Type 0
-StoppedOnlyCopies = (sectors sector_size : ℕ) (s : GcState) (done rest : List Node) → IsSound sectors sector_size s → oldest_records s.log.sectors ≡ done ++ rest
-    → HasVersions (handled_each sector_size done s) → OnlyCopies s.past (handled_each sector_size done s).past
+StoppedOnlyCopies =
+    (sectors sector_size : ℕ) (s : GcState) (done rest : List Node) → IsSound sectors sector_size s
+    → oldest_records s.log.sectors ≡ done ++ rest
+    → HasVersions (handled_each sector_size done s)
+    → OnlyCopies s.past (handled_each sector_size done s).past
 
 abbrev pub MakingRoomOnlyCopies : Type 0
-MakingRoomOnlyCopies = (sectors sector_size len : ℕ) (s : GcState) → 64 ≤ sector_size → 6 ≤ sectors → IsSound sectors sector_size s → 2 ≤ s.log.erased
-    → HasVersions (room_made sector_size len (length s.log.sectors) s) → OnlyCopies s.past (room_made sector_size len (length s.log.sectors) s).past
+MakingRoomOnlyCopies =
+    (sectors sector_size len : ℕ) (s : GcState) → 64 ≤ sector_size → 6 ≤ sectors
+    → IsSound sectors sector_size s → 2 ≤ s.log.erased
+    → HasVersions (room_made sector_size len (length s.log.sectors) s)
+    → OnlyCopies s.past (room_made sector_size len (length s.log.sectors) s).past
 
 -- the session that a request was taken in
 pub record TakenIn (t : Turn) (s : GcState) : Type 0 where
@@ -38,12 +48,20 @@ pub record TakenIn (t : Turn) (s : GcState) : Type 0 where
 
 -- NoSpace is a lawful answer for a fresh node that has no room after the whole turn of cleaning.
 abbrev pub NoSpaceIsAStep : Type 0
-NoSpaceIsAStep = (t : Turn) (q : Request) (n : NewNode) (s : GcState) (gone : List Node) → TakenIn t s → Holds s gone → 64 ≤ t.volume.sector_size → 6 ≤ t.volume.sectors → 2 ≤ t.erased
-    → takes_no_node t q ≡ false → decision t q ≡ Ok n → is_fresh (with n 0 0 0) ≡ true → record_len (with n 0 0 0) ≤ t.volume.sector_size / 4 → had_room t n ≡ false
-    → fresh_has_room (record_len (with n 0 0 0)) (room_made t.volume.sector_size (record_len (with n 0 0 0)) (length s.log.sectors) s) ≡ false
-    → HasVersions (room_made t.volume.sector_size (record_len (with n 0 0 0)) (length s.log.sectors) s)
-    → IsStep t q (Refused causes.NoSpace) (room_made t.volume.sector_size (record_len (with n 0 0 0)) (length s.log.sectors) s).past
+NoSpaceIsAStep =
+    (t : Turn) (q : Request) (n : NewNode) (s : GcState) (gone : List Node) → TakenIn t s
+    → Holds s gone → 64 ≤ t.volume.sector_size → 6 ≤ t.volume.sectors → 2 ≤ t.erased
+    → takes_no_node t q ≡ false → decision t q ≡ Ok n → is_fresh (with n 0 0 0) ≡ true
+    → record_len (with n 0 0 0) ≤ t.volume.sector_size / 4 → had_room t n ≡ false
+    → fresh_has_room (record_len (with n 0 0 0))
+    (room_made t.volume.sector_size (record_len (with n 0 0 0)) (length s.log.sectors) s) ≡ false
+    → HasVersions (room_made t.volume.sector_size (record_len (with n 0 0 0)) (length s.log.sectors)
+    s)
+    → IsStep t q (Refused causes.NoSpace)
+    (room_made t.volume.sector_size (record_len (with n 0 0 0)) (length s.log.sectors) s).past
 
 -- With two sectors erased an Unmount is never answered NoSpace.
 abbrev pub UnmountsHaveRoom : Type 0
-UnmountsHaveRoom = (t : Turn) (q : Request) (after : List Node) → is_unmount_wish q.wish ≡ true → 2 ≤ t.erased → IsStep t q (Refused causes.NoSpace) after → ⊥
+UnmountsHaveRoom =
+    (t : Turn) (q : Request) (after : List Node) → is_unmount_wish q.wish ≡ true → 2 ≤ t.erased
+    → IsStep t q (Refused causes.NoSpace) after → ⊥

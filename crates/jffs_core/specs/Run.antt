@@ -16,7 +16,8 @@ pub record OnlyCopies (past after : List Node) : Type 0 where
   pub joined : after ≡ copies ++ past
 
 -- one request, taken after such copies
-pub record IsAnswered (volume : Volume) (past : List Node) (q : Request) (a : Answer) (after : List Node) : Type 0 where
+pub record IsAnswered (volume : Volume) (past : List Node) (q : Request) (a : Answer)
+    (after : List Node) : Type 0 where
   pub turn : Turn
   pub same_volume : turn.volume ≡ volume
   pub between : OnlyCopies past turn.past
@@ -45,11 +46,13 @@ IsInOrder (a ∷ b ∷ answers) = MayPrecede a b × IsInOrder (b ∷ answers)
 abbrev pub AreAnswered : Volume → List Node → List Request → List Answer → List Node → Type 0
 AreAnswered volume past [] [] after = OnlyCopies past after
 AreAnswered volume past (q ∷ requests) (a ∷ answers) after =
-    (middle : List Node) × IsAnswered volume past q a middle × AreAnswered volume middle requests answers after
+    (middle : List Node) × IsAnswered volume past q a middle
+    × AreAnswered volume middle requests answers after
 AreAnswered volume past _ _ after = ⊥
 
 -- none after Closed, and a failed core stays failed
-pub record IsLawful (volume : Volume) (past : List Node) (requests : List Request) (answers : List Answer) (after : List Node) : Type 0 where
+pub record IsLawful (volume : Volume) (past : List Node) (requests : List Request)
+    (answers : List Answer) (after : List Node) : Type 0 where
   pub each : AreAnswered volume past requests answers after
   pub in_order : IsInOrder answers
 
@@ -61,10 +64,14 @@ MayFollowAll (a ∷ c ∷ answers) b = MayFollowAll (c ∷ answers) b
 
 -- A run may go on by one request, where it isn't over.
 abbrev pub RunsGoOn : Type 0
-RunsGoOn = (volume : Volume) (past middle after : List Node) (requests : List Request) (answers : List Answer) (q : Request) (a : Answer)
-    → IsLawful volume past requests answers middle → MayFollowAll answers a → IsAnswered volume middle q a after
+RunsGoOn = (volume : Volume) (past middle after : List Node) (requests : List Request)
+    (answers : List Answer) (q : Request) (a : Answer)
+    → IsLawful volume past requests answers middle → MayFollowAll answers a
+    → IsAnswered volume middle q a after
     → IsLawful volume past (requests ++ q ∷ []) (answers ++ a ∷ []) after
 
 -- A lawful run only adds fresh nodes, unmount nodes and true copies.
 abbrev pub LawfulRunsGrow : Type 0
-LawfulRunsGrow = (volume : Volume) (past after : List Node) (requests : List Request) (answers : List Answer) → IsLawful volume past requests answers after → Grows past after
+LawfulRunsGrow =
+    (volume : Volume) (past after : List Node) (requests : List Request) (answers : List Answer)
+    → IsLawful volume past requests answers after → Grows past after

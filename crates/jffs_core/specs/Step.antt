@@ -1,5 +1,6 @@
 -- What one taken request may be answered.
-use Rattle.std.specs.Prelude.{◌≡◌, ◌⊎◌, ◌↔◌, ℕ, zero, suc, ◌≤◌, Bool, true, false, ◌&&◌, ◌||◌, List, [], ◌∷◌, ◌++◌, length, Some, None, Ok, Err, Result, IsTrue}
+use Rattle.std.specs.Prelude.{◌≡◌, ◌⊎◌, ◌↔◌, ℕ, zero, suc, ◌≤◌, Bool, true, false, ◌&&◌, ◌||◌, List}
+use Rattle.std.specs.Prelude.{[], ◌∷◌, ◌++◌, length, Some, None, Ok, Err, Result, IsTrue}
 use Rattle.jffs_node.specs.declared.node.Node.{Node}
 use Rattle.jffs_node.specs.Record.{is_fresh, is_unmount, record_len}
 use Rattle.jffs_tree.specs.declared.wish.Cause.{Cause}
@@ -12,14 +13,16 @@ use Rattle.jffs_line.specs.declared.request.Request.{Request}
 use Rattle.jffs_log.specs.declared.room.Room.{Room}
 use Rattle.jffs_log.specs.declared.room.Room.TheVariants as rooms
 use Rattle.jffs_log.specs.Room.{has_room, limits, next_version, weight, heavy}
-use Rattle.jffs_log.specs.Cleaning.{GcState, oldest_records, copies_have_room, cleaned, fresh_has_room, room_made}
+use Rattle.jffs_log.specs.Cleaning.{GcState, oldest_records, copies_have_room, cleaned}
+use Rattle.jffs_log.specs.Cleaning.{fresh_has_room, room_made}
 use Rattle.jffs_core.specs.History.{HasNextVersion, IsOwnCopy, AreOwnCopies}
 
 pub record Volume : Type 0 where
   pub sectors : ℕ
   pub sector_size : ℕ
 
--- What stands when a request is taken, and what befalls the call. The log is there sector by sector, the oldest first.
+-- What stands when a request is taken, and what befalls the call. The log is there sector by
+-- sector, the oldest first.
 pub record Turn : Type 0 where
   pub volume : Volume
   pub past : List Node
@@ -63,40 +66,53 @@ pub record HadNoRoom (t : Turn) (q : Request) (n : NewNode) : Type 0 where
   pub decided : decision t q ≡ Ok n
   pub none : had_room t n ≡ false
 
--- Room can be made for a fresh record of `len` bytes by at most so many cleanings, in each of which all copies have room.
+-- Room can be made for a fresh record of `len` bytes by at most so many cleanings, in each of which
+-- all copies have room.
 abbrev pub room_can_be_made : ℕ → ℕ → ℕ → GcState → Bool
 room_can_be_made sector_size len zero s = fresh_has_room len s
 room_can_be_made sector_size len (suc left) s =
-    fresh_has_room len s || (copies_have_room sector_size (oldest_records s.log.sectors) s && room_can_be_made sector_size len left (cleaned sector_size s))
+    fresh_has_room len s
+    || (copies_have_room sector_size (oldest_records s.log.sectors) s
+    && room_can_be_made sector_size len left (cleaned sector_size s))
 
 -- the session that the request was taken in
 abbrev pub session_of : Turn → GcState
-session_of t = record { past = t.past; log = record { sectors = t.log; free = t.free; erased = t.erased } }
+session_of t =
+    record { past = t.past; log = record { sectors = t.log; free = t.free; erased = t.erased } }
 
 -- whether the node has room, or gets it where each sector of the log is cleaned once at most
 abbrev pub gets_room : Turn → NewNode → Bool
-gets_room t n = room_can_be_made t.volume.sector_size (record_len (with n 0 0 0)) (length t.log) (session_of t)
+gets_room t n =
+    room_can_be_made t.volume.sector_size (record_len (with n 0 0 0)) (length t.log) (session_of t)
 
 -- the history once the node has room, with the copies that were made for it
 abbrev pub past_with_room : Turn → NewNode → List Node
-past_with_room t n = (room_made t.volume.sector_size (record_len (with n 0 0 0)) (length t.log) (session_of t)).past
+past_with_room t n =
+    (room_made t.volume.sector_size (record_len (with n 0 0 0)) (length t.log) (session_of t)).past
 
 -- and it is a fresh node, for which room is made by copies
 abbrev pub MakesRoom : Turn → Request → Type 0
 MakesRoom t q = (n : NewNode) × HadNoRoom t q n × (is_fresh (with n 0 0 0) ≡ true)
 
--- The outcome comes only here. `copies` were made besides, `own` is what it added. Memory comes only where a node was decided on, and NoSpace for a fresh node only where no room can be made.
+-- The outcome comes only here. `copies` were made besides, `own` is what it added. Memory comes
+-- only where a node was decided on, and NoSpace for a fresh node only where no room can be made.
 abbrev pub RefusedBy : Cause → Turn → Request → List Node → Type 0
 RefusedBy causes.Failed t q copies = IsTrue t.failed × (copies ≡ [])
 RefusedBy causes.VersionsSpent t q copies =
-    (takes_no_node t q ≡ false) × (((decision t q ≡ Err causes.VersionsSpent) × (copies ≡ [])) ⊎ (MakesRoom t q × (next_version (copies ++ t.past) ≡ None)))
-RefusedBy causes.Memory t q copies = (takes_no_node t q ≡ false) × ((n : NewNode) × (decision t q ≡ Ok n))
+    (takes_no_node t q ≡ false)
+    × (((decision t q ≡ Err causes.VersionsSpent) × (copies ≡ []))
+    ⊎ (MakesRoom t q × (next_version (copies ++ t.past) ≡ None)))
+RefusedBy causes.Memory t q copies =
+    (takes_no_node t q ≡ false) × ((n : NewNode) × (decision t q ≡ Ok n))
 RefusedBy causes.NoSpace t q copies =
     (takes_no_node t q ≡ false)
-    × ((n : NewNode) × HadNoRoom t q n × (is_fresh (with n 0 0 0) ≡ true → 2 ≤ t.erased → heavy t.volume.sectors t.volume.sector_size ≤ weight t.past)
+    × ((n : NewNode) × HadNoRoom t q n
+    × (is_fresh (with n 0 0 0) ≡ true → 2 ≤ t.erased
+    → heavy t.volume.sectors t.volume.sector_size ≤ weight t.past)
     × (is_fresh (with n 0 0 0) ≡ true → gets_room t n ≡ false))
 RefusedBy causes.Device t q copies = IsTrue t.device_faulted
-RefusedBy cause t q copies = (takes_no_node t q ≡ false) × (decision t q ≡ Err cause) × (copies ≡ [])
+RefusedBy cause t q copies =
+    (takes_no_node t q ≡ false) × (decision t q ≡ Err cause) × (copies ≡ [])
 
 abbrev pub OutcomeIs : Outcome → Turn → Request → List Node → List Node → Type 0
 OutcomeIs (Appended inode version) t q copies own =
@@ -105,11 +121,14 @@ OutcomeIs (Appended inode version) t q copies own =
     × (gets_room t n ≡ true) × (copies ++ t.past ≡ past_with_room t n)
 OutcomeIs (Copied version) t q copies own =
     (n : NewNode) × (is_copy_wish q.wish ≡ true) × (decision t q ≡ Ok n) × (copies ≡ [])
-    × (next_version t.past ≡ Some version) × (own ≡ node_of n q version ∷ []) × (had_room t n ≡ true)
+    × (next_version t.past ≡ Some version) × (own ≡ node_of n q version ∷ [])
+    × (had_room t n ≡ true)
 OutcomeIs Closed t q copies own =
     (is_unmount_wish q.wish ≡ true) × (copies ≡ [])
     × ((IsTrue t.clean × (own ≡ []))
-    ⊎ ((t.clean ≡ false) × ((n : NewNode) × (version : ℕ) × (decision t q ≡ Ok n) × (next_version t.past ≡ Some version) × (own ≡ node_of n q version ∷ [])
+    ⊎ ((t.clean ≡ false)
+    × ((n : NewNode) × (version : ℕ) × (decision t q ≡ Ok n) × (next_version t.past ≡ Some version)
+    × (own ≡ node_of n q version ∷ [])
     × (had_room t n ≡ true))))
 OutcomeIs (Refused cause) t q copies own = RefusedBy cause t q copies × (own ≡ [])
 

@@ -6,12 +6,14 @@ use Rattle.jffs_tree.specs.Origin.{Tree, state_in}
 use Rattle.jffs_tree.specs.After.{can_apply}
 use Rattle.jffs_core.specs.CoreState.{CoreState}
 
--- the node may be applied to the one tree, and the other has the state that it makes; without a node both have the same
+-- the node may be applied to the one tree, and the other has the state that it makes; without a
+-- node both have the same
 abbrev pub TakesNode : Tree → Option Node → Tree → Type 0
 TakesNode old None new = state_in new ≡ state_in old
 TakesNode old (Some n) new = (can_apply old n ≡ true) × (state_in new ≡ apply (state_in old) n)
 
--- A core that works did so before, and its tree took in the node that was appended for the answer. One that failed appended none.
+-- A core that works did so before, and its tree took in the node that was appended for the answer.
+-- One that failed appended none.
 pub record TellsNode (old new : CoreState) (node : Option Node) : Type 0 where
   pub none : new.failed ≡ true → node ≡ None
   pub worked : new.failed ≡ false → old.failed ≡ false

@@ -1,6 +1,7 @@
 //! One request, one answer.
 
-ghost use Rattle.std.specs.Prelude.{◌≡◌, ◌<◌, ◌≤◌, ◌+◌, ◌++◌, ◌∷◌, ◌||◌, ◌&&◌, [], List, length, true, false, OnOk, IfErr, Ok, Some, None};
+ghost use Rattle.std.specs.Prelude.{◌≡◌, ◌<◌, ◌≤◌, ◌+◌, ◌++◌, ◌∷◌, ◌||◌, ◌&&◌, [], List, length};
+ghost use Rattle.std.specs.Prelude.{true, false, OnOk, IfErr, Ok, Some, None};
 ghost use Rattle.jffs_node.specs.Record.{record_len as length_of};
 ghost use Rattle.jffs_core.specs.CoreState.{IsSameButCapacity};
 ghost use Rattle.jffs_tree.specs.Decide.{is_copy_wish, is_unmount_wish};
@@ -20,7 +21,8 @@ impl<F: Flash> Core<F> {
     ghost use Rattle.jffs_log.specs.LogIndex.{HasSizes};
     ghost use Rattle.jffs_core.specs.CoreState.{SameAnswers};
     ghost use Rattle.jffs_core.specs.Past.{RepresentsWorking, Represents, has_room_for};
-    ghost use Rattle.jffs_core.specs.Answering.{Answers, AnswersWith, HasAnswered, HasActed, IsNodeOf, KeepsAnswer};
+    ghost use Rattle.jffs_core.specs.Answering.{Answers, AnswersWith, HasAnswered, HasActed};
+    ghost use Rattle.jffs_core.specs.Answering.{IsNodeOf, KeepsAnswer};
     ghost use Rattle.jffs_core.specs.Erases.{ErasesAtMost};
     ghost use Rattle.jffs_core.specs.Trees.{TellsNode};
 
@@ -47,10 +49,17 @@ impl<F: Flash> Core<F> {
     /// answers is changed.
     pub fn answer(&mut self, request: Request) -> Outcome
         requires reserved { length self.old.answers < self.old.capacity }
-        ensures kept { self.new.answers ≡ self.old.answers ++ record { writer = request.writer; seq = request.seq; outcome = result } ∷ [] }
-        ensures step { (mounted past : List Node) → Represents mounted past self.old → Answers mounted past self.old self.new request result }
+        ensures kept { self.new.answers
+            ≡ self.old.answers ++ record {
+              writer = request.writer;
+              seq = request.seq;
+              outcome = result;
+            } ∷ [] }
+        ensures step { (mounted past : List Node) → Represents mounted past self.old
+            → Answers mounted past self.old self.new request result }
         ensures closed { self.new.closed ≡ self.old.closed || is_closed result }
-        ensures failed { self.old.failed ≡ true → KeepsAnswer request.writer request.seq result self.old self.new }
+        ensures failed { self.old.failed ≡ true
+            → KeepsAnswer request.writer request.seq result self.old self.new }
         ensures sizes { HasSizes self.old.index.sectors self.old.index.sector_size self.new.index }
         ensures erases { ErasesAtMost self.old.index.sectors self.old self.new }
         ensures few { self.new.index.erases ≤ self.old.index.erases + self.old.index.sectors }
@@ -63,12 +72,19 @@ impl<F: Flash> Core<F> {
     /// same state, and makes the state of the tree that it has then.
     pub fn answer_with_node(&mut self, request: Request) -> Answered
         requires reserved { length self.old.answers < self.old.capacity }
-        ensures kept { self.new.answers ≡ self.old.answers ++ record { writer = request.writer; seq = request.seq; outcome = result.outcome } ∷ [] }
-        ensures step { (mounted past : List Node) → Represents mounted past self.old → AnswersWith mounted past self.old self.new request result.outcome result.node }
+        ensures kept { self.new.answers
+            ≡ self.old.answers ++ record {
+              writer = request.writer;
+              seq = request.seq;
+              outcome = result.outcome;
+            } ∷ [] }
+        ensures step { (mounted past : List Node) → Represents mounted past self.old
+            → AnswersWith mounted past self.old self.new request result.outcome result.node }
         ensures node { HasNode result.outcome result.node }
         ensures tree { TellsNode self.old self.new result.node }
         ensures closed { self.new.closed ≡ self.old.closed || is_closed result.outcome }
-        ensures failed { self.old.failed ≡ true → KeepsAnswer request.writer request.seq result.outcome self.old self.new }
+        ensures failed { self.old.failed ≡ true
+            → KeepsAnswer request.writer request.seq result.outcome self.old self.new }
         ensures sizes { HasSizes self.old.index.sectors self.old.index.sector_size self.new.index }
         ensures erases { ErasesAtMost self.old.index.sectors self.old self.new }
         ensures few { self.new.index.erases ≤ self.old.index.erases + self.old.index.sectors }
@@ -102,7 +118,8 @@ impl<F: Flash> Core<F> {
     /// Answers a request on a core whose device works.
     fn act(&mut self, request: &Request) -> Answered
         requires working { self.old.failed ≡ false }
-        ensures acted { (past : List Node) → RepresentsWorking past self.old → HasAnswered past self.old self.new request.now result.outcome result.node }
+        ensures acted { (past : List Node) → RepresentsWorking past self.old
+            → HasAnswered past self.old self.new request.now result.outcome result.node }
         ensures same { SameAnswers self.old self.new }
         ensures sizes { HasSizes self.old.index.sectors self.old.index.sector_size self.new.index }
         ensures erases { self.new.index.erases ≤ self.old.index.erases + self.old.index.held }
@@ -119,7 +136,8 @@ impl<F: Flash> Core<F> {
     /// Appends what a request wants, or returns why nothing is appended.
     fn carry_out(&mut self, request: &Request) -> Result<Answered, Cause>
         requires working { self.old.failed ≡ false }
-        ensures acted { (past : List Node) → RepresentsWorking past self.old → HasActed past self.old self.new request.now result }
+        ensures acted { (past : List Node) → RepresentsWorking past self.old
+            → HasActed past self.old self.new request.now result }
         ensures same { SameAnswers self.old self.new }
         ensures sizes { HasSizes self.old.index.sectors self.old.index.sector_size self.new.index }
         ensures erases { self.new.index.erases ≤ self.old.index.erases + self.old.index.held }
@@ -142,7 +160,8 @@ impl<F: Flash> Core<F> {
     fn take(&mut self, request: &Request, node: Node) -> Result<Answered, Cause>
         requires working { self.old.failed ≡ false }
         requires decided { IsNodeOf self.old request.now node }
-        ensures acted { (past : List Node) → RepresentsWorking past self.old → HasActed past self.old self.new request.now result }
+        ensures acted { (past : List Node) → RepresentsWorking past self.old
+            → HasActed past self.old self.new request.now result }
         ensures same { SameAnswers self.old self.new }
         ensures sizes { HasSizes self.old.index.sectors self.old.index.sector_size self.new.index }
         ensures erases { self.new.index.erases ≤ self.old.index.erases + self.old.index.held }
@@ -164,7 +183,8 @@ impl<F: Flash> Core<F> {
         requires working { self.old.failed ≡ false }
         requires decided { IsNodeOf self.old request.now node }
         requires unmounts { is_unmount_wish request.now.wish ≡ true }
-        ensures acted { (past : List Node) → RepresentsWorking past self.old → HasActed past self.old self.new request.now result }
+        ensures acted { (past : List Node) → RepresentsWorking past self.old
+            → HasActed past self.old self.new request.now result }
         ensures same { SameAnswers self.old self.new }
         ensures sizes { HasSizes self.old.index.sectors self.old.index.sector_size self.new.index }
         ensures erases { self.new.index.erases ≤ self.old.index.erases + self.old.index.held }
@@ -181,7 +201,8 @@ impl<F: Flash> Core<F> {
         requires working { self.old.failed ≡ false }
         requires decided { IsNodeOf self.old request.now node }
         requires copies { is_copy_wish request.now.wish ≡ true }
-        ensures acted { (past : List Node) → RepresentsWorking past self.old → HasActed past self.old self.new request.now result }
+        ensures acted { (past : List Node) → RepresentsWorking past self.old
+            → HasActed past self.old self.new request.now result }
         ensures same { SameAnswers self.old self.new }
         ensures sizes { HasSizes self.old.index.sectors self.old.index.sector_size self.new.index }
         ensures erases { self.new.index.erases ≤ self.old.index.erases + self.old.index.held }
@@ -202,7 +223,8 @@ impl<F: Flash> Core<F> {
         requires no_copy { is_copy_wish request.now.wish ≡ false }
         requires no_unmount { is_unmount_wish request.now.wish ≡ false }
         requires room { has_room_for self.old Room.Fresh (length_of node) ≡ true }
-        ensures acted { (past : List Node) → RepresentsWorking past self.old → HasActed past self.old self.new request.now result }
+        ensures acted { (past : List Node) → RepresentsWorking past self.old
+            → HasActed past self.old self.new request.now result }
         ensures same { SameAnswers self.old self.new }
         ensures sizes { HasSizes self.old.index.sectors self.old.index.sector_size self.new.index }
         ensures erases { self.new.index.erases ≤ self.old.index.erases + self.old.index.held }
@@ -218,7 +240,8 @@ impl<F: Flash> Core<F> {
         requires no_copy { is_copy_wish request.now.wish ≡ false }
         requires no_unmount { is_unmount_wish request.now.wish ≡ false }
         requires no_room { has_room_for self.old Room.Fresh (length_of node) ≡ false }
-        ensures acted { (past : List Node) → RepresentsWorking past self.old → HasActed past self.old self.new request.now result }
+        ensures acted { (past : List Node) → RepresentsWorking past self.old
+            → HasActed past self.old self.new request.now result }
         ensures same { SameAnswers self.old self.new }
         ensures sizes { HasSizes self.old.index.sectors self.old.index.sector_size self.new.index }
         ensures erases { self.new.index.erases ≤ self.old.index.erases + self.old.index.held }
@@ -236,7 +259,10 @@ impl<F: Flash> Core<F> {
 
 /// The answer to a request whose fresh node was appended.
 fn appended(node: Node) -> Answered
-    ensures { result ≡ record { outcome = Outcome.Appended node.inode node.version; node = Some node } }
+    ensures { result ≡ record {
+      outcome = Outcome.Appended node.inode node.version;
+      node = Some node;
+    } }
 {
     Answered {
         outcome: Outcome::Appended {

@@ -24,14 +24,15 @@ impl<F: Flash> Core<F> {
         self.log.room(room, len)
     }
 
-    /// Puts a node at the end of the history: the log's capacity is reserved, the tree is changed, and the
-    /// record is programmed. Precondition: it may follow all nodes before it.
+    /// Puts a node at the end of the history: the log's capacity is reserved, the tree is changed,
+    /// and the record is programmed. Precondition: it may follow all nodes before it.
     ///
     /// NoSpace and Memory: nothing is changed. Device: the tree has the node, and the log has it or
     /// has it not.
     pub(crate) fn append(&mut self, room: Room, node: &Node) -> Result<(), Cause>
         requires working { self.old.failed ≡ false }
-        requires follows { (past : List Node) × RepresentsWorking past self.old × MayPut past self.old.index.sector_size room node.now }
+        requires follows { (past : List Node) × RepresentsWorking past self.old
+            × MayPut past self.old.index.sector_size room node.now }
         ensures done { OnOk result (HasPut room node.now self.old self.new) }
         ensures refused { IfErr result (λ cause. PutRefused room node.now cause self.old self.new) }
         ensures same { SameAnswers self.old self.new }
@@ -54,7 +55,8 @@ impl<F: Flash> Core<F> {
 fn count(limits: &mut Limits, node: &Node)
     ensures data_max { limits.new.data_max ≡ limits.old.data_max }
     ensures version { limits.new.next_version ≡ following node.now.version }
-    ensures inode { (most : ℕ) → limits.old.next_inode ≡ following most → limits.new.next_inode ≡ following (max most node.now.inode) }
+    ensures inode { (most : ℕ) → limits.old.next_inode ≡ following most
+        → limits.new.next_inode ≡ following (max most node.now.inode) }
 {
     limits.next_version = node.version.checked_add(1);
     if limits.next_inode.is_some_and(|next| node.inode >= next) {

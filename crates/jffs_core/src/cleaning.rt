@@ -1,6 +1,7 @@
 //! Cleaning: what lives in the oldest sector is copied to the tail, and the sector is erased.
 
-ghost use Rattle.std.specs.Prelude.{◌≡◌, ◌≤◌, ◌<◌, ◌+◌, ◌/◌, ◌^◌, List, true, false, map, length, ◌↔◌, ◌⊎◌, IsTrue, OnOk, IfOk, IfErr, Err};
+ghost use Rattle.std.specs.Prelude.{◌≡◌, ◌≤◌, ◌<◌, ◌+◌, ◌/◌, ◌^◌, List, true, false, map, length};
+ghost use Rattle.std.specs.Prelude.{◌↔◌, ◌⊎◌, IsTrue, OnOk, IfOk, IfErr, Err};
 ghost use Rattle.std.specs.List.{AllByRecursion};
 ghost use Rattle.jffs_node.specs.Record.{record_len as length_of};
 ghost use Rattle.jffs_tree.specs.Look.{holds_version};
@@ -28,7 +29,10 @@ impl<F: Flash> Core<F> {
     ghost use Rattle.jffs_core.specs.CoreState.{SameAnswers};
     ghost use Rattle.jffs_core.specs.Past.{RepresentsWorking, Represents};
     ghost use Rattle.jffs_core.specs.Calls.{RefusedAt};
-    ghost use Rattle.jffs_core.specs.Cleaning.{Cleans, Stops, StopIs, ErasesDead, HasErasedDead, IsDeadOldest, DidClean, HasHandled, CopyStopped, HasCopied, HasErased, HasMadeRoom, MakingStopped, SectorStopped};
+    ghost use Rattle.jffs_core.specs.Cleaning.{Cleans, Stops, StopIs, ErasesDead, HasErasedDead};
+    ghost use Rattle.jffs_core.specs.Cleaning.{IsDeadOldest, DidClean, HasHandled, CopyStopped};
+    ghost use Rattle.jffs_core.specs.Cleaning.{HasCopied, HasErased, HasMadeRoom, MakingStopped};
+    ghost use Rattle.jffs_core.specs.Cleaning.{SectorStopped};
     ghost use Rattle.jffs_core.specs.Erases.{ErasesAtMost};
     ghost use Rattle.jffs_core.specs.Trees.{KeepsTree};
 
@@ -40,9 +44,14 @@ impl<F: Flash> Core<F> {
     /// the flash failed, and the core is failed from then on. The copies that were made stay.
     /// `Failed` on a core that had failed: nothing is changed.
     pub fn clean_oldest(&mut self) -> Result<Cleaned, Cause>
-        ensures cleaned { IfOk result (λ done. (mounted past : List Node) → Represents mounted past self.old → Cleans mounted past done self.old self.new) }
-        ensures stopped { IfErr result (λ cause. (mounted past : List Node) → Represents mounted past self.old → Stops mounted past cause self.old self.new) }
-        ensures failed { self.old.failed ≡ true → (result ≡ Err Cause.Failed) × (self.new ≡ self.old) }
+        ensures cleaned { IfOk result
+            (λ done. (mounted past : List Node) → Represents mounted past self.old
+            → Cleans mounted past done self.old self.new) }
+        ensures stopped { IfErr result
+            (λ cause. (mounted past : List Node) → Represents mounted past self.old
+            → Stops mounted past cause self.old self.new) }
+        ensures failed { self.old.failed ≡ true
+            → (result ≡ Err Cause.Failed) × (self.new ≡ self.old) }
         ensures same { SameAnswers self.old self.new }
         ensures sizes { HasSizes self.old.index.sectors self.old.index.sector_size self.new.index }
         ensures erases { self.new.index.erases ≤ self.old.index.erases + 1 }
@@ -59,10 +68,15 @@ impl<F: Flash> Core<F> {
     /// `Device` if the flash failed, and the core is failed from then on; `Failed` on a core that
     /// had failed: nothing is changed.
     pub fn erase_dead(&mut self) -> Result<u32, Cause>
-        ensures erased { IfOk result (λ count. (mounted past : List Node) → Represents mounted past self.old → ErasesDead mounted past count self.old self.new) }
-        ensures stopped { IfErr result (λ cause. (mounted past : List Node) → Represents mounted past self.old → Represents mounted past self.new × StopIs cause past self.old self.new) }
+        ensures erased { IfOk result
+            (λ count. (mounted past : List Node) → Represents mounted past self.old
+            → ErasesDead mounted past count self.old self.new) }
+        ensures stopped { IfErr result
+            (λ cause. (mounted past : List Node) → Represents mounted past self.old
+            → Represents mounted past self.new × StopIs cause past self.old self.new) }
         ensures causes { IfErr result (λ cause. (cause ≡ Cause.Device) ⊎ (cause ≡ Cause.Failed)) }
-        ensures failed { self.old.failed ≡ true → (result ≡ Err Cause.Failed) × (self.new ≡ self.old) }
+        ensures failed { self.old.failed ≡ true
+            → (result ≡ Err Cause.Failed) × (self.new ≡ self.old) }
         ensures same { SameAnswers self.old self.new }
         ensures sizes { HasSizes self.old.index.sectors self.old.index.sector_size self.new.index }
         ensures erases { ErasesAtMost 0 self.old self.new }
@@ -78,8 +92,12 @@ impl<F: Flash> Core<F> {
     fn erase_while_dead(&mut self) -> Result<u32, Cause>
         requires working { self.old.failed ≡ false }
         requires few { length (layout_in self.old.image self.old.index).sectors < 2 ^ 32 }
-        ensures erased { IfOk result (λ count. (past : List Node) → RepresentsWorking past self.old → HasErasedDead count past self.old self.new) }
-        ensures stopped { IfErr result (λ cause. (past : List Node) → RepresentsWorking past self.old → RefusedAt cause past self.old self.new) }
+        ensures erased { IfOk result
+            (λ count. (past : List Node) → RepresentsWorking past self.old
+            → HasErasedDead count past self.old self.new) }
+        ensures stopped { IfErr result
+            (λ cause. (past : List Node) → RepresentsWorking past self.old
+            → RefusedAt cause past self.old self.new) }
         ensures device { IfErr result (λ cause. cause ≡ Cause.Device) }
         ensures same { SameAnswers self.old self.new }
         ensures sizes { HasSizes self.old.index.sectors self.old.index.sector_size self.new.index }
@@ -106,8 +124,12 @@ impl<F: Flash> Core<F> {
     /// room, or each sector that held the log was cleaned.
     pub(crate) fn make_room(&mut self, len: u32) -> Result<(), Cause>
         requires working { self.old.failed ≡ false }
-        ensures made { OnOk result ((past : List Node) → RepresentsWorking past self.old → (after : List Node) × HasMadeRoom len past after self.old self.new) }
-        ensures refused { IfErr result (λ cause. (past : List Node) → RepresentsWorking past self.old → (after : List Node) × MakingStopped len cause past after self.old self.new) }
+        ensures made { OnOk result
+            ((past : List Node) → RepresentsWorking past self.old
+            → (after : List Node) × HasMadeRoom len past after self.old self.new) }
+        ensures refused { IfErr result
+            (λ cause. (past : List Node) → RepresentsWorking past self.old
+            → (after : List Node) × MakingStopped len cause past after self.old self.new) }
         ensures works { OnOk result (self.new.failed ≡ false) }
         ensures same { SameAnswers self.old self.new }
         ensures sizes { HasSizes self.old.index.sectors self.old.index.sector_size self.new.index }
@@ -128,8 +150,12 @@ impl<F: Flash> Core<F> {
     /// Cleans the oldest sector of a core whose device works.
     fn clean_one(&mut self) -> Result<Cleaned, Cause>
         requires working { self.old.failed ≡ false }
-        ensures cleaned { IfOk result (λ done. (past : List Node) → RepresentsWorking past self.old → DidClean done past self.old self.new) }
-        ensures stopped { IfErr result (λ cause. (past : List Node) → RepresentsWorking past self.old → (after : List Node) × SectorStopped cause past after self.old self.new) }
+        ensures cleaned { IfOk result
+            (λ done. (past : List Node) → RepresentsWorking past self.old
+            → DidClean done past self.old self.new) }
+        ensures stopped { IfErr result
+            (λ cause. (past : List Node) → RepresentsWorking past self.old
+            → (after : List Node) × SectorStopped cause past after self.old self.new) }
         ensures works { OnOk result (self.new.failed ≡ false) }
         ensures same { SameAnswers self.old self.new }
         ensures sizes { HasSizes self.old.index.sectors self.old.index.sector_size self.new.index }
@@ -148,8 +174,12 @@ impl<F: Flash> Core<F> {
         requires known { (past : List Node) × RepresentsWorking past self.old }
         requires several { 2 ≤ length (layout_in self.old.image self.old.index).sectors }
         requires oldest { nodes.now ≡ map (λ p. p.node) (oldest_in self.old.image self.old.index) }
-        ensures cleaned { IfOk result (λ done. (past : List Node) → RepresentsWorking past self.old → DidClean done past self.old self.new) }
-        ensures stopped { IfErr result (λ cause. (past : List Node) → RepresentsWorking past self.old → (after : List Node) × SectorStopped cause past after self.old self.new) }
+        ensures cleaned { IfOk result
+            (λ done. (past : List Node) → RepresentsWorking past self.old
+            → DidClean done past self.old self.new) }
+        ensures stopped { IfErr result
+            (λ cause. (past : List Node) → RepresentsWorking past self.old
+            → (after : List Node) × SectorStopped cause past after self.old self.new) }
         ensures works { OnOk result (self.new.failed ≡ false) }
         ensures same { SameAnswers self.old self.new }
         ensures sizes { HasSizes self.old.index.sectors self.old.index.sector_size self.new.index }
@@ -166,10 +196,15 @@ impl<F: Flash> Core<F> {
     fn copy_each(&mut self, nodes: &[Node]) -> Result<u32, Cause>
         requires working { self.old.failed ≡ false }
         requires known { (past : List Node) × RepresentsWorking past self.old }
-        requires oldest { nodes.now ≡ oldest_records (layout_in self.old.image self.old.index).sectors }
+        requires oldest { nodes.now
+            ≡ oldest_records (layout_in self.old.image self.old.index).sectors }
         requires several { 2 ≤ length (layout_in self.old.image self.old.index).sectors }
-        ensures copied { IfOk result (λ copies. (past : List Node) → RepresentsWorking past self.old → (after : List Node) × HasCopied nodes.now past after copies self.old self.new) }
-        ensures stopped { IfErr result (λ cause. (past : List Node) → RepresentsWorking past self.old → (after : List Node) × SectorStopped cause past after self.old self.new) }
+        ensures copied { IfOk result
+            (λ copies. (past : List Node) → RepresentsWorking past self.old
+            → (after : List Node) × HasCopied nodes.now past after copies self.old self.new) }
+        ensures stopped { IfErr result
+            (λ cause. (past : List Node) → RepresentsWorking past self.old
+            → (after : List Node) × SectorStopped cause past after self.old self.new) }
         ensures works { OnOk result (self.new.failed ≡ false) }
         ensures same { SameAnswers self.old self.new }
         ensures sizes { HasSizes self.old.index.sectors self.old.index.sector_size self.new.index }
@@ -185,10 +220,15 @@ impl<F: Flash> Core<F> {
     /// Copies a record of the log where it is live; answers whether it is.
     fn handle(&mut self, source: &Node) -> Result<bool, Cause>
         requires working { self.old.failed ≡ false }
-        requires known { (past : List Node) × RepresentsWorking past self.old × Among source.now past }
+        requires known { (past : List Node) × RepresentsWorking past self.old
+            × Among source.now past }
         requires short { length_of source.now ≤ self.old.index.sector_size / 4 }
-        ensures handled { IfOk result (λ copied. (past : List Node) → RepresentsWorking past self.old → Among source.now past → HasHandled past source.now copied self.old self.new) }
-        ensures stopped { IfErr result (λ cause. (past : List Node) → RepresentsWorking past self.old → Among source.now past → CopyStopped cause past source.now self.old self.new) }
+        ensures handled { IfOk result
+            (λ copied. (past : List Node) → RepresentsWorking past self.old → Among source.now past
+            → HasHandled past source.now copied self.old self.new) }
+        ensures stopped { IfErr result
+            (λ cause. (past : List Node) → RepresentsWorking past self.old → Among source.now past
+            → CopyStopped cause past source.now self.old self.new) }
         ensures works { OnOk result (self.new.failed ≡ false) }
         ensures same { SameAnswers self.old self.new }
         ensures sizes { HasSizes self.old.index.sectors self.old.index.sector_size self.new.index }
@@ -204,11 +244,16 @@ impl<F: Flash> Core<F> {
     /// Appends the copy of a live record.
     fn copy(&mut self, source: &Node) -> Result<(), Cause>
         requires working { self.old.failed ≡ false }
-        requires known { (past : List Node) × RepresentsWorking past self.old × Among source.now past }
+        requires known { (past : List Node) × RepresentsWorking past self.old
+            × Among source.now past }
         requires live { holds_version self.old.tree source.now.inode source.now.version ≡ true }
         requires short { length_of source.now ≤ self.old.index.sector_size / 4 }
-        ensures copied { OnOk result ((past : List Node) → RepresentsWorking past self.old → Among source.now past → HasHandled past source.now true self.old self.new) }
-        ensures stopped { IfErr result (λ cause. (past : List Node) → RepresentsWorking past self.old → Among source.now past → CopyStopped cause past source.now self.old self.new) }
+        ensures copied { OnOk result
+            ((past : List Node) → RepresentsWorking past self.old → Among source.now past
+            → HasHandled past source.now true self.old self.new) }
+        ensures stopped { IfErr result
+            (λ cause. (past : List Node) → RepresentsWorking past self.old → Among source.now past
+            → CopyStopped cause past source.now self.old self.new) }
         ensures works { OnOk result (self.new.failed ≡ false) }
         ensures same { SameAnswers self.old self.new }
         ensures sizes { HasSizes self.old.index.sectors self.old.index.sector_size self.new.index }
@@ -225,9 +270,12 @@ impl<F: Flash> Core<F> {
     fn oldest_nodes(&mut self) -> Result<Vec<Node>, Cause>
         requires working { self.old.failed ≡ false }
         requires some { 1 ≤ self.old.index.held }
-        ensures nodes { IfOk result (λ nodes. nodes.items ≡ map (λ p. p.node) (oldest_in self.old.image self.old.index)) }
+        ensures nodes { IfOk result
+            (λ nodes. nodes.items ≡ map (λ p. p.node) (oldest_in self.old.image self.old.index)) }
         ensures kept { OnOk result (self.new ≡ self.old) }
-        ensures refused { IfErr result (λ cause. (past : List Node) → RepresentsWorking past self.old → RefusedAt cause past self.old self.new) }
+        ensures refused { IfErr result
+            (λ cause. (past : List Node) → RepresentsWorking past self.old
+            → RefusedAt cause past self.old self.new) }
         ensures causes { IfErr result (λ cause. (cause ≡ Cause.Memory) ⊎ (cause ≡ Cause.Device)) }
         ensures same { SameAnswers self.old self.new }
         ensures sizes { HasSizes self.old.index.sectors self.old.index.sector_size self.new.index }
@@ -240,10 +288,17 @@ impl<F: Flash> Core<F> {
     fn erase_oldest(&mut self) -> Result<(), Cause>
         requires working { self.old.failed ≡ false }
         requires several { 2 ≤ length (layout_in self.old.image self.old.index).sectors }
-        requires dead { AllByRecursion (λ p. lives_in self.old.tree p ≡ false) (oldest_in self.old.image self.old.index) }
-        ensures erased { OnOk result ((past : List Node) → RepresentsWorking past self.old → HasErased past self.old self.new) }
-        ensures refused { IfErr result (λ cause. (past : List Node) → RepresentsWorking past self.old → RefusedAt cause past self.old self.new) }
-        ensures log { OnOk result (layout_in self.new.image self.new.index ≡ erase_layout (layout_in self.old.image self.old.index)) }
+        requires dead { AllByRecursion (λ p. lives_in self.old.tree p ≡ false)
+            (oldest_in self.old.image self.old.index) }
+        ensures erased { OnOk result
+            ((past : List Node) → RepresentsWorking past self.old
+            → HasErased past self.old self.new) }
+        ensures refused { IfErr result
+            (λ cause. (past : List Node) → RepresentsWorking past self.old
+            → RefusedAt cause past self.old self.new) }
+        ensures log { OnOk result
+            (layout_in self.new.image self.new.index
+            ≡ erase_layout (layout_in self.old.image self.old.index)) }
         ensures device { IfErr result (λ cause. cause ≡ Cause.Device) }
         ensures works { OnOk result (self.new.failed ≡ false) }
         ensures same { SameAnswers self.old self.new }

@@ -30,9 +30,13 @@ impl<F: Flash> Core<F> {
     /// failed from then on. `Failed` on a core that had failed: nothing is changed.
     pub fn oldest_image(&mut self) -> Result<Vec<u8>, Cause>
         requires some { self.old.failed ≡ false → 1 ≤ self.old.index.held }
-        ensures same { self.new ≡ record self.old { failed = self.new.failed; faults = self.new.faults } }
-        ensures stands { (mounted past : List Node) → Represents mounted past self.old → Represents mounted past self.new }
-        ensures bytes { IfOk result (λ bytes. bytes.items ≡ sector_bytes self.old.index.sector_size self.old.index.first self.old.image) }
+        ensures same { self.new
+            ≡ record self.old { failed = self.new.failed; faults = self.new.faults } }
+        ensures stands { (mounted past : List Node) → Represents mounted past self.old
+            → Represents mounted past self.new }
+        ensures bytes { IfOk result
+            (λ bytes. bytes.items
+            ≡ sector_bytes self.old.index.sector_size self.old.index.first self.old.image) }
         ensures works { OnOk result ((self.new.failed ≡ false) × (self.new ≡ self.old)) }
         ensures refused { IfErr result (λ cause. ReadRefused cause self.old self.new) }
     {

@@ -2,7 +2,8 @@
 
 ghost use Rattle.jffs_core.specs.Erases.{OneIsErased};
 ghost use Rattle.jffs_core.specs.History.{ContentsAreState};
-ghost use Rattle.jffs_core.specs.RoomSteps.{CleaningOnlyCopies, StoppedOnlyCopies, MakingRoomOnlyCopies, NoSpaceIsAStep, UnmountsHaveRoom};
+ghost use Rattle.jffs_core.specs.RoomSteps.{CleaningOnlyCopies, StoppedOnlyCopies};
+ghost use Rattle.jffs_core.specs.RoomSteps.{MakingRoomOnlyCopies, NoSpaceIsAStep, UnmountsHaveRoom};
 ghost use Rattle.jffs_core.specs.Past.{ScansFindContents, FailedScansFind};
 ghost use Rattle.jffs_core.specs.Finding.{DeviceScansFind, StoppedScansFind};
 ghost use Rattle.jffs_core.specs.Run.{RunsGoOn, LawfulRunsGrow};
@@ -18,7 +19,8 @@ pub fn contents_are_kept()
     ensures grows { LawfulRunsGrow }
 {}
 
-/// Cleaning adds true copies alone, and where a whole turn of it made no room, NoSpace is a lawful answer.
+/// Cleaning adds true copies alone, and where a whole turn of it made no room, NoSpace is a lawful
+/// answer.
 pub fn cleaning_is_lawful()
     ensures one { CleaningOnlyCopies }
     ensures stopped { StoppedOnlyCopies }
@@ -27,9 +29,10 @@ pub fn cleaning_is_lawful()
     ensures unmounts { UnmountsHaveRoom }
 {}
 
-/// A scan of a core's image finds what the fresh nodes since the mount made. After a failure, but for
-/// that of an erase, it finds that, or that with one node more; after the answer Device the state
-/// before the request, or that after it; and after a cleaning that stopped with Device the state before.
+/// A scan of a core's image finds what the fresh nodes since the mount made. After a failure, but
+/// for that of an erase, it finds that, or that with one node more; after the answer Device the
+/// state before the request, or that after it; and after a cleaning that stopped with Device the
+/// state before.
 pub fn scans_find_contents()
     ensures works { ScansFindContents }
     ensures failed { FailedScansFind }

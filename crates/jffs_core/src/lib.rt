@@ -4,7 +4,8 @@
 //! on, room is made for its node by cleaning, and the node is taken in by the tree and appended to
 //! the log. What a `Core` represents is the log that was mounted and the history since
 //! (`specs/Past`); no value of the program holds it, so each contract says that a core which
-//! represented a history before the call represents the one after. [`Core::answer`] carries the promise:
+//! represented a history before the call represents the one after. [`Core::answer`] carries the
+//! promise:
 //! its answer is a lawful step (`specs/Step`) from one to the other.
 #![tactic(auto)]
 

@@ -45,7 +45,9 @@ impl<F: Flash> Model for Core<F> {
       capacity = vec_capacity c.answers;
     } };
 
-    ghost invariant = { λ c. HasLogIndex c.log.failed c.log.device.sectors c.log.device.sector_size c.log.device.image c.log.index c.tree c.limits c.clean };
+    ghost invariant = { λ c.
+        HasLogIndex c.log.failed c.log.device.sectors c.log.device.sector_size c.log.device.image
+        c.log.index c.tree c.limits c.clean };
 }
 
 impl<F: Flash> Core<F> {
@@ -54,9 +56,9 @@ impl<F: Flash> Core<F> {
     /// Mounts a device: scans it, whatever it holds, and never writes to it. The core represents
     /// the log that was found, without answers.
     ///
-    /// Each refusal is that of the scan, and hands the device back with the bytes that it had. Its reason is in the
-    /// image and none that is tried before it is, but for `Device`, where a read failed, and `Memory`, where
-    /// allocation failed.
+    /// Each refusal is that of the scan, and hands the device back with the bytes that it had. Its
+    /// reason is in the image and none that is tried before it is, but for `Device`, where a read
+    /// failed, and `Memory`, where allocation failed.
     pub fn mount(alloc: Global, flash: F) -> Result<Core<F>, ScanFault<F>>
         ensures mounted { IfOk result (λ c. IsFresh (F.device flash) c) }
         ensures refused { IfErr result (λ f. IsRefused (F.device flash) f.why (F.device f.flash)) }

@@ -60,8 +60,8 @@ impl Settings {
         })
     }
 
-    /// Sets a key. After an error, and after a crash at any moment, it has its old value or the new one: a value is one
-    /// write, and so one record of the log.
+    /// Sets a key. After an error, and after a crash at any moment, it has its old value or the new
+    /// one: a value is one write, and so one record of the log.
     pub fn set(&mut self, key: &str, value: u32) -> Result<(), SettingFault> {
         let path = Path::parse(self.alloc, key)?;
         if self.core.tree().resolve(&path).is_none() {

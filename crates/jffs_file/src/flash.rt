@@ -1,7 +1,9 @@
 //! Flash whose bytes stand in memory and in a store.
 
-ghost use Rattle.std.specs.Prelude.{◌≡◌, ◌+◌, ◌*◌, ◌<◌, ◌≤◌, length, vec_len, false, OnOk, OnErr, IsErr, IsTrue, ◌↔◌};
-ghost use Rattle.jffs_flash.specs.Image.{window, programmed, erased, IsHalfProgrammed, IsHalfErased};
+ghost use Rattle.std.specs.Prelude.{◌≡◌, ◌+◌, ◌*◌, ◌<◌, ◌≤◌, length, vec_len, false, OnOk, OnErr};
+ghost use Rattle.std.specs.Prelude.{IsErr, IsTrue, ◌↔◌};
+ghost use Rattle.jffs_flash.specs.Image.{window, programmed, erased, IsHalfProgrammed};
+ghost use Rattle.jffs_flash.specs.Image.{IsHalfErased};
 ghost use Rattle.jffs_flash.specs.Device.{Device, with_image, device_of, Reads, Programs, Erases};
 ghost use Rattle.jffs_file.specs.Kept.{seen_device, IsKept, IsLeftAs};
 ghost use Rattle.jffs_file.specs.Stored.{Overwrites};
@@ -13,9 +15,10 @@ use std::io::{Seek, Write};
 
 /// Flash whose bytes stand in memory and in a store, which is written before a call returns.
 ///
-/// A write that fails is a fault of the device. From then on each `program` and `erase` fails, and the store is written
-/// no more: so it stays as the failed call left it, which is what the device may hold after such a call, and is known
-/// once it is opened anew. Reads never fail, and show the bytes in memory. No call fails any more after
+/// A write that fails is a fault of the device. From then on each `program` and `erase` fails, and
+/// the store is written no more: so it stays as the failed call left it, which is what the device
+/// may hold after such a call, and is known once it is opened anew. Reads never fail, and show the
+/// bytes in memory. No call fails any more after
 /// 2<sup>64</sup> - 1 have failed.
 #[derive(Drop)]
 pub struct FileFlash<S: Store> {
@@ -28,8 +31,8 @@ pub struct FileFlash<S: Store> {
 impl<S: Store> FileFlash<S> {
     /// A device with the bytes of `held`.
     ///
-    /// *Precondition:* the store has the same bytes, from its first one on. Without it the device works as well, but the
-    /// store isn't what it shows.
+    /// *Precondition:* the store has the same bytes, from its first one on. Without it the device
+    /// works as well, but the store isn't what it shows.
     pub fn new(held: MemoryFlash, store: S) -> FileFlash<S>
         ensures held { result.held ≡ held }
         ensures store { result.store ≡ store }
@@ -70,7 +73,9 @@ impl<S: Store> FileFlash<S> {
         requires { at + len ≤ length self.old.held.image }
         ensures rest { self.new ≡ record self.old { store = self.new.store } }
         ensures sound { IsErr result → self.old.faults ≡ 0 }
-        ensures written { self.old.faults ≡ 0 → Overwrites at (window at len self.old.held.image) result (S.stored self.old.store) (S.stored self.new.store) }
+        ensures written { self.old.faults ≡ 0
+            → Overwrites at (window at len self.old.held.image) result (S.stored self.old.store)
+            (S.stored self.new.store) }
         ensures stopped { 0 < self.old.faults → self.new.store ≡ self.old.store }
     {
         if self.faults > 0 {
@@ -83,8 +88,9 @@ impl<S: Store> FileFlash<S> {
 }
 
 impl<F: Write + Seek + OpenFile + Drop> FileFlash<FileStore<F>> {
-    /// Has the operating system bring all that was written to the medium itself, and waits for it. Nothing else
-    /// outlasts a loss of power of the whole machine; what the program wrote outlasts the program without it.
+    /// Has the operating system bring all that was written to the medium itself, and waits for it.
+    /// Nothing else outlasts a loss of power of the whole machine; what the program wrote outlasts
+    /// the program without it.
     ///
     /// After a failure nobody knows what the medium holds.
     pub fn sync(&self) -> Result<(), StoreFault> {
@@ -114,12 +120,19 @@ impl<S: Store> Flash for FileFlash<S> {
 
     fn program(&mut self, at: u32, bytes: &[u8]) -> Result<(), FlashFault>
         requires { at + length bytes.now ≤ length self.old.held.image }
-        ensures kept { OnOk result (IsKept (S.stored self.old.store) self.old.held self.old.faults → IsKept (S.stored self.new.store) self.new.held self.new.faults) }
-        ensures left { OnErr result (IsKept (S.stored self.old.store) self.old.held self.old.faults → IsLeftAs (S.stored self.new.store) (IsHalfProgrammed at bytes.now self.old.held.image)) }
+        ensures kept { OnOk result
+            (IsKept (S.stored self.old.store) self.old.held self.old.faults
+            → IsKept (S.stored self.new.store) self.new.held self.new.faults) }
+        ensures left { OnErr result
+            (IsKept (S.stored self.old.store) self.old.held self.old.faults
+            → IsLeftAs (S.stored self.new.store)
+            (IsHalfProgrammed at bytes.now self.old.held.image)) }
         ensures stopped { 0 < self.old.faults → self.new.store ≡ self.old.store }
 
         // What each device promises.
-        ensures device { Programs at bytes.now result (seen_device self.old.held self.old.faults self.old.erase_failed) (seen_device self.new.held self.new.faults self.new.erase_failed) }
+        ensures device { Programs at bytes.now result
+            (seen_device self.old.held self.old.faults self.old.erase_failed)
+            (seen_device self.new.held self.new.faults self.new.erase_failed) }
     {
         if self.has_stopped() {
             self.faults += 1;
@@ -137,12 +150,20 @@ impl<S: Store> Flash for FileFlash<S> {
 
     fn erase(&mut self, sector: u32) -> Result<(), FlashFault>
         requires { sector < self.old.held.sectors }
-        ensures kept { OnOk result (IsKept (S.stored self.old.store) self.old.held self.old.faults → IsKept (S.stored self.new.store) self.new.held self.new.faults) }
-        ensures left { OnErr result (IsKept (S.stored self.old.store) self.old.held self.old.faults → IsLeftAs (S.stored self.new.store) (IsHalfErased (sector * self.old.held.sector_size) self.old.held.sector_size self.old.held.image)) }
+        ensures kept { OnOk result
+            (IsKept (S.stored self.old.store) self.old.held self.old.faults
+            → IsKept (S.stored self.new.store) self.new.held self.new.faults) }
+        ensures left { OnErr result
+            (IsKept (S.stored self.old.store) self.old.held self.old.faults
+            → IsLeftAs (S.stored self.new.store)
+            (IsHalfErased (sector * self.old.held.sector_size) self.old.held.sector_size
+            self.old.held.image)) }
         ensures stopped { 0 < self.old.faults → self.new.store ≡ self.old.store }
 
         // What each device promises.
-        ensures device { Erases sector result (seen_device self.old.held self.old.faults self.old.erase_failed) (seen_device self.new.held self.new.faults self.new.erase_failed) }
+        ensures device { Erases sector result
+            (seen_device self.old.held self.old.faults self.old.erase_failed)
+            (seen_device self.new.held self.new.faults self.new.erase_failed) }
     {
         let size = self.held.sector_size();
         if self.has_stopped() {

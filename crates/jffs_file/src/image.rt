@@ -1,6 +1,7 @@
 //! A file of the operating system that holds the bytes of a device.
 
-ghost use Rattle.std.specs.Prelude.{◌≡◌, ◌≢◌, ◌*◌, ◌↔◌, false, vec_len, replicate, IsErr, IfOk, OnOk, IsTrue, IsErrOf};
+ghost use Rattle.std.specs.Prelude.{◌≡◌, ◌≢◌, ◌*◌, ◌↔◌, false, vec_len, replicate, IsErr, IfOk};
+ghost use Rattle.std.specs.Prelude.{OnOk, IsTrue, IsErrOf};
 ghost use Rattle.jffs_flash.specs.Image.{erased_byte};
 ghost use Rattle.jffs_flash.specs.Device.{device_of};
 ghost use Rattle.jffs_flash.specs.Sizes.{is_geometry as allows_geometry};
@@ -73,8 +74,8 @@ pub struct FileImage<F: Write + Seek + Drop> {
 
 /// Opens a file for reading and writing, and reads it.
 ///
-/// `Missing` where there is none, `Length` where it is longer than any volume, `Open` where it can't be opened so or
-/// can't be read, `Memory`. The file is the same afterwards.
+/// `Missing` where there is none, `Length` where it is longer than any volume, `Open` where it
+/// can't be opened so or can't be read, `Memory`. The file is the same afterwards.
 pub fn open_image<R: Files + AllocGlobal>(
     rt: &R,
     path: &str,
@@ -95,8 +96,9 @@ pub fn open_image<R: Files + AllocGlobal>(
 
 /// Makes a file of erased bytes, as many as `sectors` sectors of `sector_size` bytes have.
 ///
-/// It is made under the name `PATH.new`, of which any file is overwritten, and renamed when it is whole: so there is a
-/// whole file under its name, or none. `Geometry` where a volume may not have these sizes, which is tried first,
+/// It is made under the name `PATH.new`, of which any file is overwritten, and renamed when it is
+/// whole: so there is a whole file under its name, or none. `Geometry` where a volume may not have
+/// these sizes, which is tried first,
 /// `Taken` where there is such a file already, `Write` where it can't be made or written, `Memory`.
 pub fn create_image<R: Files + AllocGlobal>(
     rt: &R,
@@ -104,9 +106,11 @@ pub fn create_image<R: Files + AllocGlobal>(
     sectors: u32,
     sector_size: u32,
 ) -> Result<FileImage<R::File>, FileFault>
-    ensures erased { IfOk result (λ image. image.bytes.items ≡ replicate (sectors * sector_size) erased_byte) }
+    ensures erased { IfOk result
+        (λ image. image.bytes.items ≡ replicate (sectors * sector_size) erased_byte) }
     ensures allowed { OnOk result (IsTrue (allows_geometry sectors sector_size)) }
-    ensures geometry { (allows_geometry sectors sector_size ≡ false) → IsErrOf result FileFault.Geometry }
+    ensures geometry { (allows_geometry sectors sector_size ≡ false)
+        → IsErrOf result FileFault.Geometry }
 {
     if !is_geometry(sectors, sector_size) {
         return Err(FileFault::Geometry);
@@ -146,14 +150,16 @@ impl<F: Write + Seek + Drop> FileImage<F> {
         &self.bytes
     }
 
-    /// Flash of `sectors` sectors of `sector_size` bytes in this file. `Length` where the file has another length.
+    /// Flash of `sectors` sectors of `sector_size` bytes in this file. `Length` where the file has
+    /// another length.
     pub fn into_flash(
         self,
         sectors: u32,
         sector_size: u32,
     ) -> Result<FileFlash<FileStore<F>>, FileFault>
         ensures length { IsErr result ↔ (vec_len self.bytes ≢ sectors * sector_size) }
-        ensures held { IfOk result (λ flash. flash.held ≡ device_of sectors sector_size self.bytes.items) }
+        ensures held { IfOk result
+            (λ flash. flash.held ≡ device_of sectors sector_size self.bytes.items) }
         ensures sound { IfOk result (λ flash. flash.faults ≡ 0) }
     {
         let FileImage { bytes, file } = self;

@@ -17,7 +17,8 @@ pub trait Store {
     // All bytes, where they are known. An open file doesn't say.
     ghost stored: { Self → Option (List ℕ) } = { λ _. None };
 
-    /// Writes these bytes over those from `at` on, an index in bytes. They stay before the call returns.
+    /// Writes these bytes over those from `at` on, an index in bytes. They stay before the call
+    /// returns.
     ///
     /// After a failure some first part of them is written, and the rest of the range is as it was.
     fn overwrite(&mut self, at: u64, bytes: &[u8]) -> Result<(), StoreFault>

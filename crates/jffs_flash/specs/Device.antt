@@ -1,9 +1,10 @@
 -- A flash device as its callers see it, and what its calls leave of it.
-use Rattle.std.specs.Prelude.{◌≡◌, ℕ, ◌*◌, ◌<◌, Bool, true, false, List, length, replicate, Result, MatchResult}
+use Rattle.std.specs.Prelude.{◌≡◌, ℕ, ◌*◌, ◌<◌, Bool, true, false, List, length, replicate, Result}
+use Rattle.std.specs.Prelude.{MatchResult}
 use Rattle.jffs_flash.specs.Image.{erased_byte, programmed, IsHalfProgrammed, erased, IsHalfErased}
 
--- how many sectors it has, how many bytes each, all bytes, the sectors one after another, how many calls failed so far, and whether
--- an erase did: its sector may then hold any bytes
+-- how many sectors it has, how many bytes each, all bytes, the sectors one after another, how many
+-- calls failed so far, and whether an erase did: its sector may then hold any bytes
 pub record Device : Type 0 where
   pub sectors : ℕ
   pub sector_size : ℕ
@@ -22,11 +23,18 @@ with_image device image = record device { image = image }
 -- the device that holds these bytes, and never failed
 abbrev pub device_of : ℕ → ℕ → List ℕ → Device
 device_of sectors sector_size image =
-    record { sectors = sectors; sector_size = sector_size; image = image; faults = 0; erase_failed = false }
+    record {
+      sectors = sectors;
+      sector_size = sector_size;
+      image = image;
+      faults = 0;
+      erase_failed = false;
+    }
 
 -- the device whose sectors are all erased
 abbrev pub erased_device : ℕ → ℕ → Device
-erased_device sectors sector_size = device_of sectors sector_size (replicate (sectors * sector_size) erased_byte)
+erased_device sectors sector_size =
+    device_of sectors sector_size (replicate (sectors * sector_size) erased_byte)
 
 -- A call failed and left such an image: the count has risen, and nothing else changed.
 pub record Fails (Leaves : List ℕ → Type 0) (old new : Device) : Type 0 where
@@ -46,7 +54,8 @@ Unchanged old new = new ≡ old
 
 -- a read changes no byte
 abbrev pub Reads : {A E : Type 0} → Result A E → Device → Device → Type 0
-Reads result old new = MatchResult result (λ _. Unchanged old new) (λ _. Fails (λ image. image ≡ old.image) old new)
+Reads result old new =
+    MatchResult result (λ _. Unchanged old new) (λ _. Fails (λ image. image ≡ old.image) old new)
 
 -- these bytes are programmed from an offset on, or some of their bits
 abbrev pub Programs : {A E : Type 0} → ℕ → List ℕ → Result A E → Device → Device → Type 0

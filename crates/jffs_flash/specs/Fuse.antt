@@ -1,5 +1,6 @@
 -- A device with a fuse: it lets a number of fused calls pass, and then fails each.
-use Rattle.std.specs.Prelude.{ℕ, Bool, true, false, ◌+◌, ◌-◌, ◌*◌, ◌/◌, ◌&&◌, ◌==◌, nat_lt, List, ◌++◌, length, take, drop, replicate}
+use Rattle.std.specs.Prelude.{ℕ, Bool, true, false, ◌+◌, ◌-◌, ◌*◌, ◌/◌, ◌&&◌, ◌==◌, nat_lt, List}
+use Rattle.std.specs.Prelude.{◌++◌, length, take, drop, replicate}
 use Rattle.jffs_flash.specs.declared.fuse.Fused.{Fused}
 use Rattle.jffs_flash.specs.declared.fuse.Fused.TheVariants.{Writes, All}
 use Rattle.jffs_flash.specs.declared.fuse.Fail.{Fail}
@@ -7,8 +8,8 @@ use Rattle.jffs_flash.specs.declared.fuse.Fail.TheVariants.{Nothing, Half}
 use Rattle.jffs_flash.specs.Device.{Device, with_image}
 use Rattle.jffs_flash.specs.Image.{window, replaced, programmed, erased_byte}
 
--- the device inside, which never fails, how many fused calls still pass, which calls are fused, what a failing call does, how many failed,
--- and whether an erase did
+-- the device inside, which never fails, how many fused calls still pass, which calls are fused,
+-- what a failing call does, how many failed, and whether an erase did
 pub record Fuse : Type 0 where
   pub inner : Device
   pub calls_left : ℕ
@@ -20,7 +21,14 @@ pub record Fuse : Type 0 where
 -- a new fuse over a device
 abbrev pub fuse_of : Device → ℕ → Fused → Fail → Fuse
 fuse_of device calls fused fail =
-    record { inner = device; calls_left = calls; fused = fused; fail = fail; faults = 0; erase_failed = false }
+    record {
+      inner = device;
+      calls_left = calls;
+      fused = fused;
+      fail = fail;
+      faults = 0;
+      erase_failed = false;
+    }
 
 -- the device as its callers see it
 abbrev pub seen_device : Fuse → Device
@@ -41,11 +49,13 @@ is_blown fuse = fuse.calls_left == 0 && nat_lt fuse.faults last_fault_count
 
 -- after a fused call that passed and left this image
 abbrev pub after_pass : Fuse → List ℕ → Fuse
-after_pass fuse image = record fuse { inner = with_image fuse.inner image; calls_left = fuse.calls_left - 1 }
+after_pass fuse image =
+    record fuse { inner = with_image fuse.inner image; calls_left = fuse.calls_left - 1 }
 
 -- after a fused call that failed and left this image
 abbrev pub after_fault : Fuse → List ℕ → Fuse
-after_fault fuse image = record fuse { inner = with_image fuse.inner image; faults = fuse.faults + 1 }
+after_fault fuse image =
+    record fuse { inner = with_image fuse.inner image; faults = fuse.faults + 1 }
 
 -- after an erase that failed and left this image
 abbrev pub after_failed_erase : Fuse → List ℕ → Fuse
@@ -56,17 +66,21 @@ abbrev pub after_read : Fused → Fuse → Fuse
 after_read Writes fuse = fuse
 after_read All fuse = after_pass fuse fuse.inner.image
 
--- what a failing program leaves of the image: the first half of its bytes, rounded down, may be programmed
+-- what a failing program leaves of the image: the first half of its bytes, rounded down, may be
+-- programmed
 abbrev pub program_left : Fail → ℕ → List ℕ → List ℕ → List ℕ
 program_left Nothing at bytes image = image
 program_left Half at bytes image = programmed at (take (length bytes / 2) bytes) image
 
--- what a failing erase leaves of the image: the first half of the sector, rounded down, may be erased
+-- what a failing erase leaves of the image: the first half of the sector, rounded down, may be
+-- erased
 abbrev pub erase_left : Fail → ℕ → ℕ → List ℕ → List ℕ
 erase_left Nothing sector_size sector image = image
-erase_left Half sector_size sector image = replaced (sector * sector_size) (replicate (sector_size / 2) erased_byte) image
+erase_left Half sector_size sector image =
+    replaced (sector * sector_size) (replicate (sector_size / 2) erased_byte) image
 
 -- what a failing read leaves in the buffer: its first half, rounded down, may be filled
 abbrev pub read_left : Fail → ℕ → List ℕ → List ℕ → List ℕ
 read_left Nothing at buffer image = buffer
-read_left Half at buffer image = window at (length buffer / 2) image ++ drop (length buffer / 2) buffer
+read_left Half at buffer image =
+    window at (length buffer / 2) image ++ drop (length buffer / 2) buffer

@@ -24,7 +24,8 @@ both_bits (o ∷ old) (b ∷ bytes) = bit_and o b ∷ both_bits old bytes
 abbrev pub programmed : ℕ → List ℕ → List ℕ → List ℕ
 programmed at bytes image = replaced at (both_bits (window at (length bytes) image) bytes) image
 
--- what may be left of a byte when its program fails, bit by bit: no bit is one that was zero, and none is zero that was to stay
+-- what may be left of a byte when its program fails, bit by bit: no bit is one that was zero, and
+-- none is zero that was to stay
 pub record IsBetween (old byte left : ℕ) : Type 0 where
   pub only : bit_and left old ≡ left
   pub kept : bit_and left (bit_and old byte) ≡ bit_and old byte
@@ -49,4 +50,5 @@ pub record IsHalfErased (at len : ℕ) (old new : List ℕ) : Type 0 where
 
 -- the image after a sector was erased
 abbrev pub erased : ℕ → ℕ → List ℕ → List ℕ
-erased sector_len sector image = replaced (sector * sector_len) (replicate sector_len erased_byte) image
+erased sector_len sector image =
+    replaced (sector * sector_len) (replicate sector_len erased_byte) image

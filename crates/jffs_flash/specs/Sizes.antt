@@ -8,4 +8,5 @@ is_sector_size z = list_any (λ y. y == z) (1024 ∷ 2048 ∷ 4096 ∷ 8192 ∷ 
 
 -- a volume may have that many sectors of that many bytes
 abbrev pub is_geometry : ℕ → ℕ → Bool
-is_geometry sectors sector_size = nat_le 6 sectors && nat_le sectors 64 && is_sector_size sector_size
+is_geometry sectors sector_size =
+    nat_le 6 sectors && nat_le sectors 64 && is_sector_size sector_size

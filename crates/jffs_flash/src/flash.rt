@@ -43,7 +43,8 @@ pub trait Flash {
     fn read(&mut self, at: u32, buffer: &mut [u8]) -> Result<(), FlashFault>
         requires { at + length buffer.old ≤ length (device self.old).image }
         ensures device { Reads result (device self.old) (device self.new) }
-        ensures filled { OnOk result (buffer.new ≡ window at (length buffer.old) (device self.old).image) };
+        ensures filled { OnOk result
+            (buffer.new ≡ window at (length buffer.old) (device self.old).image) };
 
     /// Programs the bytes from `at` on: each byte `old` of the range becomes `old & new`.
     /// Precondition: the range lies inside the device.

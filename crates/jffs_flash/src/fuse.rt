@@ -1,9 +1,12 @@
 //! Flash that fails from a chosen call on.
 
-ghost use Rattle.std.specs.Prelude.{◌≡◌, ◌+◌, ◌<◌, ◌≤◌, ◌↔◌, ◌&&◌, length, OnOk, OnErr, IsErr, IsTrue};
+ghost use Rattle.std.specs.Prelude.{◌≡◌, ◌+◌, ◌<◌, ◌≤◌, ◌↔◌, ◌&&◌, length, OnOk, OnErr, IsErr};
+ghost use Rattle.std.specs.Prelude.{IsTrue};
 ghost use Rattle.jffs_flash.specs.Device.{Reads, Programs, Erases};
 ghost use Rattle.jffs_flash.specs.Image.{window, programmed, erased};
-ghost use Rattle.jffs_flash.specs.Fuse.{seen_device, is_blown, fuses_reads, after_pass, after_read, after_fault, after_failed_erase, program_left, erase_left, read_left, fuse_of};
+ghost use Rattle.jffs_flash.specs.Fuse.{seen_device, is_blown, fuses_reads, after_pass, after_read};
+ghost use Rattle.jffs_flash.specs.Fuse.{after_fault, after_failed_erase, program_left, erase_left};
+ghost use Rattle.jffs_flash.specs.Fuse.{read_left, fuse_of};
 
 use crate::flash::{Flash, FlashFault};
 use crate::memory::MemoryFlash;
@@ -45,7 +48,14 @@ impl Model for FuseFlash {
 
     ghost Value = { Fuse };
 
-    ghost view = { λ f. record { inner = f.inner; calls_left = f.calls_left; fused = f.fused; fail = f.fail; faults = f.faults; erase_failed = f.erase_failed } };
+    ghost view = { λ f. record {
+      inner = f.inner;
+      calls_left = f.calls_left;
+      fused = f.fused;
+      fail = f.fail;
+      faults = f.faults;
+      erase_failed = f.erase_failed;
+    } };
 }
 
 impl FuseFlash {
@@ -124,7 +134,8 @@ impl FuseFlash {
     fn fail_program(&mut self, at: u32, bytes: &[u8])
         requires inside { at + length bytes.now ≤ length self.old.inner.image }
         requires blown { IsTrue (is_blown self.old) }
-        ensures { self.new ≡ after_fault self.old (program_left self.old.fail at bytes.now self.old.inner.image) }
+        ensures { self.new ≡ after_fault self.old
+            (program_left self.old.fail at bytes.now self.old.inner.image) }
     {
         match self.fail {
             Fail::Nothing => {}
@@ -167,17 +178,20 @@ impl Flash for FuseFlash {
         self.faults
     }
 
-    /// Fails exactly where reads are fused and the fuse is blown. The buffer then holds what the fuse's failure left.
+    /// Fails exactly where reads are fused and the fuse is blown. The buffer then holds what the
+    /// fuse's failure left.
     fn read(&mut self, at: u32, buffer: &mut [u8]) -> Result<(), FlashFault>
         requires { at + length buffer.old ≤ length self.old.inner.image }
         ensures fails { IsErr result ↔ IsTrue (fuses_reads self.old.fused && is_blown self.old) }
         ensures passed { OnOk result (self.new ≡ after_read self.old.fused self.old) }
         ensures failed { OnErr result (self.new ≡ after_fault self.old self.old.inner.image) }
-        ensures left { OnErr result (buffer.new ≡ read_left self.old.fail at buffer.old self.old.inner.image) }
+        ensures left { OnErr result
+            (buffer.new ≡ read_left self.old.fail at buffer.old self.old.inner.image) }
 
         // What each device promises.
         ensures device { Reads result (seen_device self.old) (seen_device self.new) }
-        ensures filled { OnOk result (buffer.new ≡ window at (length buffer.old) self.old.inner.image) }
+        ensures filled { OnOk result
+            (buffer.new ≡ window at (length buffer.old) self.old.inner.image) }
     {
         if self.fused == Fused::Writes {
             self.inner.copy_out(at, buffer);
@@ -196,12 +210,15 @@ impl Flash for FuseFlash {
     fn program(&mut self, at: u32, bytes: &[u8]) -> Result<(), FlashFault>
         requires { at + length bytes.now ≤ length self.old.inner.image }
         ensures fails { IsErr result ↔ IsTrue (is_blown self.old) }
-        ensures passed { OnOk result (self.new ≡ after_pass self.old (programmed at bytes.now self.old.inner.image)) }
+        ensures passed { OnOk result
+            (self.new ≡ after_pass self.old (programmed at bytes.now self.old.inner.image)) }
         ensures failed { OnErr result
-            (self.new ≡ after_fault self.old (program_left self.old.fail at bytes.now self.old.inner.image)) }
+            (self.new ≡ after_fault self.old
+            (program_left self.old.fail at bytes.now self.old.inner.image)) }
 
         // What each device promises.
-        ensures device { Programs at bytes.now result (seen_device self.old) (seen_device self.new) }
+        ensures device { Programs at bytes.now result (seen_device self.old)
+            (seen_device self.new) }
     {
         if self.is_blown() {
             self.fail_program(at, bytes);
@@ -217,9 +234,11 @@ impl Flash for FuseFlash {
         requires { sector < self.old.inner.sectors }
         ensures fails { IsErr result ↔ IsTrue (is_blown self.old) }
         ensures passed { OnOk result
-            (self.new ≡ after_pass self.old (erased self.old.inner.sector_size sector self.old.inner.image)) }
+            (self.new ≡ after_pass self.old
+            (erased self.old.inner.sector_size sector self.old.inner.image)) }
         ensures failed { OnErr result
-            (self.new ≡ after_failed_erase self.old (erase_left self.old.fail self.old.inner.sector_size sector self.old.inner.image)) }
+            (self.new ≡ after_failed_erase self.old
+            (erase_left self.old.fail self.old.inner.sector_size sector self.old.inner.image)) }
 
         // What each device promises.
         ensures device { Erases sector result (seen_device self.old) (seen_device self.new) }

@@ -1,8 +1,9 @@
 //! NOR flash: a program clears bits, and only the erase of a whole sector sets them again.
 //!
-//! The crate stands on nothing but std. Its promise is the contract of [`Flash`]: what the device's image, one list of
-//! bytes, holds after each call, whether the call passed or failed. [`MemoryFlash`] is a device in memory that never
-//! fails, [`FuseFlash`] one that fails from a chosen call on, and [`is_geometry`] says which sizes a volume may have.
+//! The crate stands on nothing but std. Its promise is the contract of [`Flash`]: what the device's
+//! image, one list of bytes, holds after each call, whether the call passed or failed.
+//! [`MemoryFlash`] is a device in memory that never fails, [`FuseFlash`] one that fails from a
+//! chosen call on, and [`is_geometry`] says which sizes a volume may have.
 #![tactic(auto)]
 
 mod flash;

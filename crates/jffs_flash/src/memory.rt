@@ -1,6 +1,7 @@
 //! Flash in memory, which never fails.
 
-ghost use Rattle.std.specs.Prelude.{◌≡◌, ◌+◌, ◌*◌, ◌≤◌, ◌<◌, ◌↔◌, false, length, vec_len, replicate, IsTrue, IfOk, OnOk, IsErrOf};
+ghost use Rattle.std.specs.Prelude.{◌≡◌, ◌+◌, ◌*◌, ◌≤◌, ◌<◌, ◌↔◌, false, length, vec_len};
+ghost use Rattle.std.specs.Prelude.{replicate, IsTrue, IfOk, OnOk, IsErrOf};
 ghost use Rattle.jffs_flash.specs.Sizes.{is_geometry as allows_geometry};
 ghost use Rattle.jffs_flash.specs.Image.{window, replaced, programmed, both_bits, erased_byte};
 ghost use Rattle.jffs_flash.specs.Device.{IsWhole, with_image, device_of, erased_device};
@@ -50,7 +51,8 @@ impl MemoryFlash {
     pub fn new(alloc: Global, sectors: u32, sector_size: u32) -> Result<MemoryFlash, FlashNew>
         ensures erased { IfOk result (λ flash. flash ≡ erased_device sectors sector_size) }
         ensures allowed { OnOk result (IsTrue (allows_geometry sectors sector_size)) }
-        ensures geometry { IsErrOf result FlashNew.Geometry ↔ (allows_geometry sectors sector_size ≡ false) }
+        ensures geometry { IsErrOf result FlashNew.Geometry
+            ↔ (allows_geometry sectors sector_size ≡ false) }
     {
         if !is_geometry(sectors, sector_size) {
             return Err(FlashNew::Geometry);

@@ -1,7 +1,8 @@
 //! Which sizes a volume may have.
 
 ghost use Rattle.std.specs.Prelude.{◌≡◌, ◌↔◌, IsTrue};
-ghost use Rattle.jffs_flash.specs.Sizes.{is_geometry as allows_geometry, is_sector_size as allows_sector_size};
+ghost use Rattle.jffs_flash.specs.Sizes.{is_geometry as allows_geometry};
+ghost use Rattle.jffs_flash.specs.Sizes.{is_sector_size as allows_sector_size};
 
 /// The fewest sectors that a volume may have.
 pub const MIN_SECTORS: u32 = 6;

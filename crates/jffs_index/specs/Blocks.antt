@@ -1,5 +1,7 @@
--- How outcomes are kept: in blocks, each with a slot for every one of some numbers that follow one another.
-use Rattle.std.specs.Prelude.{◌≡◌, ℕ, zero, suc, ◌+◌, ◌*◌, false, List, [], ◌∷◌, length, Option, Some, None, slice_index_or, if◌then◌else◌}
+-- How outcomes are kept: in blocks, each with a slot for every one of some numbers that follow one
+-- another.
+use Rattle.std.specs.Prelude.{◌≡◌, ℕ, zero, suc, ◌+◌, ◌*◌, false, List, [], ◌∷◌, length, Option}
+use Rattle.std.specs.Prelude.{Some, None, slice_index_or, if◌then◌else◌}
 use Rattle.std.specs.FinMap as map
 use Rattle.jffs_tree.specs.declared.wish.Outcome.{Outcome}
 use Rattle.jffs_tree.specs.declared.wish.Outcome.TheVariants.{Closed}
@@ -9,7 +11,9 @@ use Rattle.jffs_index.specs.Outcomes.{Outcomes, request_cmp}
 
 -- what a slot holds
 abbrev pub slot : Slots → ℕ → Option Outcome
-slot slots at = if slice_index_or slots.filled at false then Some (slice_index_or slots.outcomes at Closed) else None
+slot slots at =
+    if slice_index_or slots.filled at false then Some (slice_index_or slots.outcomes at Closed)
+    else None
 
 abbrev pub IsWhole : Slots → Type 0
 IsWhole slots = (length slots.filled ≡ SLOTS) × (length slots.outcomes ≡ SLOTS)
@@ -30,7 +34,8 @@ with_slot entries request (Some outcome) = map.insert entries request outcome
 -- with the first slots of a block
 unfoldable pub with_slots : Entries → ℕ × ℕ → Slots → ℕ → Entries
 with_slots entries block slots zero = entries
-with_slots entries block slots (suc n) = with_slot (with_slots entries block slots n) (block.0, block.1 * SLOTS + n) (slot slots n)
+with_slots entries block slots (suc n) =
+    with_slot (with_slots entries block slots n) (block.0, block.1 * SLOTS + n) (slot slots n)
 
 -- what all blocks hold
 abbrev pub entries_of : Blocks → Entries

@@ -22,6 +22,7 @@ extended h steps = record { opening = h.opening; steps = h.steps ++ steps }
 abbrev pub BeginsWith : History → History → Type 0
 BeginsWith h k = (rest : List Step) × (h ≡ extended k rest)
 
--- a look, by one who knew `known` before and `known'` after it, was at a view of which P holds: the view of a history that begins with all that was known, and is known now
+-- a look, by one who knew `known` before and `known'` after it, was at a view of which P holds: the
+-- view of a history that begins with all that was known, and is known now
 abbrev pub LooksAt : History → History → (Shown → Type 0) → Type 0
 LooksAt known known' P = BeginsWith known' known × P (view_of known')

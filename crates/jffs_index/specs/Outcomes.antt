@@ -25,4 +25,5 @@ without_outcome outcomes writer seq = remove_entry (is_at (request_cmp (writer, 
 -- The latest outcome of a request counts, and those of others stay.
 abbrev pub LatestCounts : Type 0
 LatestCounts = (outcomes : Outcomes) (writer seq w s : ℕ) (outcome : Outcome)
-    → outcome_at (with_outcome outcomes writer seq outcome) w s ≡ (if (writer == w) && (seq == s) then Some outcome else outcome_at outcomes w s)
+    → outcome_at (with_outcome outcomes writer seq outcome) w s
+    ≡ (if (writer == w) && (seq == s) then Some outcome else outcome_at outcomes w s)

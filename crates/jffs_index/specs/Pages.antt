@@ -40,9 +40,12 @@ abbrev pub Knows : Index → Option Index → Type 0
 Knows index None = ⊤
 Knows index (Some known) = known ≡ index
 
--- The page that is published shows what its history makes, and each seat that knows an index knows the page's.
+-- The page that is published shows what its history makes, and each seat that knows an index knows
+-- the page's.
 abbrev pub Keeps : Page → List (Option Index) → Type 0
-Keeps x views = IsFaithful x × ((seat : ℕ) (known : Option Index) → get_elem? views seat ≡ some known → Knows (page_index x) known)
+Keeps x views =
+    IsFaithful x × ((seat : ℕ) (known : Option Index) → get_elem? views seat ≡ some known
+    → Knows (page_index x) known)
 
 -- the page y is of the index that was known, if one was, and shows what its history makes
 abbrev pub Sees : Option Index → Page → Page → Option Index → Type 0

@@ -1,5 +1,6 @@
 -- What a view shows.
-use Rattle.std.specs.Prelude.{ℕ, ◌+◌, Bool, true, false, ◌&&◌, ◌||◌, List, [], ◌∷◌, Option, Some, None, if◌then◌else◌}
+use Rattle.std.specs.Prelude.{ℕ, ◌+◌, Bool, true, false, ◌&&◌, ◌||◌, List, [], ◌∷◌, Option, Some}
+use Rattle.std.specs.Prelude.{None, if◌then◌else◌}
 use Rattle.jffs_node.specs.declared.node.Node.{Node}
 use Rattle.jffs_tree.specs.Origin.{Tree}
 use Rattle.jffs_tree.specs.After.{tree_after, can_apply}
@@ -8,7 +9,8 @@ use Rattle.jffs_tree.specs.declared.wish.Outcome.TheVariants.{Closed}
 use Rattle.jffs_index.specs.declared.step.Step.{Step}
 use Rattle.jffs_index.specs.Outcomes.{Outcomes, with_outcome}
 
--- A tree, how requests were answered, how many answers there were, and whether one of them was Closed.
+-- A tree, how requests were answered, how many answers there were, and whether one of them was
+-- Closed.
 pub record Shown : Type 0 where
   pub tree : Tree
   pub outcomes : Outcomes

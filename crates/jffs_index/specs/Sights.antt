@@ -18,4 +18,8 @@ pub record Sighted : Type 0 where
   pub history : History
 
 abbrev pub sighted : Book → List Step → Tree → Sighted
-sighted book steps opening = record { index = record { head = head_of book; opening = opening }; history = record { opening = opening; steps = steps } }
+sighted book steps opening =
+    record {
+      index = record { head = head_of book; opening = opening };
+      history = record { opening = opening; steps = steps };
+    }

@@ -38,9 +38,12 @@ impl Model for Inner {
 
     ghost Value = { Held };
 
-    ghost view = { λ p. held p.writer.desk.shown.value (drop p.writer.behind p.writer.log.items) p.seen.log };
+    ghost view = { λ p. held p.writer.desk.shown.value (drop p.writer.behind p.writer.log.items)
+        p.seen.log };
 
-    ghost invariant = { λ p. IsSound p.writer.desk.shown.value (drop p.writer.behind p.writer.log.items) p.seen.book p.seen.log (known_at p.writer.desk.place) p.head p.logged p.put };
+    ghost invariant = { λ p.
+        IsSound p.writer.desk.shown.value (drop p.writer.behind p.writer.log.items) p.seen.book
+        p.seen.log (known_at p.writer.desk.place) p.head p.logged p.put };
 }
 
 fn first_page(alloc: Global, tree: Tree, seen: Reached, opening: Opened) -> Page
@@ -97,7 +100,8 @@ impl Inner {
     /// `AllocError` if its slot could not be had: nothing is changed.
     pub fn reader(&mut self) -> Result<Reader, AllocError>
         ensures same { self.new ≡ self.old }
-        ensures reader { IfOk result (λ r. (index_of r ≡ self.old.index) × (known r ≡ self.old.published)) }
+        ensures reader { IfOk result
+            (λ r. (index_of r ≡ self.old.index) × (known r ≡ self.old.published)) }
     {
         let mut seat = self.writer.factory().reader()?;
         seat.learn::<Telling>(self.writer.tell::<Telling>());
@@ -113,9 +117,12 @@ impl Inner {
     /// If allocation failed the step comes back, and nothing is changed.
     pub fn put(&mut self, step: Step) -> Result<(), Step>
         requires { fits (view_of (all_put self.old)) step ≡ true }
-        ensures published { (self.new.published ≡ self.old.published) × (self.new.index ≡ self.old.index) }
-        ensures pending { MatchResult result (λ _. self.new.pending ≡ self.old.pending ++ step ∷ []) (λ back. (back ≡ step) × (self.new.pending ≡ self.old.pending)) }
-        ensures view { OnOk result (view_of (all_put self.new) ≡ after_step (view_of (all_put self.old)) step) }
+        ensures published { (self.new.published ≡ self.old.published)
+            × (self.new.index ≡ self.old.index) }
+        ensures pending { MatchResult result (λ _. self.new.pending ≡ self.old.pending ++ step ∷ [])
+            (λ back. (back ≡ step) × (self.new.pending ≡ self.old.pending)) }
+        ensures view { OnOk result
+            (view_of (all_put self.new) ≡ after_step (view_of (all_put self.old)) step) }
     {
         let Some(put) = self.put.checked_add(1) else {
             return Err(step);
@@ -135,7 +142,9 @@ impl Inner {
     /// `NoMemory` if allocation failed: nothing is published, and the steps are still pending.
     pub fn publish_once<R: Wait>(self, rt: &R) -> (Inner, Result<(), NoMemory>)
         ensures index { result.0.index ≡ self.index }
-        ensures published { MatchResult result.1 (λ _. (result.0.published ≡ all_put self) × (result.0.pending ≡ [])) (λ _. (result.0.published ≡ self.published) × (result.0.pending ≡ self.pending)) }
+        ensures published { MatchResult result.1
+            (λ _. (result.0.published ≡ all_put self) × (result.0.pending ≡ []))
+            (λ _. (result.0.published ≡ self.published) × (result.0.pending ≡ self.pending)) }
     {
         let mut inner = self;
         match inner.log_batch::<Brand>() {
@@ -147,7 +156,8 @@ impl Inner {
     // Adds all that the history lacks to it.
     fn log_batch<B: Batch>(&mut self) -> Result<(), NoMemory>
         requires { B.batch ≡ self.old.unlogged }
-        ensures same { (self.new.index ≡ self.old.index) × (self.new.published ≡ self.old.published) × (self.new.pending ≡ self.old.pending) }
+        ensures same { (self.new.index ≡ self.old.index) × (self.new.published ≡ self.old.published)
+            × (self.new.pending ≡ self.old.pending) }
         ensures all { OnOk result (self.new.unlogged ≡ []) }
     {
         let mut seen = self.seen.again();
@@ -176,7 +186,9 @@ impl Inner {
     fn publish_logged<R: Wait>(self, rt: &R) -> (Inner, Result<(), NoMemory>)
         requires { self.unlogged ≡ [] }
         ensures index { result.0.index ≡ self.index }
-        ensures published { MatchResult result.1 (λ _. (result.0.published ≡ all_put self) × (result.0.pending ≡ [])) (λ _. (result.0.published ≡ self.published) × (result.0.pending ≡ self.pending)) }
+        ensures published { MatchResult result.1
+            (λ _. (result.0.published ≡ all_put self) × (result.0.pending ≡ []))
+            (λ _. (result.0.published ≡ self.published) × (result.0.pending ≡ self.pending)) }
     {
         let Inner {
             mut writer,

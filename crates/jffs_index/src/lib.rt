@@ -1,4 +1,5 @@
-//! The published index: one writer publishes answered requests, and readers look at what was published, with no lock and no wait.
+//! The published index: one writer publishes answered requests, and readers look at what was
+//! published, with no lock and no wait.
 #![tactic(auto)]
 
 mod block;

@@ -41,7 +41,9 @@ pub fn publish_index<R: Wait + Drop>(
     readers: usize,
 ) -> Result<(Publisher<R>, Vec<Reader>), IndexFault>
     ensures places { IsErrOf result IndexFault.Places ↔ ((readers ≡ 0) ⊎ (17 < readers)) }
-    ensures opened { IfOk result (λ index. (published index.0 ≡ opening_of tree) × (pending index.0 ≡ []) × (vec_len index.1 ≡ readers) × All (IsReaderOf index.0) index.1.items) }
+    ensures opened { IfOk result
+        (λ index. (published index.0 ≡ opening_of tree) × (pending index.0 ≡ [])
+        × (vec_len index.1 ≡ readers) × All (IsReaderOf index.0) index.1.items) }
 {
     if readers == 0 || readers > READERS_MAX {
         return Err(IndexFault::Places);

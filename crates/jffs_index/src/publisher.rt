@@ -29,7 +29,8 @@ impl<R: Wait + Drop> Drop for Publisher<R> {
 }
 
 impl<R: Wait + Drop> Publisher<R> {
-    ghost use Rattle.jffs_index.specs.Ends.{published, pending, all_put, publisher_index, told_of, told_index, index_of, known};
+    ghost use Rattle.jffs_index.specs.Ends.{published, pending, all_put, publisher_index, told_of};
+    ghost use Rattle.jffs_index.specs.Ends.{told_index, index_of, known};
 
     pub(crate) fn open(
         rt: R,
@@ -46,8 +47,11 @@ impl<R: Wait + Drop> Publisher<R> {
 
     /// A reader that knows what is published.
     pub(crate) fn reader(&mut self) -> Result<Reader, AllocError>
-        ensures same { (published self.new ≡ published self.old) × (pending self.new ≡ pending self.old) × (publisher_index self.new ≡ publisher_index self.old) }
-        ensures reader { IfOk result (λ r. (index_of r ≡ publisher_index self.old) × (known r ≡ published self.old)) }
+        ensures same { (published self.new ≡ published self.old)
+            × (pending self.new ≡ pending self.old)
+            × (publisher_index self.new ≡ publisher_index self.old) }
+        ensures reader { IfOk result
+            (λ r. (index_of r ≡ publisher_index self.old) × (known r ≡ published self.old)) }
     {
         self.inner.reader()
     }
@@ -58,9 +62,12 @@ impl<R: Wait + Drop> Publisher<R> {
     /// If allocation failed the step comes back, and nothing is changed.
     pub fn put(&mut self, step: Step) -> Result<(), Step>
         requires { fits (view_of (all_put self.old)) step ≡ true }
-        ensures published { (published self.new ≡ published self.old) × (publisher_index self.new ≡ publisher_index self.old) }
-        ensures pending { MatchResult result (λ _. pending self.new ≡ pending self.old ++ step ∷ []) (λ back. (back ≡ step) × (pending self.new ≡ pending self.old)) }
-        ensures view { OnOk result (view_of (all_put self.new) ≡ after_step (view_of (all_put self.old)) step) }
+        ensures published { (published self.new ≡ published self.old)
+            × (publisher_index self.new ≡ publisher_index self.old) }
+        ensures pending { MatchResult result (λ _. pending self.new ≡ pending self.old ++ step ∷ [])
+            (λ back. (back ≡ step) × (pending self.new ≡ pending self.old)) }
+        ensures view { OnOk result
+            (view_of (all_put self.new) ≡ after_step (view_of (all_put self.old)) step) }
     {
         self.inner.put(step)
     }
@@ -71,7 +78,10 @@ impl<R: Wait + Drop> Publisher<R> {
     /// `NoMemory` if allocation failed: readers see what they saw, and the steps are still pending.
     pub fn publish(&mut self) -> Result<(), NoMemory>
         ensures index { publisher_index self.new ≡ publisher_index self.old }
-        ensures published { MatchResult result (λ _. (published self.new ≡ all_put self.old) × (pending self.new ≡ [])) (λ _. (published self.new ≡ published self.old) × (pending self.new ≡ pending self.old)) }
+        ensures published { MatchResult result
+            (λ _. (published self.new ≡ all_put self.old) × (pending self.new ≡ []))
+            (λ _. (published self.new ≡ published self.old)
+            × (pending self.new ≡ pending self.old)) }
         ensures all { all_put self.new ≡ all_put self.old }
     {
         replace_with(
@@ -90,7 +100,8 @@ impl<R: Wait + Drop> Publisher<R> {
 
     /// What is published now, for a reader of this index to learn. Takes no memory.
     pub fn tell(&self) -> Told
-        ensures { (told_of result ≡ published self.now) × (told_index result ≡ publisher_index self.now) }
+        ensures { (told_of result ≡ published self.now)
+            × (told_index result ≡ publisher_index self.now) }
     {
         self.inner.tell()
     }

@@ -32,7 +32,8 @@ impl Sight {
 
     pub(crate) fn of(page: &Page) -> Sight
         requires { page.now.view ≡ view_of (history_of page.now) }
-        ensures { result ≡ sighted page.now.seen.book page.now.seen.log (opened_tree page.now.opening.log) }
+        ensures { result ≡ sighted page.now.seen.book page.now.seen.log
+            (opened_tree page.now.opening.log) }
     {
         Sight {
             count: page.view.answered(),
@@ -41,10 +42,12 @@ impl Sight {
         }
     }
 
-    // Whether it is as long as the other. Of two beginnings of one history the longer begins with the shorter.
+    // Whether it is as long as the other. Of two beginnings of one history the longer begins with
+    // the shorter.
     pub(crate) fn covers(&self, other: &Sight) -> bool
         requires { self.now.index ≡ other.now.index }
-        ensures { MatchBool result (BeginsWith self.now.history other.now.history) (BeginsWith other.now.history self.now.history) }
+        ensures { MatchBool result (BeginsWith self.now.history other.now.history)
+            (BeginsWith other.now.history self.now.history) }
     {
         let mut both = self.seen.again();
         both.learn(&other.seen);

@@ -1,9 +1,11 @@
 //! What a reader looks at: a tree, and how requests were answered.
-ghost use Rattle.std.specs.Prelude.{◌≡◌, true, ◌-◌, ◌++◌, min, length, take, drop, MatchResult, OnOk, OnErr, IfOk};
+ghost use Rattle.std.specs.Prelude.{◌≡◌, true, ◌-◌, ◌++◌, min, length, take, drop, MatchResult};
+ghost use Rattle.std.specs.Prelude.{OnOk, OnErr, IfOk};
 ghost use Rattle.std.specs.List.Sorted.{IsPermutation, IsSorted};
 ghost use Rattle.jffs_tree.specs.State.{resolve};
 ghost use Rattle.jffs_tree.specs.Origin.{state_in};
-ghost use Rattle.jffs_tree.specs.Look.{kind_in, size_of, bytes_in, parent_name_in, holds_version, names_in, name_cmp};
+ghost use Rattle.jffs_tree.specs.Look.{kind_in, size_of, bytes_in, parent_name_in, holds_version};
+ghost use Rattle.jffs_tree.specs.Look.{names_in, name_cmp};
 ghost use Rattle.jffs_tree.specs.Decide.{cleaning_copy as copy_for};
 ghost use Rattle.jffs_index.specs.Outcomes.{outcome_at, with_outcome};
 ghost use Rattle.jffs_index.specs.Shown.{tree_tested, fits_node, fits as step_fits};
@@ -30,7 +32,12 @@ impl Model for View {
 
     ghost Value = { Shown };
 
-    ghost view = { λ v. record { tree = v.tree; outcomes = v.outcomes; answered = v.answered; closed = v.closed } };
+    ghost view = { λ v. record {
+      tree = v.tree;
+      outcomes = v.outcomes;
+      answered = v.answered;
+      closed = v.closed;
+    } };
 }
 
 impl View {
@@ -59,7 +66,8 @@ impl View {
     ///
     /// `NoMemory` if allocation failed.
     pub fn names(&self, inode: u32) -> Result<Vec<(Name, u32)>, NoMemory>
-        ensures all { IfOk result (λ names. IsPermutation (names_in self.now.tree inode) names.items) }
+        ensures all { IfOk result
+            (λ names. IsPermutation (names_in self.now.tree inode) names.items) }
         ensures ordered { IfOk result (λ names. IsSorted name_cmp names.items) }
     {
         self.tree.names(inode)
@@ -68,8 +76,10 @@ impl View {
     /// Fills `out` with the file's bytes from `offset` on, as many as there are and fit. Returns
     /// how many: 0 for what isn't a present file.
     pub fn read(&self, inode: u32, offset: u32, out: &mut [u8]) -> usize
-        ensures count { result ≡ min (length out.old) (length (bytes_in self.now.tree inode) - offset) }
-        ensures read { out.new ≡ take result (drop offset (bytes_in self.now.tree inode)) ++ drop result out.old }
+        ensures count { result
+            ≡ min (length out.old) (length (bytes_in self.now.tree inode) - offset) }
+        ensures read { out.new
+            ≡ take result (drop offset (bytes_in self.now.tree inode)) ++ drop result out.old }
     {
         self.tree.read(inode, offset, out)
     }
@@ -147,7 +157,8 @@ impl View {
     /// Takes in a step. One whose node doesn't fit leaves the tree. Refused memory changes nothing,
     /// and so does the step after the last that can be counted.
     pub(crate) fn take_in(&mut self, step: &Step) -> Result<(), AllocError>
-        ensures { MatchResult result (λ _. self.new ≡ after_tested self.old step.now) (λ _. self.new ≡ self.old) }
+        ensures { MatchResult result (λ _. self.new ≡ after_tested self.old step.now)
+            (λ _. self.new ≡ self.old) }
     {
         let answered = self.answered.checked_add(1).ok_or(AllocError)?;
         self.enter(step)?;
@@ -160,7 +171,12 @@ impl View {
     /// Enters a step's outcome and applies its node. The one that may be refused memory comes
     /// first, or is taken back.
     fn enter(&mut self, step: &Step) -> Result<(), AllocError>
-        ensures entered { OnOk result (self.new ≡ record self.old { tree = tree_tested self.old.tree step.now.node; outcomes = with_outcome self.old.outcomes step.now.writer step.now.seq step.now.outcome }) }
+        ensures entered { OnOk result
+            (self.new ≡ record self.old {
+              tree = tree_tested self.old.tree step.now.node;
+              outcomes = with_outcome self.old.outcomes step.now.writer step.now.seq
+                  step.now.outcome;
+            }) }
         ensures refused { OnErr result (self.new ≡ self.old) }
     {
         let Step {

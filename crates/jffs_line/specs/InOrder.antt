@@ -1,5 +1,6 @@
 -- The rule of the shared line.
-use Rattle.std.specs.Prelude.{◌≡◌, ℕ, zero, suc, ◌+◌, ◌<◌, ◌⊎◌, Bool, true, false, List, [], ◌∷◌, ◌++◌, map, take, drop}
+use Rattle.std.specs.Prelude.{◌≡◌, ℕ, zero, suc, ◌+◌, ◌<◌, ◌⊎◌, Bool, true, false, List, [], ◌∷◌}
+use Rattle.std.specs.Prelude.{◌++◌, map, take, drop}
 use Rattle.std.specs.List.{All}
 use mathlib.Core.Option.{some}
 use lib.ListN.{get_elem?}
@@ -30,19 +31,22 @@ Told all sent = All (λ (s : Sent). s.accepted ≡ of s.sender all) sent
 -- a pass speaks for the senders that are given to it, and one pass takes
 abbrev pub Fits : (ℕ → ℕ) → ℕ → List Request → List Request → ℕ → Knows → Type 0
 Fits holder taker taken waiting pass v =
-    All (λ (s : Sent). holder s.sender ≡ pass) v.sent × Told (taken ++ waiting) v.sent × (v.takes ≡ true → (pass ≡ taker) × (v.taken ≡ taken))
+    All (λ (s : Sent). holder s.sender ≡ pass) v.sent × Told (taken ++ waiting) v.sent
+    × (v.takes ≡ true → (pass ≡ taker) × (v.taken ≡ taken))
 
 -- senders are numbered 1 to 10
 abbrev pub IsStranger : ℕ → Type 0
 IsStranger w = (w ≡ 0) ⊎ (10 < w)
 
--- each sender has one pass that speaks for it and knows what it handed in: what was taken of it and then what waits of it
+-- each sender has one pass that speaks for it and knows what it handed in: what was taken of it and
+-- then what waits of it
 pub record InOrder (waiting : List Request) (views : List Knows) : Type 0 where
   pub holder : ℕ → ℕ
   pub taker : ℕ
   pub taken : List Request
   pub strangers : (w : ℕ) → IsStranger w → of w (taken ++ waiting) ≡ []
-  pub passes : (pass : ℕ) (v : Knows) → get_elem? views pass ≡ some v → Fits holder taker taken waiting pass v
+  pub passes : (pass : ℕ) (v : Knows) → get_elem? views pass ≡ some v
+      → Fits holder taker taken waiting pass v
 
 -- what any pass learns of the line at one moment
 pub record Learned (v : Knows) (waiting : List Request) : Type 0 where
@@ -57,7 +61,8 @@ maker_knows = knows true [] (sent_by 9 [] ∷ sent_by 10 [] ∷ silent 1 8)
 
 -- what a step tells: of the pass before, the request, and the pass after
 abbrev pub HandsIn : Knows → Request → Knows → Type 0
-HandsIn v x u = u ≡ knows v.takes v.taken (map (λ (s : Sent). sent_by s.sender (s.accepted ++ x ∷ [])) v.sent)
+HandsIn v x u =
+    u ≡ knows v.takes v.taken (map (λ (s : Sent). sent_by s.sender (s.accepted ++ x ∷ [])) v.sent)
 
 abbrev pub Takes : Knows → Request → Knows → Type 0
 Takes v x u = u ≡ knows v.takes (v.taken ++ x ∷ []) v.sent

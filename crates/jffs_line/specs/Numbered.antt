@@ -15,11 +15,13 @@ pub shared_numbered : (h : SharedHand) → IsNumbered (shared_accepted h)
 shared_numbered h = h.numbered ∙ ap (λ n. range_with_len 1 n) (sym h.counted)
 
 -- the ring's notes have the numbers of their requests
-pub seqs_of_notes : (w : ℕ) (notes : List Note) → map (λ r. r.seq) (map (as_request w) notes) ≡ map (λ (n : Note). n.seq) notes
+pub seqs_of_notes : (w : ℕ) (notes : List Note)
+    → map (λ r. r.seq) (map (as_request w) notes) ≡ map (λ (n : Note). n.seq) notes
 seqs_of_notes w [] = refl
 seqs_of_notes w (n ∷ notes) = ap (λ seqs. n.seq ∷ seqs) (seqs_of_notes w notes)
 
 pub ring_numbered : (h : RingHand) → IsNumbered (ring_accepted h)
 ring_numbered h =
     seqs_of_notes h.number (sent h.producer) ∙ h.numbered
-    ∙ ap (λ n. range_with_len 1 n) (sym (length-map (sent h.producer) (as_request h.number) ∙ h.counted))
+    ∙ ap (λ n. range_with_len 1 n)
+    (sym (length-map (sent h.producer) (as_request h.number) ∙ h.counted))

@@ -17,7 +17,8 @@ abbrev pub as_request : ℕ → Note → Request
 as_request w n = request w n.seq n.wish
 
 abbrev pub ring_line : RingHand → Line
-ring_line h = line.Ring h.producer.end.words h.producer.end.slots h.producer.end.names h.producer.end.heap
+ring_line h =
+    line.Ring h.producer.end.words h.producer.end.slots h.producer.end.names h.producer.end.heap
 
 abbrev pub ring_accepted : RingHand → List Request
 ring_accepted h = map (as_request h.number) (sent h.producer)
@@ -26,7 +27,10 @@ abbrev pub ring_hand_end : RingHand → End
 ring_hand_end h = (h.number, ring_line h)
 
 abbrev pub ring_end : Ring → End
-ring_end r = (r.number, line.Ring r.consumer.end.words r.consumer.end.slots r.consumer.end.names r.consumer.end.heap)
+ring_end r = (
+  r.number,
+  line.Ring r.consumer.end.words r.consumer.end.slots r.consumer.end.names r.consumer.end.heap,
+)
 
 abbrev pub ring_taken : Ring → List Request
 ring_taken r = map (as_request r.number) (received r.consumer)

@@ -30,10 +30,12 @@ shared_accepted h = accepted_of (view h.pass)
 abbrev pub shared_capacity : SharedHand → ℕ
 shared_capacity h = ruled_capacity (sends_on h.sends)
 
--- at one moment the line held as many requests as it may, and all that was accepted of sender w was taken, or waited there
+-- at one moment the line held as many requests as it may, and all that was accepted of sender w was
+-- taken, or waited there
 abbrev pub WasFull : ℕ → ℕ → List Request → Type 0
 WasFull capacity w accepted =
-    (taken : List Request) × (waiting : List Request) × (length waiting ≡ capacity) × (accepted ≡ of w (taken ++ waiting))
+    (taken : List Request) × (waiting : List Request) × (length waiting ≡ capacity)
+    × (accepted ≡ of w (taken ++ waiting))
 
 abbrev pub shared_ends : SharedTaker → List End
 shared_ends t = map (λ w. (w, channel_line (receives_on t.receives))) (senders t.writers)

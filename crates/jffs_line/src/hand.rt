@@ -1,5 +1,6 @@
 //! The two ends of a line: a hand hands in requests of one sender, and a taker takes them.
-ghost use Rattle.std.specs.Prelude.{◌≡◌, ℕ, ◌+◌, ◌↔◌, List, [], ◌∷◌, ◌++◌, length, map, All, Contains, IfOk, IfErr, IsErr, IsErrAnd, IfSome, IfNone};
+ghost use Rattle.std.specs.Prelude.{◌≡◌, ℕ, ◌+◌, ◌↔◌, List, [], ◌∷◌, ◌++◌, length, map, All};
+ghost use Rattle.std.specs.Prelude.{Contains, IfOk, IfErr, IsErr, IsErrAnd, IfSome, IfNone};
 ghost use Rattle.jffs_line.specs.Line.{Line, End};
 ghost use Rattle.jffs_line.specs.Requests.{of, request, IsNumbered};
 ghost use Rattle.jffs_line.specs.declared.request.Request.{Request};
@@ -38,18 +39,27 @@ pub trait Hand: Drop {
     /// no free slot was found.
     fn offer<R: Wait>(&mut self, rt: &R, wish: Wish) -> Result<u32, NotTaken>
         ensures end { (sender self.new ≡ sender self.old) × (line self.new ≡ line self.old) }
-        ensures accepted { IfOk result (λ seq. (seq ≡ length (accepted self.old) + 1) × (accepted self.new ≡ accepted self.old ++ request (sender self.old) seq wish ∷ [])) }
-        ensures refused { IfErr result (λ e. (e.wish ≡ wish) × (accepted self.new ≡ accepted self.old)) }
-        ensures spent { IsErrAnd result (λ e. e.why ≡ Spent) ↔ (length (accepted self.old) ≡ u32.MAX) };
+        ensures accepted { IfOk result
+            (λ seq. (seq ≡ length (accepted self.old) + 1)
+            × (accepted self.new
+            ≡ accepted self.old ++ request (sender self.old) seq wish ∷ [])) }
+        ensures refused { IfErr result
+            (λ e. (e.wish ≡ wish) × (accepted self.new ≡ accepted self.old)) }
+        ensures spent { IsErrAnd result (λ e. e.why ≡ Spent)
+            ↔ (length (accepted self.old) ≡ u32.MAX) };
 
-    /// Hands in a wish, waits for a free slot, asleep where it takes long, and returns its number among
-    /// its sender's, from 1.
+    /// Hands in a wish, waits for a free slot, asleep where it takes long, and returns its number
+    /// among its sender's, from 1.
     ///
     /// `Spent` alone, as for `offer`: the wish comes back, and nothing is changed.
     fn put<R: Wait>(&mut self, rt: &R, wish: Wish) -> Result<u32, NotTaken>
         ensures end { (sender self.new ≡ sender self.old) × (line self.new ≡ line self.old) }
-        ensures accepted { IfOk result (λ seq. (seq ≡ length (accepted self.old) + 1) × (accepted self.new ≡ accepted self.old ++ request (sender self.old) seq wish ∷ [])) }
-        ensures refused { IfErr result (λ e. (e.wish ≡ wish) × (e.why ≡ Spent) × (accepted self.new ≡ accepted self.old)) }
+        ensures accepted { IfOk result
+            (λ seq. (seq ≡ length (accepted self.old) + 1)
+            × (accepted self.new
+            ≡ accepted self.old ++ request (sender self.old) seq wish ∷ [])) }
+        ensures refused { IfErr result
+            (λ e. (e.wish ≡ wish) × (e.why ≡ Spent) × (accepted self.new ≡ accepted self.old)) }
         ensures spent { IsErr result ↔ (length (accepted self.old) ≡ u32.MAX) };
 
     /// The accepted requests are numbered 1, 2, 3, ..
@@ -68,7 +78,8 @@ pub trait Taker: Drop {
     /// changed.
     fn take<R: Wait>(&mut self, rt: &R) -> Option<Request>
         ensures ends { ends self.new ≡ ends self.old }
-        ensures taken { IfSome result (λ r. (w : ℕ) → taken self.new w ≡ taken self.old w ++ of w (r ∷ [])) }
+        ensures taken { IfSome result
+            (λ r. (w : ℕ) → taken self.new w ≡ taken self.old w ++ of w (r ∷ [])) }
         ensures none { IfNone result ((w : ℕ) → taken self.new w ≡ taken self.old w) };
 }
 
@@ -99,14 +110,21 @@ impl<H: Hand> Control<H> {
         hand
     }
 
-    /// Hands in an Unmount, waits for a free slot, asleep where it takes long, and returns its number
-    /// among the control's, from 1.
+    /// Hands in an Unmount, waits for a free slot, asleep where it takes long, and returns its
+    /// number among the control's, from 1.
     ///
     /// `Spent` alone: the control's last number is used, and nothing is changed.
     pub fn unmount<R: Wait>(&mut self, rt: &R) -> Result<u32, NotTaken>
-        ensures end { (H.sender self.new.hand ≡ H.sender self.old.hand) × (H.line self.new.hand ≡ H.line self.old.hand) }
-        ensures accepted { IfOk result (λ seq. (seq ≡ length (H.accepted self.old.hand) + 1) × (H.accepted self.new.hand ≡ H.accepted self.old.hand ++ request (H.sender self.old.hand) seq Unmount ∷ [])) }
-        ensures refused { IfErr result (λ e. (e.wish ≡ Unmount) × (e.why ≡ Spent) × (H.accepted self.new.hand ≡ H.accepted self.old.hand)) }
+        ensures end { (H.sender self.new.hand ≡ H.sender self.old.hand)
+            × (H.line self.new.hand ≡ H.line self.old.hand) }
+        ensures accepted { IfOk result
+            (λ seq. (seq ≡ length (H.accepted self.old.hand) + 1)
+            × (H.accepted self.new.hand
+            ≡ H.accepted self.old.hand
+            ++ request (H.sender self.old.hand) seq Unmount ∷ [])) }
+        ensures refused { IfErr result
+            (λ e. (e.wish ≡ Unmount) × (e.why ≡ Spent)
+            × (H.accepted self.new.hand ≡ H.accepted self.old.hand)) }
         ensures spent { IsErr result ↔ (length (H.accepted self.old.hand) ≡ u32.MAX) }
     {
         self.hand.put(rt, Wish::Unmount)
@@ -167,8 +185,19 @@ pub trait Settle: Taker {
         alloc: Global,
         hands: Hands<Self::Of>,
     ) -> Result<Settled, SettleFault>
-        requires { Self.ends self ≡ map (λ h. (Self.Of.sender h, Self.Of.line h)) (hands.writers.items ++ hands.cleaner ∷ hands.control.hand ∷ []) }
-        ensures settled { IfOk result (λ s. All (λ h. Self.taken self (Self.Of.sender h) ++ of (Self.Of.sender h) s.waiting.items ≡ Self.Of.accepted h) (hands.writers.items ++ hands.cleaner ∷ hands.control.hand ∷ [])) }
-        ensures numbered { IfOk result (λ _. All (λ h. IsNumbered (Self.Of.accepted h)) (hands.writers.items ++ hands.cleaner ∷ hands.control.hand ∷ [])) }
-        ensures others { IfOk result (λ s. (w : ℕ) → ¬ (Contains (map Self.Of.sender (hands.writers.items ++ hands.cleaner ∷ hands.control.hand ∷ [])) w) → Self.taken self w ++ of w s.waiting.items ≡ []) };
+        requires { Self.ends self
+            ≡ map (λ h. (Self.Of.sender h, Self.Of.line h))
+            (hands.writers.items ++ hands.cleaner ∷ hands.control.hand ∷ []) }
+        ensures settled { IfOk result
+            (λ s. All (λ h. Self.taken self (Self.Of.sender h)
+            ++ of (Self.Of.sender h) s.waiting.items ≡ Self.Of.accepted h)
+            (hands.writers.items ++ hands.cleaner ∷ hands.control.hand ∷ [])) }
+        ensures numbered { IfOk result
+            (λ _. All (λ h. IsNumbered (Self.Of.accepted h))
+            (hands.writers.items ++ hands.cleaner ∷ hands.control.hand ∷ [])) }
+        ensures others { IfOk result
+            (λ s. (w : ℕ) → ¬ (Contains
+            (map Self.Of.sender (hands.writers.items
+            ++ hands.cleaner ∷ hands.control.hand ∷ [])) w)
+            → Self.taken self w ++ of w s.waiting.items ≡ []) };
 }

@@ -1,9 +1,12 @@
-//! The line between the senders of requests and the log: one shared queue, or a ring for each sender.
+//! The line between the senders of requests and the log: one shared queue, or a ring for each
+//! sender.
 //!
-//! Both forms have the same traits, with the same words: a [`hand::Hand`] hands in the wishes of one sender, a
-//! [`hand::Taker`] takes requests, and [`hand::Settle`] takes all ends back and gives what nobody took. `settle`
-//! carries the line's promise: of each sender, what was taken and then what waits is what it accepted, numbered
-//! 1, 2, 3, .. The shared form is one channel of `crossbeam_channel`, where each end holds a pass of its own;
+//! Both forms have the same traits, with the same words: a [`hand::Hand`] hands in the wishes of
+//! one sender, a [`hand::Taker`] takes requests, and [`hand::Settle`] takes all ends back and gives
+//! what nobody took. `settle` carries the line's promise: of each sender, what was taken and then
+//! what waits is what it accepted, numbered
+//! 1, 2, 3, .. The shared form is one channel of `crossbeam_channel`, where each end holds a pass
+//! of its own;
 //! the other has a ring of `rtrb` for each sender.
 #![tactic(auto)]
 

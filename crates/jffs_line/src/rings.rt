@@ -53,17 +53,24 @@ pub struct RingHand {
 }
 
 impl RingHand {
-    ghost use Rattle.std.specs.Prelude.{◌≡◌, ℕ, ◌+◌, ◌↔◌, [], ◌∷◌, ◌++◌, length, IfOk, IfErr, IsErr, IsErrAnd};
+    ghost use Rattle.std.specs.Prelude.{◌≡◌, ℕ, ◌+◌, ◌↔◌, [], ◌∷◌, ◌++◌, length, IfOk, IfErr};
+    ghost use Rattle.std.specs.Prelude.{IsErr, IsErrAnd};
     ghost use Rattle.jffs_line.specs.Requests.{of, request};
     ghost use Rattle.jffs_line.specs.Rings.{ring_line, ring_accepted};
     ghost use Rattle.jffs_line.specs.declared.request.Why.TheVariants.{Spent, Full};
 
     /// Hands in a wish, or gives it back. `Full` where the ring has no free slot.
     pub fn try_hand_in(&mut self, wish: Wish) -> Result<u32, NotTaken>
-        ensures end { (self.new.number ≡ self.old.number) × (ring_line self.new ≡ ring_line self.old) }
-        ensures accepted { IfOk result (λ seq. (seq ≡ length (ring_accepted self.old) + 1) × (ring_accepted self.new ≡ ring_accepted self.old ++ request self.old.number seq wish ∷ [])) }
-        ensures refused { IfErr result (λ e. (e.wish ≡ wish) × (ring_accepted self.new ≡ ring_accepted self.old)) }
-        ensures spent { IsErrAnd result (λ e. e.why ≡ Spent) ↔ (length (ring_accepted self.old) ≡ u32.MAX) }
+        ensures end { (self.new.number ≡ self.old.number)
+            × (ring_line self.new ≡ ring_line self.old) }
+        ensures accepted { IfOk result
+            (λ seq. (seq ≡ length (ring_accepted self.old) + 1)
+            × (ring_accepted self.new
+            ≡ ring_accepted self.old ++ request self.old.number seq wish ∷ [])) }
+        ensures refused { IfErr result
+            (λ e. (e.wish ≡ wish) × (ring_accepted self.new ≡ ring_accepted self.old)) }
+        ensures spent { IsErrAnd result (λ e. e.why ≡ Spent)
+            ↔ (length (ring_accepted self.old) ≡ u32.MAX) }
     {
         if self.last == u32::MAX {
             return Err(NotTaken {
@@ -85,11 +92,18 @@ impl RingHand {
         }
     }
 
-    /// Hands in a wish, and waits for a free slot, asleep where it takes long. Its one refusal is `Spent`.
+    /// Hands in a wish, and waits for a free slot, asleep where it takes long. Its one refusal is
+    /// `Spent`.
     pub fn hand_in<R: Wait>(&mut self, rt: &R, wish: Wish) -> Result<u32, NotTaken>
-        ensures end { (self.new.number ≡ self.old.number) × (ring_line self.new ≡ ring_line self.old) }
-        ensures accepted { IfOk result (λ seq. (seq ≡ length (ring_accepted self.old) + 1) × (ring_accepted self.new ≡ ring_accepted self.old ++ request self.old.number seq wish ∷ [])) }
-        ensures refused { IfErr result (λ e. (e.wish ≡ wish) × (e.why ≡ Spent) × (ring_accepted self.new ≡ ring_accepted self.old)) }
+        ensures end { (self.new.number ≡ self.old.number)
+            × (ring_line self.new ≡ ring_line self.old) }
+        ensures accepted { IfOk result
+            (λ seq. (seq ≡ length (ring_accepted self.old) + 1)
+            × (ring_accepted self.new
+            ≡ ring_accepted self.old ++ request self.old.number seq wish ∷ [])) }
+        ensures refused { IfErr result
+            (λ e. (e.wish ≡ wish) × (e.why ≡ Spent)
+            × (ring_accepted self.new ≡ ring_accepted self.old)) }
         ensures spent { IsErr result ↔ (length (ring_accepted self.old) ≡ u32.MAX) }
     {
         let backoff = Backoff::new();
@@ -146,7 +160,9 @@ impl Ring {
 
     fn pop(&mut self) -> Option<Request>
         ensures end { ring_end self.new ≡ ring_end self.old }
-        ensures some { IfSome result (λ r. (r.writer ≡ self.old.number) × (ring_taken self.new ≡ ring_taken self.old ++ r ∷ [])) }
+        ensures some { IfSome result
+            (λ r. (r.writer ≡ self.old.number)
+            × (ring_taken self.new ≡ ring_taken self.old ++ r ∷ [])) }
         ensures none { IfNone result (ring_taken self.new ≡ ring_taken self.old) }
     {
         match self.consumer.pop() {
@@ -204,14 +220,16 @@ pub struct RingTaker {
 }
 
 impl RingTaker {
-    ghost use Rattle.std.specs.Prelude.{◌≡◌, ℕ, ◌<◌, [], ◌∷◌, ◌++◌, IfOk, OnErr, IfSome, IfNone, vec_len};
+    ghost use Rattle.std.specs.Prelude.{◌≡◌, ℕ, ◌<◌, [], ◌∷◌, ◌++◌, IfOk, OnErr, IfSome, IfNone};
+    ghost use Rattle.std.specs.Prelude.{vec_len};
     ghost use Rattle.jffs_line.specs.Requests.{of};
     ghost use Rattle.jffs_line.specs.Rings.{rings_ends, rings_taken};
 
     fn pop_at(&mut self, index: usize) -> Option<Request>
         requires { index < vec_len self.old.rings }
         ensures ends { rings_ends self.new ≡ rings_ends self.old }
-        ensures some { IfSome result (λ r. (w : ℕ) → rings_taken self.new w ≡ rings_taken self.old w ++ of w (r ∷ [])) }
+        ensures some { IfSome result
+            (λ r. (w : ℕ) → rings_taken self.new w ≡ rings_taken self.old w ++ of w (r ∷ [])) }
         ensures none { IfNone result ((w : ℕ) → rings_taken self.new w ≡ rings_taken self.old w) }
         ensures rings { vec_len self.new.rings ≡ vec_len self.old.rings }
     {
@@ -246,7 +264,8 @@ impl RingTaker {
     // Asks each ring but the control's once, and begins after the one that gave last.
     fn round(&mut self) -> Option<Request>
         ensures ends { rings_ends self.new ≡ rings_ends self.old }
-        ensures some { IfSome result (λ r. (w : ℕ) → rings_taken self.new w ≡ rings_taken self.old w ++ of w (r ∷ [])) }
+        ensures some { IfSome result
+            (λ r. (w : ℕ) → rings_taken self.new w ≡ rings_taken self.old w ++ of w (r ∷ [])) }
         ensures none { IfNone result ((w : ℕ) → rings_taken self.new w ≡ rings_taken self.old w) }
         ensures rings { vec_len self.new.rings ≡ vec_len self.old.rings }
     {
@@ -261,11 +280,12 @@ impl RingTaker {
         None
     }
 
-    // Looks at all rings once. What waits in the control's ring is taken only after a round that began later and in
-    // which no other ring gave anything.
+    // Looks at all rings once. What waits in the control's ring is taken only after a round that
+    // began later and in which no other ring gave anything.
     fn try_take(&mut self) -> Result<Request, Idle>
         ensures ends { rings_ends self.new ≡ rings_ends self.old }
-        ensures some { IfOk result (λ r. (w : ℕ) → rings_taken self.new w ≡ rings_taken self.old w ++ of w (r ∷ [])) }
+        ensures some { IfOk result
+            (λ r. (w : ℕ) → rings_taken self.new w ≡ rings_taken self.old w ++ of w (r ∷ [])) }
         ensures none { OnErr result ((w : ℕ) → rings_taken self.new w ≡ rings_taken self.old w) }
     {
         let control = self.rings.len() - 1;
@@ -294,7 +314,8 @@ impl Taker for RingTaker {
 
     ghost taken = { rings_taken };
 
-    // A hand that pushes or goes leaves a token at the sleeper, so no sleep misses what came after the last look.
+    // A hand that pushes or goes leaves a token at the sleeper, so no sleep misses what came after
+    // the last look.
     fn take<R: Wait>(&mut self, rt: &R) -> Option<Request> {
         let backoff = Backoff::new();
         for _ in rt.forever() {

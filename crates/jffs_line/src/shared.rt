@@ -105,9 +105,11 @@ pub struct SharedHand {
 }
 
 impl SharedHand {
-    ghost use Rattle.std.specs.Prelude.{◌≡◌, ℕ, ◌+◌, ◌↔◌, [], ◌∷◌, ◌++◌, length, IfOk, IfErr, IsErr, IsErrAnd};
+    ghost use Rattle.std.specs.Prelude.{◌≡◌, ℕ, ◌+◌, ◌↔◌, [], ◌∷◌, ◌++◌, length, IfOk, IfErr};
+    ghost use Rattle.std.specs.Prelude.{IsErr, IsErrAnd};
     ghost use Rattle.jffs_line.specs.Requests.{of, request};
-    ghost use Rattle.jffs_line.specs.Shared.{shared_line, shared_accepted, shared_capacity, WasFull};
+    ghost use Rattle.jffs_line.specs.Shared.{shared_line, shared_accepted, shared_capacity};
+    ghost use Rattle.jffs_line.specs.Shared.{WasFull};
     ghost use Rattle.jffs_line.specs.declared.request.Why.TheVariants.{Spent, Full};
 
     /// Hands in a wish, and returns its number among its sender's, from 1; or gives it back, and
@@ -116,11 +118,19 @@ impl SharedHand {
     /// `Spent` if the sender's last number, 4,294,967,295, is used, which is tried first; `Full` if
     /// all slots were taken when it tried.
     pub fn try_hand_in<R: Wait>(&mut self, rt: &R, wish: Wish) -> Result<u32, NotTaken>
-        ensures end { (self.new.number ≡ self.old.number) × (shared_line self.new ≡ shared_line self.old) }
-        ensures accepted { IfOk result (λ seq. (seq ≡ length (shared_accepted self.old) + 1) × (shared_accepted self.new ≡ shared_accepted self.old ++ request self.old.number seq wish ∷ [])) }
-        ensures refused { IfErr result (λ e. (e.wish ≡ wish) × (shared_accepted self.new ≡ shared_accepted self.old)) }
-        ensures spent { IsErrAnd result (λ e. e.why ≡ Spent) ↔ (length (shared_accepted self.old) ≡ u32.MAX) }
-        ensures full { IfErr result (λ e. e.why ≡ Full → WasFull (shared_capacity self.old) self.old.number (shared_accepted self.old)) }
+        ensures end { (self.new.number ≡ self.old.number)
+            × (shared_line self.new ≡ shared_line self.old) }
+        ensures accepted { IfOk result
+            (λ seq. (seq ≡ length (shared_accepted self.old) + 1)
+            × (shared_accepted self.new
+            ≡ shared_accepted self.old ++ request self.old.number seq wish ∷ [])) }
+        ensures refused { IfErr result
+            (λ e. (e.wish ≡ wish) × (shared_accepted self.new ≡ shared_accepted self.old)) }
+        ensures spent { IsErrAnd result (λ e. e.why ≡ Spent)
+            ↔ (length (shared_accepted self.old) ≡ u32.MAX) }
+        ensures full { IfErr result
+            (λ e. e.why ≡ Full → WasFull (shared_capacity self.old) self.old.number
+            (shared_accepted self.old)) }
     {
         if self.last == u32::MAX {
             return Err(NotTaken {
@@ -158,9 +168,14 @@ impl SharedHand {
     ///
     /// `Spent` alone, as for `try_hand_in`: the wish comes back, and nothing is changed.
     pub fn hand_in<R: Wait>(&mut self, rt: &R, wish: Wish) -> Result<u32, NotTaken>
-        ensures end { (self.new.number ≡ self.old.number) × (shared_line self.new ≡ shared_line self.old) }
-        ensures accepted { IfOk result (λ seq. (seq ≡ length (shared_accepted self.old) + 1) × (shared_accepted self.new ≡ shared_accepted self.old ++ request self.old.number seq wish ∷ [])) }
-        ensures refused { IfErr result (λ e. (e.wish ≡ wish) × (shared_accepted self.new ≡ shared_accepted self.old)) }
+        ensures end { (self.new.number ≡ self.old.number)
+            × (shared_line self.new ≡ shared_line self.old) }
+        ensures accepted { IfOk result
+            (λ seq. (seq ≡ length (shared_accepted self.old) + 1)
+            × (shared_accepted self.new
+            ≡ shared_accepted self.old ++ request self.old.number seq wish ∷ [])) }
+        ensures refused { IfErr result
+            (λ e. (e.wish ≡ wish) × (shared_accepted self.new ≡ shared_accepted self.old)) }
         ensures spent { IsErr result ↔ (length (shared_accepted self.old) ≡ u32.MAX) }
         ensures why { IfErr result (λ e. e.why ≡ Spent) }
     {
@@ -190,9 +205,11 @@ impl SharedHand {
 }
 
 impl Hand for SharedHand {
-    ghost use Rattle.std.specs.Prelude.{◌≡◌, ◌+◌, ◌↔◌, [], ◌∷◌, ◌++◌, length, IfOk, IfErr, IsErrAnd};
+    ghost use Rattle.std.specs.Prelude.{◌≡◌, ◌+◌, ◌↔◌, [], ◌∷◌, ◌++◌, length, IfOk, IfErr};
+    ghost use Rattle.std.specs.Prelude.{IsErrAnd};
     ghost use Rattle.jffs_line.specs.Requests.{request};
-    ghost use Rattle.jffs_line.specs.Shared.{shared_line, shared_accepted, shared_capacity, WasFull};
+    ghost use Rattle.jffs_line.specs.Shared.{shared_line, shared_accepted, shared_capacity};
+    ghost use Rattle.jffs_line.specs.Shared.{WasFull};
     ghost use Rattle.jffs_line.specs.declared.request.Why.TheVariants.{Spent, Full};
     ghost use Rattle.jffs_line.specs.Numbered.{shared_numbered};
 
@@ -205,11 +222,19 @@ impl Hand for SharedHand {
     ghost numbered = { shared_numbered };
 
     fn offer<R: Wait>(&mut self, rt: &R, wish: Wish) -> Result<u32, NotTaken>
-        ensures end { (self.new.number ≡ self.old.number) × (shared_line self.new ≡ shared_line self.old) }
-        ensures accepted { IfOk result (λ seq. (seq ≡ length (shared_accepted self.old) + 1) × (shared_accepted self.new ≡ shared_accepted self.old ++ request self.old.number seq wish ∷ [])) }
-        ensures refused { IfErr result (λ e. (e.wish ≡ wish) × (shared_accepted self.new ≡ shared_accepted self.old)) }
-        ensures spent { IsErrAnd result (λ e. e.why ≡ Spent) ↔ (length (shared_accepted self.old) ≡ u32.MAX) }
-        ensures full { IfErr result (λ e. e.why ≡ Full → WasFull (shared_capacity self.old) self.old.number (shared_accepted self.old)) }
+        ensures end { (self.new.number ≡ self.old.number)
+            × (shared_line self.new ≡ shared_line self.old) }
+        ensures accepted { IfOk result
+            (λ seq. (seq ≡ length (shared_accepted self.old) + 1)
+            × (shared_accepted self.new
+            ≡ shared_accepted self.old ++ request self.old.number seq wish ∷ [])) }
+        ensures refused { IfErr result
+            (λ e. (e.wish ≡ wish) × (shared_accepted self.new ≡ shared_accepted self.old)) }
+        ensures spent { IsErrAnd result (λ e. e.why ≡ Spent)
+            ↔ (length (shared_accepted self.old) ≡ u32.MAX) }
+        ensures full { IfErr result
+            (λ e. e.why ≡ Full → WasFull (shared_capacity self.old) self.old.number
+            (shared_accepted self.old)) }
     {
         self.try_hand_in(rt, wish)
     }
@@ -219,8 +244,9 @@ impl Hand for SharedHand {
     }
 }
 
-// How often the taker looks at an empty line before it sleeps. A sleep costs it a system call and the sender that
-// wakes it another; the looks last long enough for a sender that is at work on its next request.
+// How often the taker looks at an empty line before it sleeps. A sleep costs it a system call and
+// the sender that wakes it another; the looks last long enough for a sender that is at work on its
+// next request.
 const TRIES: u32 = 16;
 
 /// The end of the shared line that takes requests.
@@ -245,7 +271,8 @@ impl Taker for SharedTaker {
 
     fn take<R: Wait>(&mut self, rt: &R) -> Option<Request>
         ensures ends { shared_ends self.new ≡ shared_ends self.old }
-        ensures taken { IfSome result (λ r. (w : ℕ) → shared_taken self.new w ≡ shared_taken self.old w ++ of w (r ∷ [])) }
+        ensures taken { IfSome result
+            (λ r. (w : ℕ) → shared_taken self.new w ≡ shared_taken self.old w ++ of w (r ∷ [])) }
         ensures none { IfNone result ((w : ℕ) → shared_taken self.new w ≡ shared_taken self.old w) }
         ensures empty { IfNone result (WasEmpty self.old) }
     {

@@ -39,7 +39,9 @@ struct Offered {
 }
 
 fn offered_twice<T: Settle, R: Wait>(rt: &R, alloc: Global, line: Ends<T::Of, T>) -> Option<Offered>
-    requires { T.ends line.taker ≡ map (λ h. (T.Of.sender h, T.Of.line h)) (line.hands.writers.items ++ line.hands.cleaner ∷ line.hands.control.hand ∷ []) }
+    requires { T.ends line.taker
+        ≡ map (λ h. (T.Of.sender h, T.Of.line h))
+        (line.hands.writers.items ++ line.hands.cleaner ∷ line.hands.control.hand ∷ []) }
 {
     let Ends { mut hands, taker } = line;
     let mut hand = hands.writers.pop()?;

@@ -1,5 +1,7 @@
 -- The log as the room of it is counted, and the pure steps of cleaning.
-use Rattle.std.specs.Prelude.{ℕ, zero, suc, ◌+◌, ◌-◌, ◌/◌, Bool, true, not, ◌&&◌, ◌||◌, ◌==◌, nat_le, nat_lt, List, [], ◌∷◌, ◌++◌, map, filter, sum_by, if◌then◌else◌}
+use Rattle.std.specs.Prelude.{ℕ, zero, suc, ◌+◌, ◌-◌, ◌/◌, Bool, true, not, ◌&&◌, ◌||◌, ◌==◌}
+use Rattle.std.specs.Prelude.{nat_le, nat_lt, List, [], ◌∷◌, ◌++◌, map, filter, sum_by}
+use Rattle.std.specs.Prelude.{if◌then◌else◌}
 use Rattle.std.specs.List.{list_all}
 use Rattle.jffs_node.specs.declared.node.Node.{Node}
 use Rattle.jffs_node.specs.Record.{record_len, dsize, is_file, fits_rest}
@@ -12,8 +14,8 @@ use Rattle.jffs_log.specs.declared.room.Room.TheVariants.{Fresh, Copy}
 use Rattle.jffs_log.specs.Image.{Sector, tail_of, log_sectors, erased_count, free_of_tail}
 use Rattle.jffs_log.specs.Room.{tail_need, has_room}
 
--- The sectors of the log, the oldest first, each as its records in order; the bytes that are free in the last, which is the tail; and
--- how many sectors are erased.
+-- The sectors of the log, the oldest first, each as its records in order; the bytes that are free
+-- in the last, which is the tail; and how many sectors are erased.
 pub record Layout : Type 0 where
   pub sectors : List (List Node)
   pub free : ℕ
@@ -43,15 +45,23 @@ in_last n (s ∷ t ∷ sectors) = s ∷ in_last n (t ∷ sectors)
 
 -- the record stands in the tail
 abbrev pub in_tail : Node → Layout → Layout
-in_tail n log = record { sectors = in_last n log.sectors; free = log.free - record_len n; erased = log.erased }
+in_tail n log =
+    record { sectors = in_last n log.sectors; free = log.free - record_len n; erased = log.erased }
 
 -- the record opens the next sector
 abbrev pub in_next : ℕ → Node → Layout → Layout
-in_next sector_size n log = record { sectors = log.sectors ++ (n ∷ []) ∷ []; free = sector_size - record_len n; erased = log.erased - 1 }
+in_next sector_size n log =
+    record {
+      sectors = log.sectors ++ (n ∷ []) ∷ [];
+      free = sector_size - record_len n;
+      erased = log.erased - 1;
+    }
 
 -- A record is put into the tail where that has room, else into the next sector.
 abbrev pub put : ℕ → Room → Node → Layout → Layout
-put sector_size room n log = if nat_le (tail_need room (record_len n)) log.free then in_tail n log else in_next sector_size n log
+put sector_size room n log =
+    if nat_le (tail_need room (record_len n)) log.free then in_tail n log
+    else in_next sector_size n log
 
 -- all sectors but the oldest
 abbrev pub without_oldest : List (List Node) → List (List Node)
@@ -65,7 +75,8 @@ oldest_records (oldest ∷ newer) = oldest
 
 -- The oldest sector is erased.
 abbrev pub erase_oldest : Layout → Layout
-erase_oldest log = record { sectors = without_oldest log.sectors; free = log.free; erased = log.erased + 1 }
+erase_oldest log =
+    record { sectors = without_oldest log.sectors; free = log.free; erased = log.erased + 1 }
 
 -- The nodes of the history, the newest first, and the log that holds the newest of them.
 pub record GcState : Type 0 where
@@ -83,7 +94,8 @@ copied past n = with (cleaning_copy (state_of_past past) n) (version_after past)
 
 -- the copy of a record is appended
 abbrev pub with_copy : ℕ → Node → GcState → GcState
-with_copy sector_size n s = record { past = copied s.past n ∷ s.past; log = put sector_size Copy (copied s.past n) s.log }
+with_copy sector_size n s =
+    record { past = copied s.past n ∷ s.past; log = put sector_size Copy (copied s.past n) s.log }
 
 -- A record at its turn: copied where it is live, else skipped.
 abbrev pub handled : ℕ → Node → GcState → GcState
@@ -96,12 +108,14 @@ handled_each sector_size (n ∷ nodes) s = handled_each sector_size nodes (handl
 
 -- the copy of this record, where one is made, has room
 abbrev pub copy_has_room : Node → GcState → Bool
-copy_has_room n s = not (is_live s.past n.version) || has_room Copy (record_len (copied s.past n)) s.log.free s.log.erased
+copy_has_room n s = not (is_live s.past n.version)
+    || has_room Copy (record_len (copied s.past n)) s.log.free s.log.erased
 
 -- each copy has room at its turn
 abbrev pub copies_have_room : ℕ → List Node → GcState → Bool
 copies_have_room sector_size [] s = true
-copies_have_room sector_size (n ∷ nodes) s = copy_has_room n s && copies_have_room sector_size nodes (handled sector_size n s)
+copies_have_room sector_size (n ∷ nodes) s =
+    copy_has_room n s && copies_have_room sector_size nodes (handled sector_size n s)
 
 -- The oldest sector is cleaned: its live records are copied, in order, and it is erased.
 abbrev pub cleaned : ℕ → GcState → GcState
@@ -113,22 +127,28 @@ cleaned sector_size s =
 abbrev pub fresh_has_room : ℕ → GcState → Bool
 fresh_has_room len s = has_room Fresh len s.log.free s.log.erased
 
--- Room is made for a fresh record of `len` bytes, by at most as many cleanings as the last number says.
+-- Room is made for a fresh record of `len` bytes, by at most as many cleanings as the last number
+-- says.
 abbrev pub room_made : ℕ → ℕ → ℕ → GcState → GcState
 room_made sector_size len zero s = s
-room_made sector_size len (suc left) s = if fresh_has_room len s then s else room_made sector_size len left (cleaned sector_size s)
+room_made sector_size len (suc left) s =
+    if fresh_has_room len s then s else room_made sector_size len left (cleaned sector_size s)
 
 -- how many cleanings that takes
 abbrev pub cleanings : ℕ → ℕ → ℕ → GcState → ℕ
 cleanings sector_size len zero s = 0
-cleanings sector_size len (suc left) s = if fresh_has_room len s then 0 else 1 + cleanings sector_size len left (cleaned sector_size s)
+cleanings sector_size len (suc left) s =
+    if fresh_has_room len s then 0 else 1 + cleanings sector_size len left (cleaned sector_size s)
 
 -- What a lawful log keeps.
 
--- each record of a sector, from an offset on, may stand there: a file or directory record leaves 64 bytes after it
+-- each record of a sector, from an offset on, may stand there: a file or directory record leaves 64
+-- bytes after it
 abbrev pub stands_from : ℕ → ℕ → List Node → Bool
 stands_from sector_size offset [] = true
-stands_from sector_size offset (n ∷ nodes) = fits_rest n.kind (dsize n) (sector_size / 4) (sector_size - offset) && stands_from sector_size (offset + record_len n) nodes
+stands_from sector_size offset (n ∷ nodes) =
+    fits_rest n.kind (dsize n) (sector_size / 4) (sector_size - offset)
+    && stands_from sector_size (offset + record_len n) nodes
 
 -- the last sector's records, and what is free after them
 abbrev pub last_fits : ℕ → ℕ → List (List Node) → Bool

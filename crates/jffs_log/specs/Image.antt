@@ -1,5 +1,8 @@
--- An image is the list of its sectors, each a list of bytes. What its sectors read as, and the log that they hold.
-use Rattle.std.specs.Prelude.{ℕ, ◌+◌, ◌-◌, Bool, true, false, not, ◌&&◌, nat_le, List, [], ◌∷◌, ◌++◌, length, map, filter, take, drop, reverse, flat_map, Option, Some, None, if◌then◌else◌}
+-- An image is the list of its sectors, each a list of bytes. What its sectors read as, and the log
+-- that they hold.
+use Rattle.std.specs.Prelude.{ℕ, ◌+◌, ◌-◌, Bool, true, false, not, ◌&&◌, nat_le, List, [], ◌∷◌}
+use Rattle.std.specs.Prelude.{◌++◌, length, map, filter, take, drop, reverse, flat_map, Option}
+use Rattle.std.specs.Prelude.{Some, None, if◌then◌else◌}
 use Rattle.std.specs.List.{last_or, enumerate_from}
 use Rattle.jffs_node.specs.declared.node.Node.{Node}
 use Rattle.jffs_node.specs.Record.{record_len, is_unmount}
@@ -25,17 +28,20 @@ pub record Placed : Type 0 where
 -- the records of a sector, one after another
 abbrev pub placed_from : ℕ → ℕ → List Node → List Placed
 placed_from sector offset [] = []
-placed_from sector offset (n ∷ nodes) = record { sector = sector; offset = offset; node = n } ∷ placed_from sector (offset + record_len n) nodes
+placed_from sector offset (n ∷ nodes) = record { sector = sector; offset = offset; node = n }
+    ∷ placed_from sector (offset + record_len n) nodes
 
 -- all records of a numbered sector
 abbrev pub records_in : (ℕ × Sector) → List Placed
 records_in s = placed_from s.0 0 s.1.reading.nodes
 
--- the sectors that are written right after an erased one, where the one before the first is the last
+-- the sectors that are written right after an erased one, where the one before the first is the
+-- last
 abbrev pub starts_from : Bool → ℕ → List Sector → List ℕ
 starts_from erased_before k [] = []
 starts_from erased_before k (s ∷ sectors) =
-    if erased_before && not s.erased then k ∷ starts_from s.erased (k + 1) sectors else starts_from s.erased (k + 1) sectors
+    if erased_before && not s.erased then k ∷ starts_from s.erased (k + 1) sectors
+    else starts_from s.erased (k + 1) sectors
 
 -- there is a sector, and it is erased
 abbrev pub is_erased_option : Option Sector → Bool
@@ -61,7 +67,8 @@ turned k xs = drop k xs ++ take k xs
 
 -- the sectors of the log with their numbers, the oldest first
 abbrev pub log_sectors : List Sector → List (ℕ × Sector)
-log_sectors sectors = filter (λ s. not s.1.erased) (turned (oldest_of (starts sectors)) (enumerate_from 0 sectors))
+log_sectors sectors =
+    filter (λ s. not s.1.erased) (turned (oldest_of (starts sectors)) (enumerate_from 0 sectors))
 
 -- the records of the first of these sectors
 abbrev pub records_in_first : List (ℕ × Sector) → List Placed

@@ -1,4 +1,5 @@
--- The log of a flat image, and what a scan needs of the sectors before it looks at versions and tree.
+-- The log of a flat image, and what a scan needs of the sectors before it looks at versions and
+-- tree.
 use Rattle.std.specs.Prelude.{◌≡◌, ℕ, ◌*◌, ◌<◌, true, List, length, replicate}
 use Rattle.std.specs.List.{list_any, AllByRecursion}
 use Rattle.jffs_node.specs.declared.node.Node.{Node}
@@ -26,7 +27,8 @@ pub record IsReadable (sectors : List Sector) : Type 0 where
   pub run : is_one_run sectors ≡ true
 
 -- the sector of that number holds these nodes, and then that many erased bytes
-pub record IsOpenSector (count len : ℕ) (image : List ℕ) (k : ℕ) (nodes : List Node) (free : ℕ) : Type 0 where
+pub record IsOpenSector (count len : ℕ) (image : List ℕ) (k : ℕ) (nodes : List Node) (free : ℕ) :
+    Type 0 where
   pub whole : length image ≡ count * len
   pub below : k < count
   pub holds : HoldsNodes (sector_bytes len k image) nodes (replicate free 255)

@@ -1,5 +1,6 @@
 -- What a log keeps in memory of its device.
-use Rattle.std.specs.Prelude.{◌≡◌, ◌⊎◌, ℕ, ◌*◌, true, List, [], ◌∷◌, ◌++◌, length, map, filter, flat_map, sum_by, None, Bool, ◌&&◌, ◌==◌, if◌then◌else◌}
+use Rattle.std.specs.Prelude.{◌≡◌, ◌⊎◌, ℕ, ◌*◌, true, List, [], ◌∷◌, ◌++◌, length, map, filter}
+use Rattle.std.specs.Prelude.{flat_map, sum_by, None, Bool, ◌&&◌, ◌==◌, if◌then◌else◌}
 use Rattle.jffs_tree.specs.Origin.{Tree, is_live}
 use Rattle.jffs_tree.specs.Look.{holds_version}
 use Rattle.std.specs.List.{AllByRecursion, last_or}
@@ -8,7 +9,8 @@ use Rattle.jffs_node.specs.Record.{record_len}
 use Rattle.jffs_flash.specs.Sizes.{is_geometry}
 use Rattle.jffs_log.specs.declared.log_index.RecordRef.{RecordRef}
 use Rattle.jffs_log.specs.declared.log_index.LogIndex.{LogIndex}
-use Rattle.jffs_log.specs.Image.{Sector, Placed, records_in, records_in_first, log_sectors, free_of_tail}
+use Rattle.jffs_log.specs.Image.{Sector, Placed, records_in, records_in_first, log_sectors}
+use Rattle.jffs_log.specs.Image.{free_of_tail}
 use Rattle.jffs_log.specs.Cleaning.{Layout, layout_of}
 use Rattle.jffs_log.specs.Volume.{sectors_in}
 use Rattle.jffs_log.specs.Ring.{IsRing}
@@ -16,10 +18,17 @@ use Rattle.jffs_log.specs.Live.{IsSound, IsReadable, IsOpenSector, live_log}
 
 -- what the index has of a record
 abbrev pub ref_of : Placed → RecordRef
-ref_of p = record { version = p.node.version; inode = p.node.inode; length = record_len p.node; sector = p.sector; offset = p.offset }
+ref_of p = record {
+  version = p.node.version;
+  inode = p.node.inode;
+  length = record_len p.node;
+  sector = p.sector;
+  offset = p.offset;
+}
 
 -- the sector that was begun last has that many bytes used and that many erased
-pub record HasTail (count len : ℕ) (image : List ℕ) (held : List (ℕ × Sector)) (tail used free : ℕ) : Type 0 where
+pub record HasTail (count len : ℕ) (image : List ℕ) (held : List (ℕ × Sector))
+    (tail used free : ℕ) : Type 0 where
   pub older : List (ℕ × Sector)
   pub last : ℕ × Sector
   pub nodes : List Node
@@ -29,7 +38,8 @@ pub record HasTail (count len : ℕ) (image : List ℕ) (held : List (ℕ × Sec
   pub filled : used ≡ sum_by record_len nodes
 
 -- These numbers and records are those of the image.
-pub record Describes (count len : ℕ) (image : List ℕ) (first many tail used free : ℕ) (records : List RecordRef) : Type 0 where
+pub record Describes (count len : ℕ) (image : List ℕ) (first many tail used free : ℕ)
+    (records : List RecordRef) : Type 0 where
   pub sizes : is_geometry count len ≡ true
   pub whole : length image ≡ count * len
   pub held : List (ℕ × Sector)
@@ -43,7 +53,8 @@ pub record Describes (count len : ℕ) (image : List ℕ) (first many tail used 
 
 -- the index describes this image
 abbrev pub IsLogIndex : List ℕ → LogIndex → Type 0
-IsLogIndex image b = Describes b.sectors b.sector_size image b.first b.held b.tail b.used b.free b.records.items
+IsLogIndex image b =
+    Describes b.sectors b.sector_size image b.first b.held b.tail b.used b.free b.records.items
 
 -- the device has `count` sectors of `len` bytes
 abbrev pub HasSizes : ℕ → ℕ → LogIndex → Type 0
@@ -75,12 +86,14 @@ live_in sector tree log = length (filter (λ p. (p.sector == sector) && lives_in
 
 -- how many of them a history has live
 abbrev pub live_records_in : ℕ → List Node → List Placed → ℕ
-live_records_in sector past log = length (filter (λ p. (p.sector == sector) && is_live past p.node.version) log)
+live_records_in sector past log =
+    length (filter (λ p. (p.sector == sector) && is_live past p.node.version) log)
 
 -- the records from the first one on that stands in another sector
 abbrev pub from_other : ℕ → List RecordRef → List RecordRef
 from_other sector [] = []
-from_other sector (k ∷ records) = if k.sector == sector then from_other sector records else k ∷ records
+from_other sector (k ∷ records) =
+    if k.sector == sector then from_other sector records else k ∷ records
 
 -- the same in all but the capacity reserved for records
 pub record IsSameLogIndex (old new : LogIndex) : Type 0 where

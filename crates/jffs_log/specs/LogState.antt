@@ -1,5 +1,6 @@
 -- A log as its callers see it, and what its calls leave of it.
-use Rattle.std.specs.Prelude.{◌≡◌, ◌⊎◌, ℕ, ◌+◌, ◌-◌, ◌*◌, ◌/◌, ◌^◌, ◌<◌, ◌≤◌, Bool, true, false, List, [], ◌∷◌, ◌++◌, length, min, IsTrue}
+use Rattle.std.specs.Prelude.{◌≡◌, ◌⊎◌, ℕ, ◌+◌, ◌-◌, ◌*◌, ◌/◌, ◌^◌, ◌<◌, ◌≤◌, Bool, true, false}
+use Rattle.std.specs.Prelude.{List, [], ◌∷◌, ◌++◌, length, min, IsTrue}
 use Rattle.std.specs.List.{AllByRecursion}
 use Rattle.jffs_node.specs.declared.node.Node.{Node}
 use Rattle.jffs_node.specs.Record.{record_len, dsize, is_lawful, is_unmount, fits_rest}
@@ -11,7 +12,8 @@ use Rattle.jffs_flash.specs.Device.{Device, with_image, Fails, EraseFails, Uncha
 use Rattle.jffs_log.specs.declared.log_index.LogIndex.{LogIndex}
 use Rattle.jffs_log.specs.declared.room.Room.{Room}
 use Rattle.jffs_log.specs.declared.room.Room.TheVariants as room
-use Rattle.jffs_log.specs.LogIndex.{IsLogIndex, HasSizes, IsSameLogIndex, IsCut, IsCutSomewhere, log_in, oldest_in, layout_in, lives_in, placed_at}
+use Rattle.jffs_log.specs.LogIndex.{IsLogIndex, HasSizes, IsSameLogIndex, IsCut, IsCutSomewhere}
+use Rattle.jffs_log.specs.LogIndex.{log_in, oldest_in, layout_in, lives_in, placed_at}
 use Rattle.jffs_log.specs.Cleaning.{Layout, put, erase_oldest}
 use Rattle.jffs_log.specs.History.{IsHistory, KeepsRules}
 use Rattle.jffs_log.specs.Image.{Placed, is_clean}
@@ -52,7 +54,8 @@ pub record FitsIn (sector_size free : ℕ) (n : Node) : Type 0 where
 pub record MayAppend (r : Room) (n : Node) (s : LogState) : Type 0 where
   pub lawful : IsTrue (is_lawful n)
   pub short : record_len n ≤ s.index.sector_size / 4
-  pub has_room : IsTrue (has_room_in s.index.sectors s.index.sector_size s.device.image r (record_len n))
+  pub has_room : IsTrue
+      (has_room_in s.index.sectors s.index.sector_size s.device.image r (record_len n))
   pub unmounts : r ≡ room.Unmount → IsTrue (is_unmount n.kind)
 
 -- whether the log of the image ends with an unmount node
@@ -77,7 +80,8 @@ pub record Works (old new : LogState) : Type 0 where
   pub device : new.device ≡ with_image old.device new.device.image
 
 -- the record stands there, and the log has this layout
-pub record AppendedAt (sector offset : ℕ) (layout : Layout) (n : Node) (old new : LogState) : Type 0 where
+pub record AppendedAt (sector offset : ℕ) (layout : Layout) (n : Node) (old new : LogState) :
+    Type 0 where
   pub works : Works old new
   pub numbers : KeepsNumbers old.index new.index
   pub tail : (new.index.tail ≡ sector) × (new.index.used ≡ offset + record_len n)
@@ -86,26 +90,31 @@ pub record AppendedAt (sector offset : ℕ) (layout : Layout) (n : Node) (old ne
   pub clean : is_clean_log new ≡ is_unmount n.kind
 
 -- the device failed while the record was written there
-pub record AppendFailedAt (sector offset : ℕ) (n : Node) (why : Cause) (old new : LogState) : Type 0 where
+pub record AppendFailedAt (sector offset : ℕ) (n : Node) (why : Cause) (old new : LogState) :
+    Type 0 where
   pub cause_is : why ≡ cause.Device
   pub failed : new.failed ≡ true
-  pub device : Fails (λ image. IsCut old.index old.device.image image (placed_at sector offset n)) old.device new.device
+  pub device : Fails (λ image. IsCut old.index old.device.image image (placed_at sector offset n))
+      old.device new.device
   pub numbers : KeepsNumbers old.index new.index
 
 -- The node's record is the last of the log, in the tail or in the next sector.
 pub record Appended (r : Room) (n : Node) (old new : LogState) : Type 0 where
   pub works : Works old new
   pub numbers : KeepsNumbers old.index new.index
-  pub added : log_records new ≡ log_records old ++ placed_at new.index.tail (new.index.used - record_len n) n ∷ []
+  pub added : log_records new
+      ≡ log_records old ++ placed_at new.index.tail (new.index.used - record_len n) n ∷ []
   pub layout_is : log_layout new ≡ put old.index.sector_size r n (log_layout old)
   pub clean : is_clean_log new ≡ is_unmount n.kind
-  pub history : (past : List Node) → HasHistory past old → KeepsRules (n ∷ past) → HasHistory (n ∷ past) new
+  pub history : (past : List Node) → HasHistory past old → KeepsRules (n ∷ past)
+      → HasHistory (n ∷ past) new
 
 -- The device failed: a scan finds the log as it was, or with the whole record at its end.
 pub record AppendFailed (n : Node) (why : Cause) (old new : LogState) : Type 0 where
   pub cause_is : why ≡ cause.Device
   pub failed : new.failed ≡ true
-  pub device : Fails (λ image. IsCutSomewhere old.index old.device.image image n) old.device new.device
+  pub device : Fails (λ image. IsCutSomewhere old.index old.device.image image n) old.device
+      new.device
   pub numbers : KeepsNumbers old.index new.index
   pub history : (past : List Node) → HasHistory past old → KeepsRules (n ∷ past)
       → HasHistory past new ⊎ HasHistory (n ∷ past) new
@@ -129,7 +138,9 @@ pub record ErasedOldest (tree : Tree) (old new : LogState) : Type 0 where
 pub record EraseFailed (why : Cause) (old new : LogState) : Type 0 where
   pub cause_is : why ≡ cause.Device
   pub failed : new.failed ≡ true
-  pub device : EraseFails (IsHalfErased (old.index.first * old.index.sector_size) old.index.sector_size old.device.image) old.device new.device
+  pub device : EraseFails
+      (IsHalfErased (old.index.first * old.index.sector_size) old.index.sector_size
+      old.device.image) old.device new.device
   pub sizes : HasSizes old.index.sectors old.index.sector_size new.index
   pub erases : new.index.erases ≡ one_erase_more old.index
 
@@ -147,4 +158,5 @@ ReadStopped _ old new = ⊥
 
 -- no record of the oldest sector lives in the tree
 abbrev pub OldestIsDead : Tree → LogState → Type 0
-OldestIsDead tree s = AllByRecursion (λ p. lives_in tree p ≡ false) (oldest_in s.device.image s.index)
+OldestIsDead tree s =
+    AllByRecursion (λ p. lives_in tree p ≡ false) (oldest_in s.device.image s.index)

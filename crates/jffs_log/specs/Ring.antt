@@ -3,8 +3,10 @@ use Rattle.std.specs.Prelude.{◌≡◌, ◌⊎◌, ℕ, ◌+◌, ◌<◌, ◌�
 use Rattle.std.specs.List.{enumerate_from, AllByRecursion}
 use Rattle.jffs_log.specs.Image.{Sector, turned}
 
--- Begun at the first, the sectors are those of the log and then the erased ones, of which there is one.
-pub record IsRing (first : ℕ) (sectors : List Sector) (held blank : List (ℕ × Sector)) : Type 0 where
+-- Begun at the first, the sectors are those of the log and then the erased ones, of which there is
+-- one.
+pub record IsRing (first : ℕ) (sectors : List Sector) (held blank : List (ℕ × Sector)) :
+    Type 0 where
   pub inside : first < length sectors
   pub order : turned first (enumerate_from 0 sectors) ≡ held ++ blank
   pub used : AllByRecursion (λ s. s.1.erased ≡ false) held

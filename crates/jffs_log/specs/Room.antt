@@ -1,5 +1,6 @@
 -- Weight, room, and the numbers that come next.
-use Rattle.std.specs.Prelude.{ℕ, ◌+◌, ◌-◌, ◌*◌, ◌/◌, ◌^◌, Bool, ◌||◌, nat_le, nat_lt, List, [], ◌∷◌, fold, filter, sum_by, max, Option, Some, None, if◌then◌else◌}
+use Rattle.std.specs.Prelude.{ℕ, ◌+◌, ◌-◌, ◌*◌, ◌/◌, ◌^◌, Bool, ◌||◌, nat_le, nat_lt, List, [], ◌∷◌}
+use Rattle.std.specs.Prelude.{fold, filter, sum_by, max, Option, Some, None, if◌then◌else◌}
 use Rattle.jffs_node.specs.declared.node.Node.{Node}
 use Rattle.jffs_node.specs.Record.{record_len}
 use Rattle.jffs_tree.specs.declared.wish.Limits.{Limits}
@@ -56,4 +57,9 @@ data_max sector_size = sector_size / 4 - 64
 
 -- what a decision has to know of the log
 abbrev pub limits : ℕ → List Node → Limits
-limits sector_size past = record { data_max = data_max sector_size; next_inode = next_inode past; next_version = next_version past }
+limits sector_size past =
+    record {
+      data_max = data_max sector_size;
+      next_inode = next_inode past;
+      next_version = next_version past;
+    }

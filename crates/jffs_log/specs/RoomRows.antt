@@ -1,10 +1,12 @@
--- What cleaning makes of a full volume: nine writes of 8 bytes, none over another, in sectors of 288 bytes, smaller than any real one so
--- that it is soon computed.
-use Rattle.std.specs.Prelude.{◌≡◌, ℕ, ◌+◌, ◌*◌, true, false, List, [], ◌∷◌, replicate, map, Some, codes, reverse, take, drop}
+-- What cleaning makes of a full volume: nine writes of 8 bytes, none over another, in sectors of
+-- 288 bytes, smaller than any real one so that it is soon computed.
+use Rattle.std.specs.Prelude.{◌≡◌, ℕ, ◌+◌, ◌*◌, true, false, List, [], ◌∷◌, replicate, map, Some}
+use Rattle.std.specs.Prelude.{codes, reverse, take, drop}
 use Rattle.jffs_node.specs.declared.node.Node.{Node}
 use Rattle.jffs_node.specs.declared.node.Kind.TheVariants.{File}
 use Rattle.jffs_log.specs.Room.{heavy}
-use Rattle.jffs_log.specs.Cleaning.{GcState, used, is_history, copies_have_room, oldest_records, fresh_has_room, room_made, cleanings}
+use Rattle.jffs_log.specs.Cleaning.{GcState, used, is_history, copies_have_room, oldest_records}
+use Rattle.jffs_log.specs.Cleaning.{fresh_has_room, room_made, cleanings}
 use Rattle.jffs_log.specs.RoomLaws.{IsSound, live_weight}
 
 -- a write to the file f
@@ -37,7 +39,11 @@ records = map appended (0 ∷ 1 ∷ 2 ∷ 3 ∷ 4 ∷ 5 ∷ 6 ∷ 7 ∷ 8 ∷ []
 abbrev pub full : GcState
 full = record {
   past = reverse records;
-  log = record { sectors = take 3 records ∷ take 3 (drop 3 records) ∷ drop 6 records ∷ []; free = 72; erased = 3 };
+  log = record {
+    sectors = take 3 records ∷ take 3 (drop 3 records) ∷ drop 6 records ∷ [];
+    free = 72;
+    erased = 3;
+  };
 }
 
 -- lengths and versions of what the log holds
@@ -57,5 +63,7 @@ pub record FullVolume : Type 0 where
   pub copies : copies_have_room 288 (oldest_records full.log.sectors) full ≡ true
   pub turn : cleanings 288 72 3 full ≡ 3
   pub none : fresh_has_room 72 after_turn ≡ false
-  pub holds : seen after_turn ≡ ((72, 10) ∷ (72, 11) ∷ (72, 12) ∷ []) ∷ ((72, 13) ∷ (72, 14) ∷ (72, 15) ∷ []) ∷ ((72, 16) ∷ (72, 17) ∷ (72, 18) ∷ []) ∷ []
+  pub holds : seen after_turn
+      ≡ ((72, 10) ∷ (72, 11) ∷ (72, 12) ∷ []) ∷ ((72, 13) ∷ (72, 14) ∷ (72, 15) ∷ [])
+      ∷ ((72, 16) ∷ (72, 17) ∷ (72, 18) ∷ []) ∷ []
   pub left : after_turn.log.erased ≡ 3

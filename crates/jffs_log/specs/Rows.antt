@@ -1,13 +1,16 @@
 -- What the definitions give on examples.
-use Rattle.std.specs.Prelude.{◌≡◌, ℕ, ◌-◌, Bool, true, false, List, [], ◌∷◌, ◌++◌, length, set, replicate, Option, Some, None, Ok, Err, Result, codes}
+use Rattle.std.specs.Prelude.{◌≡◌, ℕ, ◌-◌, Bool, true, false, List, [], ◌∷◌, ◌++◌, length, set}
+use Rattle.std.specs.Prelude.{replicate, Option, Some, None, Ok, Err, Result, codes}
 use Rattle.jffs_node.specs.declared.node.Node.{Node}
 use Rattle.jffs_node.specs.declared.read.Why.TheVariants as why
 use Rattle.jffs_node.specs.Record.{spelling}
-use Rattle.jffs_node.specs.Rows.{lone_unmount, created, hello, hello_one, old_sector, hole_of, erased_from}
+use Rattle.jffs_node.specs.Rows.{lone_unmount, created, hello, hello_one, old_sector, hole_of}
+use Rattle.jffs_node.specs.Rows.{erased_from}
 use Rattle.jffs_tree.specs.State.{bytes_of}
 use Rattle.jffs_tree.specs.Origin.{entry}
 use Rattle.jffs_log.specs.declared.scanning.ScanWhy.{ScanWhy}
-use Rattle.jffs_log.specs.declared.scanning.ScanWhy.TheVariants.{Geometry, BadRecord, NoErased, Scattered, BadOrder, BadTree}
+use Rattle.jffs_log.specs.declared.scanning.ScanWhy.TheVariants.{Geometry, BadRecord, NoErased}
+use Rattle.jffs_log.specs.declared.scanning.ScanWhy.TheVariants.{Scattered, BadOrder, BadTree}
 use Rattle.jffs_log.specs.Image.{past_of}
 use Rattle.jffs_log.specs.Scan.{Scanned, scan}
 
@@ -30,7 +33,8 @@ why_refused (Err w) = Some w
 
 -- how many records, whether clean, and the bytes of inode 2
 abbrev pub seen_in : Result Scanned ScanWhy → Option (ℕ × Bool × List ℕ)
-seen_in (Ok scanned) = Some (length scanned.log, scanned.clean, bytes_of (entry (past_of scanned.log) 2))
+seen_in (Ok scanned) =
+    Some (length scanned.log, scanned.clean, bytes_of (entry (past_of scanned.log) 2))
 seen_in (Err w) = None
 
 -- why a volume with these first sectors is refused
@@ -48,9 +52,12 @@ one_byte_at_four = record hello_one { version = 1; offset = 4; bytes = 0x61 ∷ 
 -- images that are refused
 pub record Refusals : Type 0 where
   pub five_sectors : why_refused (scan 1024 (replicate 5 blank)) ≡ Some Geometry
-  pub scattered : refusal (sector_with (spelling created) ∷ blank ∷ sector_with (spelling created) ∷ []) ≡ Some Scattered
+  pub scattered : refusal
+      (sector_with (spelling created) ∷ blank ∷ sector_with (spelling created) ∷ [])
+      ≡ Some Scattered
   pub no_erased : refusal (replicate 8 (sector_with (0 ∷ []))) ≡ Some NoErased
-  pub flags : refusal (sector_with (set (spelling created) 5 4) ∷ []) ≡ Some (BadRecord 0 0 why.Flags)
+  pub flags : refusal (sector_with (set (spelling created) 5 4) ∷ [])
+      ≡ Some (BadRecord 0 0 why.Flags)
   pub falling : refusal (sector_with (spelling hello ++ spelling created) ∷ []) ≡ Some BadOrder
   pub orphan : refusal (sector_with (spelling (record created { parent = 9 })) ∷ []) ≡ Some BadTree
   pub unwritten : refusal (sector_with (spelling one_byte_at_four) ∷ []) ≡ Some BadTree
@@ -58,9 +65,14 @@ pub record Refusals : Type 0 where
 
 -- records of both forms in one log
 pub record MixedForms : Type 0 where
-  pub hole : seen (sector_with (spelling (hole_of 5)) ∷ []) ≡ Some (1, false, 0 ∷ 0 ∷ 0 ∷ 0 ∷ 0x61 ∷ [])
+  pub hole : seen (sector_with (spelling (hole_of 5)) ∷ [])
+      ≡ Some (1, false, 0 ∷ 0 ∷ 0 ∷ 0 ∷ 0x61 ∷ [])
   pub too_short : refusal (sector_with (spelling (hole_of 4)) ∷ []) ≡ Some (BadRecord 0 0 why.Size)
-  pub older_form_after : refusal (sector_with (spelling (hole_of 5) ++ spelling (record created { inode = 3; version = 2; name = Some (codes "g") })) ∷ []) ≡ Some BadTree
+  pub older_form_after :
+      refusal (sector_with
+      (spelling (hole_of 5)
+      ++ spelling (record created { inode = 3; version = 2; name = Some (codes "g") }))
+      ∷ []) ≡ Some BadTree
 
 -- images of one sector of records
 pub record FirstScan : Type 0 where
@@ -72,5 +84,8 @@ pub record FirstScan : Type 0 where
 
 -- the log begins in the last sector and goes on in the first
 pub record Turning : Type 0 where
-  pub turned : seen (sector_with (spelling hello) ∷ blank ∷ blank ∷ blank ∷ blank ∷ blank ∷ blank ∷ sector_with (spelling created) ∷ []) ≡ Some (2, false, codes "hello")
-  pub by_number : refusal (sector_with (spelling created) ∷ blank ∷ blank ∷ blank ∷ blank ∷ blank ∷ blank ∷ sector_with (spelling hello) ∷ []) ≡ Some BadOrder
+  pub turned : seen (sector_with (spelling hello) ∷ blank ∷ blank ∷ blank ∷ blank ∷ blank ∷ blank
+      ∷ sector_with (spelling created) ∷ []) ≡ Some (2, false, codes "hello")
+  pub by_number : refusal
+      (sector_with (spelling created) ∷ blank ∷ blank ∷ blank ∷ blank ∷ blank ∷ blank
+      ∷ sector_with (spelling hello) ∷ []) ≡ Some BadOrder

@@ -1,5 +1,6 @@
 -- What a scan answers: the index and the numbers that come next, or the cause of its refusal.
-use Rattle.std.specs.Prelude.{◌≡◌, ℕ, ◌<◌, Bool, false, not, ◌||◌, max, List, [], ◌∷◌, get_or, is_some, Result, Ok, Err}
+use Rattle.std.specs.Prelude.{◌≡◌, ℕ, ◌<◌, Bool, false, not, ◌||◌, max, List, [], ◌∷◌, get_or}
+use Rattle.std.specs.Prelude.{is_some, Result, Ok, Err}
 use Rattle.std.specs.List.{AllByRecursion}
 use Rattle.jffs_node.specs.declared.node.Node.{Node}
 use Rattle.jffs_node.specs.Record.{is_file}
@@ -32,8 +33,10 @@ abbrev pub keeps_form_after : Bool → Node → Bool
 keeps_form_after has_sizes n = not (is_file n.kind) || n.deleted || is_some n.size || not has_sizes
 
 -- the scan of the image, whose elements are bytes, with the index that describes it
-pub record IsFound (count len : ℕ) (image : List ℕ) (found : LogIndex) (tree : Tree) (clean : Bool) (limits : Limits) : Type 0 where
-  pub answer : scan len (split count len image) ≡ Ok (record { log = log_in image found; tree = tree; clean = clean })
+pub record IsFound (count len : ℕ) (image : List ℕ) (found : LogIndex) (tree : Tree) (clean : Bool)
+    (limits : Limits) : Type 0 where
+  pub answer : scan len (split count len image)
+      ≡ Ok (record { log = log_in image found; tree = tree; clean = clean })
   pub index : IsLogIndex image found
   pub sizes : HasSizes count len found
   pub erases : found.erases ≡ 0
@@ -51,7 +54,8 @@ abbrev pub scan_of : FlashDevice → Result Scanned ScanWhy
 scan_of device = scan device.sector_size (split device.sectors device.sector_size device.image)
 
 -- the log on the device, which no call changed
-pub record IsMounted (device : FlashDevice) (log : LogState) (tree : Tree) (clean : Bool) (limits : Limits) : Type 0 where
+pub record IsMounted (device : FlashDevice) (log : LogState) (tree : Tree) (clean : Bool)
+    (limits : Limits) : Type 0 where
   pub device_is : log.device ≡ device
   pub works : log.failed ≡ false
   pub found : IsFound device.sectors device.sector_size device.image log.index tree clean limits

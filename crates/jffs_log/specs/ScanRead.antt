@@ -1,12 +1,14 @@
 -- What a scan reads of the sectors, and where the log begins among them.
-use Rattle.std.specs.Prelude.{◌≡◌, ℕ, ◌/◌, ◌<◌, not, List, length, drop, get_or, sum_by, Option, Some, None, Result, Ok, Err, IsTrue, if◌then◌else◌}
+use Rattle.std.specs.Prelude.{◌≡◌, ℕ, ◌/◌, ◌<◌, not, List, length, drop, get_or, sum_by, Option}
+use Rattle.std.specs.Prelude.{Some, None, Result, Ok, Err, IsTrue, if◌then◌else◌}
 use Rattle.std.specs.List.{list_any, enumerate_from, AllByRecursion}
 use Rattle.jffs_node.specs.Record.{record_len, is_lawful}
 use Rattle.jffs_node.specs.Reading.{reading, reading_len, found}
 use Rattle.jffs_flash.specs.Device.{Device as FlashDevice}
 use Rattle.jffs_log.specs.declared.sector.SectorRead.TheInside.{Inside}
 use Rattle.jffs_log.specs.declared.scanning.ScanWhy.{ScanWhy}
-use Rattle.jffs_log.specs.declared.scanning.ScanWhy.TheVariants.{Device, Memory, NoErased, Scattered}
+use Rattle.jffs_log.specs.declared.scanning.ScanWhy.TheVariants.{Device, Memory, NoErased}
+use Rattle.jffs_log.specs.declared.scanning.ScanWhy.TheVariants.{Scattered}
 use Rattle.jffs_log.specs.Image.{Sector, sector_of, starts, is_one_run, oldest_of}
 use Rattle.jffs_log.specs.Sector.{HoldsNodes}
 use Rattle.jffs_log.specs.Volume.{sector_bytes, sectors_in}
@@ -14,7 +16,10 @@ use Rattle.jffs_log.specs.Scan.{first_bad, bad_record}
 
 -- the fields of a sector that was read, as its number and what it reads as
 abbrev pub sector_read : Inside → ℕ × Sector
-sector_read s = (s.number, record { erased = s.erased; reading = record { nodes = s.nodes.items; ending = s.ending } })
+sector_read s = (
+  s.number,
+  record { erased = s.erased; reading = record { nodes = s.nodes.items; ending = s.ending } },
+)
 
 -- the bytes that its records take, and that these are lawful
 pub record IsRead (s : Inside) : Type 0 where
@@ -25,7 +30,8 @@ pub record IsRead (s : Inside) : Type 0 where
 abbrev pub rest_of : List ℕ → List ℕ
 rest_of sector = drop (reading_len (reading sector)) sector
 
--- the sector begins with the records of the nodes that it reads as, its reading ends at what stands after them, and its bytes are bytes
+-- the sector begins with the records of the nodes that it reads as, its reading ends at what stands
+-- after them, and its bytes are bytes
 pub record IsSpelled (sector : List ℕ) : Type 0 where
   pub holds : HoldsNodes sector (reading sector).nodes (rest_of sector)
   pub ends : (reading sector).ending ≡ found (length sector / 4) (rest_of sector)
@@ -41,7 +47,8 @@ oldest_sector sectors =
 abbrev pub bad_in : (ℕ × Sector) → Option ScanWhy
 bad_in s = bad_record s.0 (reading_len s.1.reading) s.1.reading.ending None
 
--- the first `count` sectors of the image were read: none has a bad record, and each begins with the records of its nodes
+-- the first `count` sectors of the image were read: none has a bad record, and each begins with the
+-- records of its nodes
 pub record AreRead (count len : ℕ) (image : List ℕ) (list : List (ℕ × Sector)) : Type 0 where
   pub read : list ≡ enumerate_from 0 (sectors_in count len image)
   pub none : first_bad 0 (sectors_in count len image) ≡ None

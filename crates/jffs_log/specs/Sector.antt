@@ -11,7 +11,8 @@ spellings nodes = flat_map spelling nodes
 abbrev pub FitSector : ℕ → ℕ → List Node → Type 0
 FitSector record_max len [] = Unit {0}
 FitSector record_max len (n ∷ nodes) =
-    IsTrue (is_lawful n) × IsTrue (fits_rest n.kind (dsize n) record_max len) × FitSector record_max (len - record_len n) nodes
+    IsTrue (is_lawful n) × IsTrue (fits_rest n.kind (dsize n) record_max len)
+    × FitSector record_max (len - record_len n) nodes
 
 -- the sector is their records and then these bytes
 pub record HoldsNodes (sector : List ℕ) (nodes : List Node) (rest : List ℕ) : Type 0 where

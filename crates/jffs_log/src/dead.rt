@@ -1,6 +1,7 @@
 //! Whether the oldest sector holds no live record.
 
-ghost use Rattle.std.specs.Prelude.{◌≡◌, ◌<◌, ◌==◌, ◌&&◌, ◌↔◌, true, false, not, nat_le, length, slice_index_or, Contains, IsTrue};
+ghost use Rattle.std.specs.Prelude.{◌≡◌, ◌<◌, ◌==◌, ◌&&◌, ◌↔◌, true, false, not, nat_le, length};
+ghost use Rattle.std.specs.Prelude.{slice_index_or, Contains, IsTrue};
 ghost use Rattle.std.specs.List.{list_all, take_while};
 ghost use Rattle.jffs_tree.specs.Look.{holds_version};
 ghost use Rattle.jffs_log.specs.declared.log_index.RecordRef.{RecordRef as RefValue};
@@ -16,11 +17,12 @@ impl<F: Flash> Log<F> {
 
     /// Whether no record of the sector that was begun first lives in the tree of all nodes.
     ///
-    /// One question to the tree settles it: which is the least live version from that of the sector's first record to
-    /// that of its last? Versions rise along a log, and each live version is that of one of its records. So there is
-    /// none, or it is that of a record of the sector which lives. Both are looked at in the index before they are
-    /// answered. Only of a tree that isn't made of this log's nodes is each record asked for. (A sector may hold no
-    /// record, after a write that was cut off: then the walk has none to ask for.)
+    /// One question to the tree settles it: which is the least live version from that of the
+    /// sector's first record to that of its last? Versions rise along a log, and each live version
+    /// is that of one of its records. So there is none, or it is that of a record of the sector
+    /// which lives. Both are looked at in the index before they are answered. Only of a tree that
+    /// isn't made of this log's nodes is each record asked for. (A sector may hold no record, after
+    /// a write that was cut off: then the walk has none to ask for.)
     pub(crate) fn oldest_has_no_live(&self, tree: &Tree) -> bool
         requires working { self.now.failed ≡ false }
         ensures { IsTrue result ↔ OldestIsDead tree.now self.now }
@@ -40,7 +42,8 @@ impl<F: Flash> Log<F> {
 
 /// The version of a record, by its number in the log; 0 where there is none.
 fn version_at(records: &VecDeque<RecordRef>, at: usize) -> u32
-    ensures { (none : RefValue) → none.version ≡ 0 → result ≡ (slice_index_or records.now.items at none).version }
+    ensures { (none : RefValue) → none.version ≡ 0
+        → result ≡ (slice_index_or records.now.items at none).version }
 {
     match records.get(at) {
         Some(entry) => entry.version,
@@ -48,9 +51,12 @@ fn version_at(records: &VecDeque<RecordRef>, at: usize) -> u32
     }
 }
 
-/// Whether the record of this version stands in the sector and lives. It is looked for by halves, as versions rise.
+/// Whether the record of this version stands in the sector and lives. It is looked for by halves,
+/// as versions rise.
 fn lives_there(records: &VecDeque<RecordRef>, sector: u32, version: u32, tree: &Tree) -> bool
-    ensures { IsTrue result → (k : RefValue) × Contains records.now.items k × (k.sector ≡ sector) × (holds_version tree.now k.inode k.version ≡ true) }
+    ensures { IsTrue result
+        → (k : RefValue) × Contains records.now.items k × (k.sector ≡ sector)
+        × (holds_version tree.now k.inode k.version ≡ true) }
 {
     let Ok(at) = records.binary_search_by_key(&version, |entry| entry.version) else {
         return false;
@@ -61,9 +67,11 @@ fn lives_there(records: &VecDeque<RecordRef>, sector: u32, version: u32, tree: &
     }
 }
 
-/// Whether the records before the first one of another sector have versions from the first to the last.
+/// Whether the records before the first one of another sector have versions from the first to the
+/// last.
 fn all_within(records: &VecDeque<RecordRef>, sector: u32, first: u32, last: u32) -> bool
-    ensures { result ≡ list_all (λ k. nat_le first k.version && nat_le k.version last) (take_while (λ k. k.sector == sector) records.now.items) }
+    ensures { result ≡ list_all (λ k. nat_le first k.version && nat_le k.version last)
+        (take_while (λ k. k.sector == sector) records.now.items) }
 {
     records
         .iter()
@@ -73,7 +81,8 @@ fn all_within(records: &VecDeque<RecordRef>, sector: u32, first: u32, last: u32)
 
 /// Whether none of the records lives in the tree that stand before the first one of another sector.
 fn none_lives(records: &VecDeque<RecordRef>, sector: u32, tree: &Tree) -> bool
-    ensures { result ≡ list_all (λ k. not (holds_version tree.now k.inode k.version)) (take_while (λ k. k.sector == sector) records.now.items) }
+    ensures { result ≡ list_all (λ k. not (holds_version tree.now k.inode k.version))
+        (take_while (λ k. k.sector == sector) records.now.items) }
 {
     records
         .iter()

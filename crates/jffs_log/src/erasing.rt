@@ -14,15 +14,18 @@ impl<F: Flash> Log<F> {
     ghost use Rattle.jffs_log.specs.LogState.{OldestIsDead, ErasedOldest, EraseFailed, ReadStopped};
     ghost use Rattle.jffs_log.specs.Volume.{sector_bytes};
 
-    /// The bytes of the sector that was begun first. Precondition: no call of the device failed, and the log has a
-    /// sector.
+    /// The bytes of the sector that was begun first. Precondition: no call of the device failed,
+    /// and the log has a sector.
     ///
-    /// `Memory` if allocation failed: nothing is changed. `Device` if the read failed: no byte is changed, and the log
-    /// is failed from then on.
+    /// `Memory` if allocation failed: nothing is changed. `Device` if the read failed: no byte is
+    /// changed, and the log is failed from then on.
     pub fn oldest_image(&mut self, alloc: Global) -> Result<Vec<u8>, Cause>
         requires working { self.old.failed ≡ false }
         requires some { 1 ≤ self.old.index.held }
-        ensures bytes { IfOk result (λ bytes. bytes.items ≡ sector_bytes self.old.index.sector_size self.old.index.first self.old.device.image) }
+        ensures bytes { IfOk result
+            (λ bytes. bytes.items
+            ≡ sector_bytes self.old.index.sector_size self.old.index.first
+            self.old.device.image) }
         ensures same { OnOk result (self.new ≡ self.old) }
         ensures stopped { IfErr result (λ cause. ReadStopped cause self.old self.new) }
     {
@@ -34,12 +37,13 @@ impl<F: Flash> Log<F> {
         }
     }
 
-    /// Erases the sector that was begun first. The call counts in `erases`, failed or not. Takes no memory.
-    /// Precondition: no call of the device failed, the sector isn't the tail, and none of its records lives in the tree
-    /// of all nodes.
+    /// Erases the sector that was begun first. The call counts in `erases`, failed or not. Takes no
+    /// memory.
+    /// Precondition: no call of the device failed, the sector isn't the tail, and none of its
+    /// records lives in the tree of all nodes.
     ///
-    /// `Device` if the erase failed: that sector may hold any bytes, each other holds what it held, and the log is failed
-    /// from then on.
+    /// `Device` if the erase failed: that sector may hold any bytes, each other holds what it held,
+    /// and the log is failed from then on.
     pub fn erase_oldest(&mut self, tree: &Tree) -> Result<(), Cause>
         requires working { self.old.failed ≡ false }
         requires several { 2 ≤ self.old.index.held }

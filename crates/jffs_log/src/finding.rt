@@ -1,14 +1,19 @@
 //! The sectors of an image, and the log among them.
 
-ghost use Rattle.std.specs.Prelude.{◌≡◌, ℕ, List, ◌+◌, ◌*◌, ◌<◌, ◌≤◌, ◌^◌, true, not, ◌++◌, None, option_copied, length, map, filter, flat_map, IfOk, IfErr, IsTrue};
+ghost use Rattle.std.specs.Prelude.{◌≡◌, ℕ, List, ◌+◌, ◌*◌, ◌<◌, ◌≤◌, ◌^◌, true, not, ◌++◌, None};
+ghost use Rattle.std.specs.Prelude.{option_copied, length, map, filter, flat_map, IfOk, IfErr};
+ghost use Rattle.std.specs.Prelude.{IsTrue};
 ghost use Rattle.std.specs.List.{AllByRecursion, list_any, last_or};
 ghost use Rattle.jffs_node.specs.Record.{is_lawful};
 ghost use Rattle.jffs_flash.specs.Device.{Unchanged};
-ghost use Rattle.jffs_log.specs.Image.{Sector, sector_of, records_in, turned, is_erased_option, free_of_tail, free_in as free_bytes, is_free as ends_free, is_clean_tail, ends_with_unmount as unmounted};
+ghost use Rattle.jffs_log.specs.Image.{Sector, sector_of, records_in, turned, is_erased_option};
+ghost use Rattle.jffs_log.specs.Image.{free_of_tail, free_in as free_bytes, is_free as ends_free};
+ghost use Rattle.jffs_log.specs.Image.{is_clean_tail, ends_with_unmount as unmounted};
 ghost use Rattle.jffs_log.specs.Volume.{sectors_in, sector_bytes};
 ghost use Rattle.jffs_log.specs.Scan.{first_bad};
 ghost use Rattle.jffs_log.specs.LogIndex.{ref_of};
-ghost use Rattle.jffs_log.specs.ScanRead.{oldest_sector, AreRead, HasRead, IsUnread, bad_in, number_of_tail, used_of_tail};
+ghost use Rattle.jffs_log.specs.ScanRead.{oldest_sector, AreRead, HasRead, IsUnread, bad_in};
+ghost use Rattle.jffs_log.specs.ScanRead.{number_of_tail, used_of_tail};
 
 use crate::log_index::RecordRef;
 use crate::scanning::ScanWhy;
@@ -27,7 +32,8 @@ pub(crate) fn read_sectors<F: Flash>(
 ) -> Result<Vec<SectorRead>, ScanWhy>
     requires small { sectors * sector_size < 2 ^ 32 }
     requires whole { length (F.device flash.old).image ≡ sectors * sector_size }
-    ensures read { IfOk result (λ found. AreRead sectors sector_size (F.device flash.old).image found.items) }
+    ensures read { IfOk result
+        (λ found. AreRead sectors sector_size (F.device flash.old).image found.items) }
     ensures same { IfOk result (λ _. Unchanged (F.device flash.old) (F.device flash.new)) }
     ensures refused { IfErr result (λ why. IsUnread why (F.device flash.old) (F.device flash.new)
         (first_bad 0 (sectors_in sectors sector_size (F.device flash.old).image))) }
@@ -48,12 +54,19 @@ fn read_one<F: Flash>(
     sector: u32,
     buffer: &mut [u8],
 ) -> Result<SectorRead, ScanWhy>
-    requires inside { sector * length buffer.old + length buffer.old ≤ length (F.device flash.old).image }
+    requires inside { sector * length buffer.old + length buffer.old
+        ≤ length (F.device flash.old).image }
     requires small { sector * length buffer.old + length buffer.old < 2 ^ 32 }
-    ensures read { IfOk result (λ s. HasRead s sector (sector_bytes (length buffer.old) sector (F.device flash.old).image)) }
+    ensures read { IfOk result
+        (λ s. HasRead s sector
+        (sector_bytes (length buffer.old) sector (F.device flash.old).image)) }
     ensures same { IfOk result (λ _. Unchanged (F.device flash.old) (F.device flash.new)) }
     ensures refused { IfErr result (λ why. IsUnread why (F.device flash.old) (F.device flash.new)
-        (bad_in (sector, sector_of (sector_bytes (length buffer.old) sector (F.device flash.old).image)))) }
+        (bad_in (
+          sector,
+          sector_of
+              (sector_bytes (length buffer.old) sector (F.device flash.old).image),
+        ))) }
     ensures length { length buffer.new ≡ length buffer.old }
 {
     let len = buffer.len() as u32;
@@ -131,7 +144,9 @@ fn last_of(found: &[SectorRead]) -> Option<&SectorRead>
 /// Keeps the sectors of the log, the oldest first.
 pub(crate) fn keep_log(found: &mut Vec<SectorRead>, first: usize)
     requires inside { first ≤ length found.old.items }
-    requires ring { (rest : List (ℕ × Sector)) × (turned first found.old.items ≡ filter (λ s. not s.1.erased) (turned first found.old.items) ++ rest) }
+    requires ring { (rest : List (ℕ × Sector))
+        × (turned first found.old.items
+        ≡ filter (λ s. not s.1.erased) (turned first found.old.items) ++ rest) }
     ensures { found.new.items ≡ filter (λ s. not s.1.erased) (turned first found.old.items) }
 {
     found.rotate_left(first);
@@ -236,7 +251,8 @@ pub(crate) fn list_records(
 
 /// The nodes of the log, the oldest first. They are moved, and not copied.
 pub(crate) fn nodes_of(alloc: Global, held: Vec<SectorRead>) -> Result<Vec<Node>, AllocError>
-    ensures value { IfOk result (λ nodes. nodes.items ≡ flat_map (λ s. s.1.reading.nodes) held.items) }
+    ensures value { IfOk result
+        (λ nodes. nodes.items ≡ flat_map (λ s. s.1.reading.nodes) held.items) }
     ensures lawful { IfOk result (λ nodes. AllByRecursion (λ n. IsTrue (is_lawful n)) nodes.items) }
 {
     let mut nodes = Vec::new(alloc);

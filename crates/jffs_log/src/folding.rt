@@ -1,6 +1,7 @@
 //! What the nodes of a log make: the numbers that come next, and the tree.
 
-ghost use Rattle.std.specs.Prelude.{◌≡◌, ◌⊎◌, ◌&&◌, ◌-◌, ◌/◌, true, false, reverse, IsTrue, IfOk, IfErr};
+ghost use Rattle.std.specs.Prelude.{◌≡◌, ◌⊎◌, ◌&&◌, ◌-◌, ◌/◌, true, false, reverse, IsTrue, IfOk};
+ghost use Rattle.std.specs.Prelude.{IfErr};
 ghost use Rattle.std.specs.List.{AllByRecursion};
 ghost use Rattle.jffs_node.specs.Record.{is_lawful};
 ghost use Rattle.jffs_tree.specs.Origin.{tree_of};
@@ -32,7 +33,8 @@ impl Numbers {
         ensures rise { IfOk result (λ _. versions_rise nodes.now ≡ true) }
         ensures version { IfOk result (λ numbers. numbers.version ≡ last_version nodes.now) }
         ensures inode { IfOk result (λ numbers. numbers.inode ≡ greatest_inode nodes.now) }
-        ensures refused { IfErr result (λ why. (why ≡ ScanWhy.BadOrder) × (versions_rise nodes.now ≡ false)) }
+        ensures refused { IfErr result
+            (λ why. (why ≡ ScanWhy.BadOrder) × (versions_rise nodes.now ≡ false)) }
     {
         let mut numbers = Numbers {
             version: 0,
@@ -69,7 +71,8 @@ pub(crate) fn tree_of_log(alloc: Global, nodes: &[Node]) -> Result<Tree, ScanWhy
     ensures value { IfOk result (λ tree. tree ≡ tree_of (reverse nodes.now)) }
     ensures lawful { IfOk result (λ _. makes_tree (reverse nodes.now) ≡ true) }
     ensures refused { IfErr result (λ why.
-        (why ≡ ScanWhy.Memory) ⊎ ((why ≡ ScanWhy.BadTree) × (makes_tree (reverse nodes.now) ≡ false))) }
+        (why ≡ ScanWhy.Memory)
+        ⊎ ((why ≡ ScanWhy.BadTree) × (makes_tree (reverse nodes.now) ≡ false))) }
 {
     let mut tree = Tree::new(alloc);
     let mut has_sizes = false;
@@ -90,7 +93,8 @@ pub(crate) fn tree_of_log(alloc: Global, nodes: &[Node]) -> Result<Tree, ScanWhy
     }
 }
 
-/// Whether the node may come next in a log of this tree, which has nodes of the second form or has none.
+/// Whether the node may come next in a log of this tree, which has nodes of the second form or has
+/// none.
 fn fits(tree: &Tree, node: &Node, has_sizes: bool) -> bool
     ensures value { result ≡ (keeps_form_after has_sizes node.now && can_apply tree.now node.now) }
     ensures lawful { result ≡ true → IsTrue (is_lawful node.now) }

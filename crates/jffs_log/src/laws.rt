@@ -1,12 +1,17 @@
 //! Laws over the definitions. The functions do nothing: their contracts are the laws.
 
 ghost use Rattle.jffs_log.specs.Laws.{ErasingKeepsWeight};
-ghost use Rattle.jffs_log.specs.RoomLaws.{CopiesTakeOver, UnmountNodesAreDead, CopiesKeepSound, HandledAreDead};
-ghost use Rattle.jffs_log.specs.RoomLaws.{PutsKeepErased, FreshKeepsTwo, PutsKeepSound, ErasingKeepsSound, UnmountHasRoom};
-ghost use Rattle.jffs_log.specs.RoomLaws.{CleaningHasRoom, CleaningMayStop, HandledInParts, OldestStays, MakingRoomKeepsSound, CleaningsAreFew};
-ghost use Rattle.jffs_log.specs.RoomLaws.{FullLogsAreHeavy, FullLogsFill, LogsWeighLess, PutsAreNewest, ErasedAreOldest, VersionsFollow};
+ghost use Rattle.jffs_log.specs.RoomLaws.{CopiesTakeOver, UnmountNodesAreDead, CopiesKeepSound};
+ghost use Rattle.jffs_log.specs.RoomLaws.{HandledAreDead};
+ghost use Rattle.jffs_log.specs.RoomLaws.{PutsKeepErased, FreshKeepsTwo, PutsKeepSound};
+ghost use Rattle.jffs_log.specs.RoomLaws.{ErasingKeepsSound, UnmountHasRoom};
+ghost use Rattle.jffs_log.specs.RoomLaws.{CleaningHasRoom, CleaningMayStop, HandledInParts};
+ghost use Rattle.jffs_log.specs.RoomLaws.{OldestStays, MakingRoomKeepsSound, CleaningsAreFew};
+ghost use Rattle.jffs_log.specs.RoomLaws.{FullLogsAreHeavy, FullLogsFill, LogsWeighLess};
+ghost use Rattle.jffs_log.specs.RoomLaws.{PutsAreNewest, ErasedAreOldest, VersionsFollow};
 ghost use Rattle.jffs_log.specs.RoomLaws.{MountsAreSound};
-ghost use Rattle.jffs_log.specs.History.{MountsAreHistories, HistoriesAreScanned, AppendsKeepHistory, CutsKeepHistory, ErasingKeepsHistory};
+ghost use Rattle.jffs_log.specs.History.{MountsAreHistories, HistoriesAreScanned};
+ghost use Rattle.jffs_log.specs.History.{AppendsKeepHistory, CutsKeepHistory, ErasingKeepsHistory};
 
 /// What is erased without live nodes weighed nothing.
 pub fn weight_is_kept()
@@ -30,7 +35,8 @@ pub fn puts_keep_room()
     ensures unmount { UnmountHasRoom }
 {}
 
-/// Cleaning opens at most one sector, so its copies have room, and a turn of it erases each sector once at most.
+/// Cleaning opens at most one sector, so its copies have room, and a turn of it erases each sector
+/// once at most.
 pub fn cleaning_keeps_room()
     ensures one { CleaningHasRoom }
     ensures stopped { CleaningMayStop }
@@ -55,9 +61,9 @@ pub fn mounts_are_sound()
     ensures { MountsAreSound }
 {}
 
-/// The history of a log stays lawful where lawful nodes are appended and records that aren't live are erased, and a
-/// scan finds its log and the tree of the whole of it: so no chain of appends and erases makes a volume that can't
-/// be mounted, or that is mounted as another.
+/// The history of a log stays lawful where lawful nodes are appended and records that aren't live
+/// are erased, and a scan finds its log and the tree of the whole of it: so no chain of appends and
+/// erases makes a volume that can't be mounted, or that is mounted as another.
 pub fn histories_stay_lawful()
     ensures mounted { MountsAreHistories }
     ensures scanned { HistoriesAreScanned }

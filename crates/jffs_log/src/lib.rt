@@ -1,4 +1,5 @@
-//! The log on flash: what a scan of an image finds, how a node is appended, and how the oldest sector is erased.
+//! The log on flash: what a scan of an image finds, how a node is appended, and how the oldest
+//! sector is erased.
 //!
 //! It stands on `jffs_flash` for the device, on `jffs_node` for records, and on `jffs_tree`
 //! for the tree that the log makes.

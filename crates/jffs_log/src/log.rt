@@ -1,6 +1,7 @@
 //! The log of a device.
 
-ghost use Rattle.std.specs.Prelude.{◌≡◌, ◌+◌, ◌-◌, ◌<◌, ◌≤◌, ℕ, true, false, map, nat_le, IsTrue, OnOk, IfErr};
+ghost use Rattle.std.specs.Prelude.{◌≡◌, ◌+◌, ◌-◌, ◌<◌, ◌≤◌, ℕ, true, false, map, nat_le, IsTrue};
+ghost use Rattle.std.specs.Prelude.{OnOk, IfErr};
 ghost use Rattle.std.specs.VecDeque.{deque_len, deque_capacity};
 ghost use Rattle.jffs_log.specs.Ring.{IsAt};
 
@@ -15,8 +16,8 @@ use std::marker::Model;
 
 /// The log on a device.
 ///
-/// What it knows of the device's image in memory is told by the image until a call answers Device. From then on nothing
-/// is said of the image, and the calls that only look answer as before.
+/// What it knows of the device's image in memory is told by the image until a call answers Device.
+/// From then on nothing is said of the image, and the calls that only look answer as before.
 #[derive(Drop)]
 pub struct Log<F: Flash> {
     pub(crate) flash: F,
@@ -32,12 +33,15 @@ impl<F: Flash> Model for Log<F> {
 
     ghost view = { λ l. record { device = F.device l.flash; index = l.index; failed = l.failed } };
 
-    ghost invariant = { λ l. IsLog (record { device = F.device l.flash; index = l.index; failed = l.failed }) };
+    ghost invariant = { λ l.
+        IsLog (record { device = F.device l.flash; index = l.index; failed = l.failed }) };
 }
 
 impl<F: Flash> Log<F> {
     ghost use Rattle.jffs_log.specs.LogIndex.{ref_of};
-    ghost use Rattle.jffs_log.specs.LogState.{log_records, log_layout, IsSameLog, MayAppend, Appended, AppendFailed, AppendedAt, AppendFailedAt, FitsIn};
+    ghost use Rattle.jffs_log.specs.LogState.{log_records, log_layout, IsSameLog, MayAppend};
+    ghost use Rattle.jffs_log.specs.LogState.{Appended, AppendFailed, AppendedAt, AppendFailedAt};
+    ghost use Rattle.jffs_log.specs.LogState.{FitsIn};
     ghost use Rattle.jffs_log.specs.Cleaning.{in_tail, in_next};
     ghost use Rattle.jffs_log.specs.Image.{erased_count};
     ghost use Rattle.jffs_log.specs.Volume.{sectors_in};
@@ -60,12 +64,15 @@ impl<F: Flash> Log<F> {
     /// How many sectors are erased. Takes no memory.
     pub fn erased(&self) -> u32
         ensures known { result ≡ self.now.index.sectors - self.now.index.held }
-        ensures exact { self.now.failed ≡ false → result ≡ erased_count (sectors_in self.now.index.sectors self.now.index.sector_size self.now.device.image) }
+        ensures exact { self.now.failed ≡ false
+            → result ≡ erased_count
+            (sectors_in self.now.index.sectors self.now.index.sector_size self.now.device.image) }
     {
         self.index.sectors - self.index.held
     }
 
-    /// How often `erase_oldest` was called since the mount, failed calls too. It stays at its last value. Takes no memory.
+    /// How often `erase_oldest` was called since the mount, failed calls too. It stays at its last
+    /// value. Takes no memory.
     pub fn erases(&self) -> u64
         ensures { result ≡ self.now.index.erases }
     {
@@ -75,15 +82,20 @@ impl<F: Flash> Log<F> {
     /// The records of the log, the oldest first. Takes no memory.
     pub fn records(&self) -> &VecDeque<RecordRef>
         ensures same { result.now ≡ self.now.index.records }
-        ensures listed { self.now.failed ≡ false → result.now.items ≡ map ref_of (log_records self.now) }
+        ensures listed { self.now.failed ≡ false
+            → result.now.items ≡ map ref_of (log_records self.now) }
     {
         &self.index.records
     }
 
-    /// Whether a record of `len` bytes has room: in the tail, or in a sector that it opens. Takes no memory.
+    /// Whether a record of `len` bytes has room: in the tail, or in a sector that it opens. Takes
+    /// no memory.
     pub fn room(&self, room: Room, len: u32) -> bool
-        ensures known { result ≡ has_room room len self.now.index.free (self.now.index.sectors - self.now.index.held) }
-        ensures exact { self.now.failed ≡ false → result ≡ has_room_in self.now.index.sectors self.now.index.sector_size self.now.device.image room len }
+        ensures known { result
+            ≡ has_room room len self.now.index.free (self.now.index.sectors - self.now.index.held) }
+        ensures exact { self.now.failed ≡ false
+            → result ≡ has_room_in self.now.index.sectors self.now.index.sector_size
+            self.now.device.image room len }
     {
         let index = &self.index;
         room.tail_need(len) <= u64::from(index.free)
@@ -95,22 +107,24 @@ impl<F: Flash> Log<F> {
     /// `Memory` if allocation failed: nothing is changed.
     pub fn reserve(&mut self) -> Result<(), Cause>
         ensures same { IsSameLog self.old self.new }
-        ensures reserved { OnOk result (deque_len self.new.index.records < deque_capacity self.new.index.records) }
+        ensures reserved { OnOk result
+            (deque_len self.new.index.records < deque_capacity self.new.index.records) }
         ensures memory { IfErr result (λ cause. cause ≡ Cause.Memory) }
     {
         self.index.records.reserve(1)?;
         Ok(())
     }
 
-    /// Appends a node. Takes no memory. Precondition: no call of the device failed, there is room for the record, and
-    /// memory for it is reserved.
+    /// Appends a node. Takes no memory. Precondition: no call of the device failed, there is room
+    /// for the record, and memory for it is reserved.
     ///
-    /// `Device` if a write failed: a scan of the image finds the log as it was, or with the whole record at its end, and
-    /// the log is failed from then on.
+    /// `Device` if a write failed: a scan of the image finds the log as it was, or with the whole
+    /// record at its end, and the log is failed from then on.
     pub fn append(&mut self, room: Room, node: &Node) -> Result<(), Cause>
         requires working { self.old.failed ≡ false }
         requires may { MayAppend room node.now self.old }
-        requires reserved { deque_len self.old.index.records < deque_capacity self.old.index.records }
+        requires reserved { deque_len self.old.index.records
+            < deque_capacity self.old.index.records }
         ensures done { OnOk result (Appended room node.now self.old self.new) }
         ensures failed { IfErr result (λ cause. AppendFailed node.now cause self.old self.new) }
     {
@@ -126,10 +140,13 @@ impl<F: Flash> Log<F> {
     fn append_to_tail(&mut self, node: &Node) -> Result<(), Cause>
         requires working { self.old.failed ≡ false }
         requires fits { FitsIn self.old.index.sector_size self.old.index.free node.now }
-        requires reserved { deque_len self.old.index.records < deque_capacity self.old.index.records }
+        requires reserved { deque_len self.old.index.records
+            < deque_capacity self.old.index.records }
         ensures done { OnOk result (AppendedAt self.old.index.tail self.old.index.used
             (in_tail node.now (log_layout self.old)) node.now self.old self.new) }
-        ensures failed { IfErr result (λ cause. AppendFailedAt self.old.index.tail self.old.index.used node.now cause self.old self.new) }
+        ensures failed { IfErr result
+            (λ cause. AppendFailedAt self.old.index.tail self.old.index.used node.now cause self.old
+            self.new) }
     {
         let index = &mut self.index;
         let len = record_len(node);
@@ -156,10 +173,15 @@ impl<F: Flash> Log<F> {
         requires working { self.old.failed ≡ false }
         requires erased { self.old.index.held + 2 ≤ self.old.index.sectors }
         requires fits { FitsIn self.old.index.sector_size self.old.index.sector_size node.now }
-        requires reserved { deque_len self.old.index.records < deque_capacity self.old.index.records }
-        ensures done { OnOk result ((next : ℕ) × IsAt self.old.index.first self.old.index.sectors self.old.index.held next × AppendedAt next 0
-            (in_next self.old.index.sector_size node.now (log_layout self.old)) node.now self.old self.new) }
-        ensures failed { IfErr result (λ cause. (next : ℕ) × AppendFailedAt next 0 node.now cause self.old self.new) }
+        requires reserved { deque_len self.old.index.records
+            < deque_capacity self.old.index.records }
+        ensures done { OnOk result
+            ((next : ℕ) × IsAt self.old.index.first self.old.index.sectors self.old.index.held next
+            × AppendedAt next 0
+            (in_next self.old.index.sector_size node.now (log_layout self.old)) node.now self.old
+            self.new) }
+        ensures failed { IfErr result
+            (λ cause. (next : ℕ) × AppendFailedAt next 0 node.now cause self.old self.new) }
     {
         let index = &mut self.index;
         let len = record_len(node);

@@ -25,8 +25,8 @@ pub struct LogIndex {
     pub sectors: u32,
     /// How many bytes a sector has.
     pub sector_size: u32,
-    /// The sector that was begun first. The log's sectors stand one after another from here on, and after the
-    /// device's last one comes its first.
+    /// The sector that was begun first. The log's sectors stand one after another from here on, and
+    /// after the device's last one comes its first.
     pub first: u32,
     /// How many sectors hold the log.
     pub held: u32,

@@ -48,9 +48,9 @@ impl<F: Flash> Log<F> {
         self.index.sector_size / 4
     }
 
-    /// Whether the oldest sector may be erased: it isn't the tail, and none of its records lives in the tree of all
-    /// nodes. Takes no memory, and asks the tree once for a range of versions, not for each record. Precondition: no
-    /// call of the device failed.
+    /// Whether the oldest sector may be erased: it isn't the tail, and none of its records lives in
+    /// the tree of all nodes. Takes no memory, and asks the tree once for a range of versions, not
+    /// for each record. Precondition: no call of the device failed.
     pub fn oldest_dead(&self, tree: &Tree) -> bool
         requires working { self.now.failed ≡ false }
         ensures { IsTrue result ↔ ((2 ≤ self.now.index.held) × OldestIsDead tree.now self.now) }
@@ -58,15 +58,17 @@ impl<F: Flash> Log<F> {
         self.index.held >= 2 && self.oldest_has_no_live(tree)
     }
 
-    /// The nodes of the oldest sector in their order, read from the device. Precondition: no call of the device failed,
-    /// and the log has a sector.
+    /// The nodes of the oldest sector in their order, read from the device. Precondition: no call
+    /// of the device failed, and the log has a sector.
     ///
-    /// `Memory` if allocation failed: nothing is changed. `Device` if the read failed: no byte is changed, and the log
-    /// is failed from then on.
+    /// `Memory` if allocation failed: nothing is changed. `Device` if the read failed: no byte is
+    /// changed, and the log is failed from then on.
     pub fn oldest_nodes(&mut self, alloc: Global) -> Result<Vec<Node>, Cause>
         requires working { self.old.failed ≡ false }
         requires some { 1 ≤ self.old.index.held }
-        ensures nodes { IfOk result (λ nodes. nodes.items ≡ map (λ p. p.node) (oldest_in self.old.device.image self.old.index)) }
+        ensures nodes { IfOk result
+            (λ nodes. nodes.items
+            ≡ map (λ p. p.node) (oldest_in self.old.device.image self.old.index)) }
         ensures same { OnOk result (self.new ≡ self.old) }
         ensures stopped { IfErr result (λ cause. ReadStopped cause self.old self.new) }
     {

@@ -14,8 +14,8 @@ const SECTOR_SIZE: u32 = 1024;
 
 const LEN: usize = 8192;
 
-/// The first bytes of three records of the first form, each filled up with zeros to 64 bytes: a file `f`
-/// is created, `hello` is written into it, and the session is closed.
+/// The first bytes of three records of the first form, each filled up with zeros to 64 bytes: a
+/// file `f` is created, `hello` is written into it, and the session is closed.
 const CREATED: [u8; 45] = [
     0x4A, 0x46, 0x46, 0x31, 1, 0, 1, 0, 0, 0, 0, 2, 0, 0, 0, 1, 0, 0, 0, 1, 0, 0, 0, 0, 0, 0, 0, 0,
     0, 0, 0, 0, 0, 1, 0, 1, 0, 0, 0, 1, 0, 0, 0, 0, 0x66,
@@ -43,8 +43,8 @@ enum Seen {
     Refused(ScanWhy),
 }
 
-/// Erased flash. An allocation that fails here is asked for again, so that a run in which one fails has it fail in
-/// a scan.
+/// Erased flash. An allocation that fails here is asked for again, so that a run in which one fails
+/// has it fail in a scan.
 fn erased(alloc: Global) -> Result<Vec<u8>, AllocError> {
     match vec![in alloc; 0xFFu8; LEN] {
         Ok(image) => Ok(image),
@@ -105,7 +105,8 @@ fn mounted(found: &Mounted<MemoryFlash>) -> Seen {
     }
 }
 
-/// Scans an image. A failed allocation hands the device back, and the next scan finds what it holds.
+/// Scans an image. A failed allocation hands the device back, and the next scan finds what it
+/// holds.
 fn look_at(rt: &(impl Abort + AllocGlobal), image: Vec<u8>) -> Seen {
     assert!(rt; image.len() == LEN);
     let flash = MemoryFlash::from_bytes(SECTORS, SECTOR_SIZE, image);

@@ -106,8 +106,8 @@ pub struct ScanFault<F> {
 
 /// Scans a device, whatever it holds. It is read, each sector once, and never written.
 ///
-/// Each refusal hands the device back. Its cause is in the image and none that is tried before it is, but for `Device`,
-/// where a read failed, and `Memory`, where allocation failed.
+/// Each refusal hands the device back. Its cause is in the image and none that is tried before it
+/// is, but for `Device`, where a read failed, and `Memory`, where allocation failed.
 pub fn scan<F: Flash>(alloc: Global, mut flash: F) -> Result<Mounted<F>, ScanFault<F>>
     ensures found { IfOk result (λ m. IsMounted (F.device flash) m.log m.tree m.clean m.limits) }
     ensures refused { IfErr result (λ f. IsRefused (F.device flash) f.why (F.device f.flash)) }
@@ -138,10 +138,13 @@ struct Found {
 
 /// The steps of a scan, in the order of its refusals.
 fn find<F: Flash>(alloc: Global, flash: &mut F) -> Result<Found, ScanWhy>
-    ensures found { IfOk result (λ found. IsFound (F.device flash.old).sectors (F.device flash.old).sector_size (F.device flash.old).image
+    ensures found { IfOk result
+        (λ found. IsFound (F.device flash.old).sectors (F.device flash.old).sector_size
+        (F.device flash.old).image
         found.index found.tree found.clean found.limits) }
     ensures same { IfOk result (λ _. Unchanged (F.device flash.old) (F.device flash.new)) }
-    ensures refused { IfErr result (λ why. IsRefused (F.device flash.old) why (F.device flash.new)) }
+    ensures refused { IfErr result
+        (λ why. IsRefused (F.device flash.old) why (F.device flash.new)) }
 {
     let sectors = flash.sectors();
     let sector_size = flash.sector_size();

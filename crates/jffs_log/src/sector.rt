@@ -1,6 +1,7 @@
 //! What a sector reads as.
 
-ghost use Rattle.std.specs.Prelude.{◌≡◌, ◌<◌, ◌+◌, ◌^◌, ◌++◌, ◌==◌, length, map, sum_by, IsTrue, IfOk, OnOk};
+ghost use Rattle.std.specs.Prelude.{◌≡◌, ◌<◌, ◌+◌, ◌^◌, ◌++◌, ◌==◌, length, map, sum_by, IsTrue};
+ghost use Rattle.std.specs.Prelude.{IfOk, OnOk};
 ghost use Rattle.std.specs.List.{AllByRecursion};
 ghost use Rattle.jffs_node.specs.Record.{is_lawful, record_len as length_of};
 ghost use Rattle.jffs_log.specs.Image.{sector_of, records_in, placed_from};
@@ -92,7 +93,8 @@ impl SectorRead {
 
     /// Adds what is kept of the records. If allocation fails, some of them are added.
     pub(crate) fn list_records(&self, records: &mut VecDeque<RecordRef>) -> Result<(), AllocError>
-        ensures { OnOk result (records.new.items ≡ records.old.items ++ map ref_of (records_in self.now)) }
+        ensures { OnOk result
+            (records.new.items ≡ records.old.items ++ map ref_of (records_in self.now)) }
     {
         // Brings in that the used bytes fit.
         let _used = self.used;
@@ -107,7 +109,8 @@ fn list_nodes(
     records: &mut VecDeque<RecordRef>,
 ) -> Result<(), AllocError>
     requires { sum_by length_of nodes.now < 2 ^ 32 }
-    ensures { OnOk result (records.new.items ≡ records.old.items ++ map ref_of (placed_from sector 0 nodes.now)) }
+    ensures { OnOk result
+        (records.new.items ≡ records.old.items ++ map ref_of (placed_from sector 0 nodes.now)) }
 {
     let mut offset = 0u32;
     for node in nodes {

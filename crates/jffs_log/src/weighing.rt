@@ -1,6 +1,7 @@
 //! What the live records of the log weigh, and how many a sector has.
 
-ghost use Rattle.std.specs.Prelude.{◌≡◌, ◌<◌, ◌^◌, ◌==◌, ◌&&◌, false, List, length, map, filter, sum};
+ghost use Rattle.std.specs.Prelude.{◌≡◌, ◌<◌, ◌^◌, ◌==◌, ◌&&◌, false, List, length, map, filter};
+ghost use Rattle.std.specs.Prelude.{sum};
 ghost use Rattle.jffs_tree.specs.Look.{holds_version};
 
 use crate::log::Log;
@@ -16,21 +17,32 @@ impl<F: Flash> Log<F> {
     ghost use Rattle.jffs_log.specs.LogIndex.{weight_in, live_in, live_records_in};
     ghost use Rattle.jffs_log.specs.Room.{weight};
 
-    /// The sum of the record lengths, in bytes, of those records that live in the tree of all nodes. Takes no memory.
+    /// The sum of the record lengths, in bytes, of those records that live in the tree of all
+    /// nodes. Takes no memory.
     pub fn live_weight(&self, tree: &Tree) -> u64
-        ensures known { result ≡ sum (map (λ k. k.length) (filter (λ k. holds_version tree.now k.inode k.version) self.now.index.records.items)) }
-        ensures weighed { self.now.failed ≡ false → result ≡ weight_in tree.now (log_records self.now) }
-        ensures whole { self.now.failed ≡ false → (past : List Node) → tree.now ≡ tree_of past → HasHistory past self.now → result ≡ weight past }
+        ensures known { result
+            ≡ sum (map (λ k. k.length)
+            (filter (λ k. holds_version tree.now k.inode k.version)
+            self.now.index.records.items)) }
+        ensures weighed { self.now.failed ≡ false
+            → result ≡ weight_in tree.now (log_records self.now) }
+        ensures whole { self.now.failed ≡ false → (past : List Node) → tree.now ≡ tree_of past
+            → HasHistory past self.now → result ≡ weight past }
     {
         weight_of(&self.index.records, tree)
     }
 
-    /// How many records of this sector live in the tree of all nodes; 0 where the log has no such sector. Takes no
-    /// memory.
+    /// How many records of this sector live in the tree of all nodes; 0 where the log has no such
+    /// sector. Takes no memory.
     pub fn live_in(&self, sector: u32, tree: &Tree) -> u32
-        ensures known { result ≡ length (filter (λ k. (k.sector == sector) && holds_version tree.now k.inode k.version) self.now.index.records.items) }
-        ensures counted { self.now.failed ≡ false → result ≡ live_in sector tree.now (log_records self.now) }
-        ensures whole { self.now.failed ≡ false → (past : List Node) → tree.now ≡ tree_of past → HasHistory past self.now → result ≡ live_records_in sector past (log_records self.now) }
+        ensures known { result
+            ≡ length (filter (λ k. (k.sector == sector) && holds_version tree.now k.inode k.version)
+            self.now.index.records.items) }
+        ensures counted { self.now.failed ≡ false
+            → result ≡ live_in sector tree.now (log_records self.now) }
+        ensures whole { self.now.failed ≡ false → (past : List Node) → tree.now ≡ tree_of past
+            → HasHistory past self.now
+            → result ≡ live_records_in sector past (log_records self.now) }
     {
         count_in(&self.index.records, sector, tree)
     }
@@ -39,7 +51,9 @@ impl<F: Flash> Log<F> {
 /// The sum of the lengths of those records that live in the tree.
 fn weight_of(records: &VecDeque<RecordRef>, tree: &Tree) -> u64
     requires { length records.now.items < 2 ^ 32 }
-    ensures { result ≡ sum (map (λ k. k.length) (filter (λ k. holds_version tree.now k.inode k.version) records.now.items)) }
+    ensures { result ≡ sum
+        (map (λ k. k.length)
+        (filter (λ k. holds_version tree.now k.inode k.version) records.now.items)) }
 {
     records
         .iter()
@@ -51,7 +65,9 @@ fn weight_of(records: &VecDeque<RecordRef>, tree: &Tree) -> u64
 /// How many of the records stand in the sector and live in the tree.
 fn count_in(records: &VecDeque<RecordRef>, sector: u32, tree: &Tree) -> u32
     requires { length records.now.items < 2 ^ 32 }
-    ensures { result ≡ length (filter (λ k. (k.sector == sector) && holds_version tree.now k.inode k.version) records.now.items) }
+    ensures { result ≡ length
+        (filter (λ k. (k.sector == sector) && holds_version tree.now k.inode k.version)
+        records.now.items) }
 {
     records
         .iter()

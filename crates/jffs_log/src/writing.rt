@@ -10,7 +10,8 @@ use jffs_node::{GATE_AT, GATE_CLOSED, GATE_OPEN, Node, encode_into, record_len};
 /// The longest record, in bytes: a quarter of the largest sector.
 pub const RECORD_MAX: usize = 4096;
 
-/// Up to here a record is made in a small buffer: filling a large one would cost as much as writing the record.
+/// Up to here a record is made in a small buffer: filling a large one would cost as much as writing
+/// the record.
 const SMALL_RECORD: usize = 512;
 
 /// Writes the record of a node into erased flash, from the offset `at` of the image on.

@@ -6,7 +6,9 @@ use Rattle.jffs_log.specs.declared.log_index.RecordRef.{RecordRef}
 
 -- the lengths of the live records of an inode together
 abbrev pub live_bytes_in : Tree → ℕ → List RecordRef → ℕ
-live_bytes_in tree i records = sum (map (λ k. k.length) (filter (λ k. (k.inode == i) && holds_version tree i k.version) records))
+live_bytes_in tree i records =
+    sum (map (λ k. k.length)
+    (filter (λ k. (k.inode == i) && holds_version tree i k.version) records))
 
 -- the lengths of all records together
 abbrev pub recorded_in : List RecordRef → ℕ

@@ -1,6 +1,7 @@
 //! What is written of a volume.
 
-ghost use Rattle.std.specs.Prelude.{◌≡◌, ◌-◌, ◌<◌, ◌^◌, true, false, None, IfOk, OnOk, length, unwrap_or};
+ghost use Rattle.std.specs.Prelude.{◌≡◌, ◌-◌, ◌<◌, ◌^◌, true, false, None, IfOk, OnOk, length};
+ghost use Rattle.std.specs.Prelude.{unwrap_or};
 ghost use Rattle.std.specs.Io.KnownBytes.{Appends};
 ghost use Rattle.jffs_tree.specs.State.{resolve, is_directory_in};
 ghost use Rattle.jffs_tree.specs.Origin.{state_in};
@@ -62,7 +63,8 @@ pub(crate) fn list<F: Flash, W: Write>(
 fn sight_of<F: Flash>(core: &Core<F>, inode: u32, long: bool) -> Sight
     ensures kind { result.directory ≡ is_directory_in (state_in core.now.tree) inode }
     ensures size { result.size ≡ unwrap_or (size_of core.now.tree inode) 0 }
-    ensures live { long ≡ true → length core.now.index.records.items < 2 ^ 32 → result.live ≡ live_bytes_in core.now.tree inode core.now.index.records.items }
+    ensures live { long ≡ true → length core.now.index.records.items < 2 ^ 32
+        → result.live ≡ live_bytes_in core.now.tree inode core.now.index.records.items }
 {
     let tree = core.tree();
     Sight {
@@ -78,7 +80,8 @@ fn sight_of<F: Flash>(core: &Core<F>, inode: u32, long: bool) -> Sight
 
 /// The lengths of the live records of an inode together, in bytes. No log has 2^32 records.
 fn live_bytes(records: &VecDeque<RecordRef>, tree: &Tree, inode: u32) -> u64
-    ensures { length records.now.items < 2 ^ 32 → result ≡ live_bytes_in tree.now inode records.now.items }
+    ensures { length records.now.items < 2 ^ 32
+        → result ≡ live_bytes_in tree.now inode records.now.items }
 {
     if records.len() <= u32::MAX as usize {
         sum_of_live(records, tree, inode)
@@ -120,7 +123,8 @@ fn write_entry<W: Write>(sight: Sight, long: bool, name: &Name, out: &mut W) -> 
 pub(crate) fn file_at(tree: &Tree, path: &Path) -> Result<u32, VolumeFault>
     ensures found { IfOk result (λ inode. resolve (state_in tree.now) path.now ≡ Some inode) }
     ensures file { IfOk result (λ inode. is_directory_in (state_in tree.now) inode ≡ false) }
-    ensures nothing { result ≡ Err VolumeFault.Nothing → resolve (state_in tree.now) path.now ≡ None }
+    ensures nothing { result ≡ Err VolumeFault.Nothing
+        → resolve (state_in tree.now) path.now ≡ None }
 {
     match tree.resolve(path) {
         None => Err(VolumeFault::Nothing),
@@ -131,7 +135,8 @@ pub(crate) fn file_at(tree: &Tree, path: &Path) -> Result<u32, VolumeFault>
 
 /// Writes the bytes of a file, and nothing else.
 pub(crate) fn show<W: Write>(tree: &Tree, inode: u32, out: &mut W) -> io::Result<()>
-    ensures { OnOk result (Appends (W.contents out.old) (W.contents out.new) (bytes_in tree.now inode)) }
+    ensures { OnOk result
+        (Appends (W.contents out.old) (W.contents out.new) (bytes_in tree.now inode)) }
 {
     let mut chunk = [0u8; CHUNK_LEN];
     let mut offset = 0u32;
@@ -170,9 +175,11 @@ struct Fullness {
 }
 
 fn fullness_of<F: Flash>(core: &Core<F>) -> Fullness
-    ensures sizes { (result.sectors ≡ core.now.index.sectors) × (result.sector_size ≡ core.now.index.sector_size) }
+    ensures sizes { (result.sectors ≡ core.now.index.sectors)
+        × (result.sector_size ≡ core.now.index.sector_size) }
     ensures erased { result.erased ≡ core.now.index.sectors - core.now.index.held }
-    ensures weight { core.now.failed ≡ false → result.weight ≡ weight_in core.now.tree (log_in core.now.image core.now.index) }
+    ensures weight { core.now.failed ≡ false
+        → result.weight ≡ weight_in core.now.tree (log_in core.now.image core.now.index) }
     ensures sure { result.sure ≡ heavy core.now.index.sectors core.now.index.sector_size }
 {
     let log = core.log();

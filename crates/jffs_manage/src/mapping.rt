@@ -174,8 +174,10 @@ fn paint<F: Flash>(core: &Core<F>, sector: u32, cell_len: u32, cells: &mut [Held
 
 /// How many bytes hold what.
 fn totals_of<F: Flash>(core: &Core<F>, tail: Option<Tail>) -> Totals
-    ensures live { core.now.failed ≡ false → result.live ≡ weight_in core.now.tree (log_in core.now.image core.now.index) }
-    ensures dead { length core.now.index.records.items < 2 ^ 32 → result.dead ≡ recorded_in core.now.index.records.items - result.live }
+    ensures live { core.now.failed ≡ false
+        → result.live ≡ weight_in core.now.tree (log_in core.now.image core.now.index) }
+    ensures dead { length core.now.index.records.items < 2 ^ 32
+        → result.dead ≡ recorded_in core.now.index.records.items - result.live }
 {
     let log = core.log();
     let size = u64::from(log.sector_size());

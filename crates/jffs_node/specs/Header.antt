@@ -1,5 +1,6 @@
 -- What the functions that read a header answer.
-use Rattle.std.specs.Prelude.{ℕ, ◌<◌, Bool, List, [], ◌∷◌, length, take, bytes_eq, is_some, Option, Some, None, Result, Ok, Err, if◌then◌else◌}
+use Rattle.std.specs.Prelude.{ℕ, ◌<◌, Bool, List, [], ◌∷◌, length, take, bytes_eq, is_some, Option}
+use Rattle.std.specs.Prelude.{Some, None, Result, Ok, Err, if◌then◌else◌}
 use Rattle.jffs_node.specs.declared.read.Why.{Why}
 use Rattle.jffs_node.specs.declared.read.Read.{Read}
 use Rattle.jffs_node.specs.declared.read.Read.TheVariants.{Closed, Free, Torn, Bad}
@@ -8,7 +9,8 @@ use Rattle.jffs_node.specs.declared.header.Labels.{Labels}
 use Rattle.jffs_node.specs.declared.header.Head.{Head}
 use Rattle.jffs_node.specs.declared.read.Why.TheVariants as why
 use Rattle.jffs_node.specs.Record.{magic}
-use Rattle.jffs_node.specs.Reading.{node_at, data_len, kind_at, flags_hold, name_holds, form_holds, spare_holds}
+use Rattle.jffs_node.specs.Reading.{node_at, data_len, kind_at, flags_hold, name_holds, form_holds}
+use Rattle.jffs_node.specs.Reading.{spare_holds}
 
 -- what was read where its rule holds, else the rule
 abbrev pub checked : {A : Type 0} → Bool → Why → A → Result A Why
@@ -20,7 +22,12 @@ flags_at rest = record { deleted = (node_at rest).deleted; copy = (node_at rest)
 
 -- what the header says besides its numbers
 abbrev pub labels_at : List ℕ → Labels
-labels_at rest = record { kind = (node_at rest).kind; flags = flags_at rest; name = (node_at rest).name; size = (node_at rest).size }
+labels_at rest = record {
+  kind = (node_at rest).kind;
+  flags = flags_at rest;
+  name = (node_at rest).name;
+  size = (node_at rest).size;
+}
 
 -- the first six rules of a closed record
 abbrev pub label_rules : List ℕ → List (Bool × Why)

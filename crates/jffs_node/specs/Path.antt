@@ -1,8 +1,10 @@
 -- The grammar of paths, and the first fault of a text that is none.
-use Rattle.std.specs.Prelude.{ℕ, ◌+◌, ◌≤◌, Bool, ◌||◌, ◌==◌, nat_lt, List, [], ◌∷◌, ◌++◌, length, Option, Some, None, Result, Ok, Err, if◌then◌else◌, IsTrue}
+use Rattle.std.specs.Prelude.{ℕ, ◌+◌, ◌≤◌, Bool, ◌||◌, ◌==◌, nat_lt, List, [], ◌∷◌, ◌++◌, length}
+use Rattle.std.specs.Prelude.{Option, Some, None, Result, Ok, Err, if◌then◌else◌, IsTrue}
 use Rattle.std.specs.List.{AllByRecursion, list_all, slice_split}
 use Rattle.jffs_node.specs.declared.path.PathFault.{PathFault}
-use Rattle.jffs_node.specs.declared.path.PathFault.TheVariants.{NoSlash, NameEmpty, NameLong, NameByte, Deep}
+use Rattle.jffs_node.specs.declared.path.PathFault.TheVariants.{NoSlash, NameEmpty, NameLong}
+use Rattle.jffs_node.specs.declared.path.PathFault.TheVariants.{NameByte, Deep}
 use Rattle.jffs_node.specs.Name.{is_name, is_name_byte}
 
 -- what stands between the slashes after the first; `/` alone is the root
@@ -30,7 +32,9 @@ unless_fault names None = Ok names
 unless_fault names (Some fault) = Err fault
 
 abbrev pub checked_names : List (List ℕ) → Result (List (List ℕ)) PathFault
-checked_names names = unless_fault names (or_else (names_fault names) (if nat_lt 8 (length names) then Some Deep else None))
+checked_names names =
+    unless_fault names (or_else (names_fault names)
+    (if nat_lt 8 (length names) then Some Deep else None))
 
 -- at most eight names
 pub record IsPath (names : List (List ℕ)) : Type 0 where
@@ -62,4 +66,7 @@ left_len (Some text) = length text + 1
 
 -- the answer, where these names were read, too many or not, and these pieces are left
 abbrev pub answer_after : List (List ℕ) → Bool → List (List ℕ) → Result (List (List ℕ)) PathFault
-answer_after names deep pieces = unless_fault (names ++ pieces) (or_else (names_fault pieces) (if deep || nat_lt 8 (length names + length pieces) then Some Deep else None))
+answer_after names deep pieces =
+    unless_fault (names ++ pieces)
+    (or_else (names_fault pieces)
+    (if deep || nat_lt 8 (length names + length pieces) then Some Deep else None))

@@ -1,8 +1,10 @@
 //! Reading of what stands at a position of a sector.
 
-ghost use Rattle.std.specs.Prelude.{◌≡◌, ◌^◌, ◌<◌, ◌≤◌, ◌==◌, ◌||◌, not, nat_lt, length, if◌then◌else◌, IfOk, OnErr};
+ghost use Rattle.std.specs.Prelude.{◌≡◌, ◌^◌, ◌<◌, ◌≤◌, ◌==◌, ◌||◌, not, nat_lt, length};
+ghost use Rattle.std.specs.Prelude.{if◌then◌else◌, IfOk, OnErr};
 ghost use Rattle.jffs_node.specs.Record.{len_of_data};
-ghost use Rattle.jffs_node.specs.Reading.{byte_at, data_len, data_at, node_at, padding_holds, broken_rule, is_erased as erased_test, found};
+ghost use Rattle.jffs_node.specs.Reading.{byte_at, data_len, data_at, node_at, padding_holds};
+ghost use Rattle.jffs_node.specs.Reading.{broken_rule, is_erased as erased_test, found};
 ghost use Rattle.jffs_node.specs.Header.{checked, head_at, head_or_why, HasData};
 ghost use Rattle.jffs_node.specs.Laws.{IsClosedExactly};
 
@@ -64,7 +66,8 @@ fn with_data(alloc: Global, rest: &[u8], head: Head) -> Result<Read, NoMemory>
     requires head { head ≡ head_at rest.now }
     requires fits { len_of_data (data_len rest.now) ≤ length rest.now }
     requires short { len_of_data (data_len rest.now) < 2 ^ 32 }
-    ensures read { IfOk result (λ read. read ≡ Read.Closed (node_at rest.now) (len_of_data (data_len rest.now))) }
+    ensures read { IfOk result
+        (λ read. read ≡ Read.Closed (node_at rest.now) (len_of_data (data_len rest.now))) }
     ensures refused { OnErr result (0 < length (data_at rest.now)) }
 {
     let Head { mut node, amount } = head;

@@ -1,9 +1,12 @@
-//! Reading the header of a closed record, rule by rule: each function gives what it read, or the rule that is broken.
+//! Reading the header of a closed record, rule by rule: each function gives what it read, or the
+//! rule that is broken.
 
 ghost use Rattle.std.specs.Prelude.{◌≡◌, ◌==◌, ◌≤◌, length, Ok, Err, bytes_eq, is_some, take};
 ghost use Rattle.jffs_node.specs.Record.{magic, is_unmount};
-ghost use Rattle.jffs_node.specs.Reading.{kind_at, flags_hold, name_holds, form_holds, form_at, spare_holds, node_at, first_broken};
-ghost use Rattle.jffs_node.specs.Header.{checked, flags_at, labels_at, label_rules, labels_or_why, head_at};
+ghost use Rattle.jffs_node.specs.Reading.{kind_at, flags_hold, name_holds, form_holds, form_at};
+ghost use Rattle.jffs_node.specs.Reading.{spare_holds, node_at, first_broken};
+ghost use Rattle.jffs_node.specs.Header.{checked, flags_at, labels_at, label_rules, labels_or_why};
+ghost use Rattle.jffs_node.specs.Header.{head_at};
 
 use crate::layout::*;
 use crate::name::{NAME_MAX, Name};
@@ -12,7 +15,8 @@ use crate::read::Why;
 use crate::words::{half_at, is_all, word_at};
 use bytes::Bytes;
 
-/// What the header of a closed record says: its node, still without the data, and how many bytes of data follow.
+/// What the header of a closed record says: its node, still without the data, and how many bytes of
+/// data follow.
 #[derive(Drop)]
 pub(crate) struct Head {
     pub(crate) node: Node,

@@ -8,8 +8,9 @@ ghost use Rattle.jffs_node.specs.Record.{is_lawful, fits_fields, suits_kind, is_
 use crate::node::Node;
 use crate::numbers::numbers_hold;
 
-/// Whether a node is lawful wherever it stands: each number fits its field, flags, name and form suit the kind, and the
-/// numbers suit each other. That its record finds room in a sector is another matter. Takes no memory.
+/// Whether a node is lawful wherever it stands: each number fits its field, flags, name and form
+/// suit the kind, and the numbers suit each other. That its record finds room in a sector is
+/// another matter. Takes no memory.
 pub fn is_lawful(node: &Node) -> bool
     ensures { result ≡ is_lawful node.now }
 {
@@ -43,7 +44,8 @@ fn suits_kind(node: &Node) -> bool
 
 /// Whatever a name holds is a name, so only its being there is in question.
 fn is_named(node: &Node) -> bool
-    ensures { result ≡ option_map_or (λ name. not (is_unmount node.now.kind) && is_name name) node.now.name (is_unmount node.now.kind) }
+    ensures { result ≡ option_map_or (λ name. not (is_unmount node.now.kind) && is_name name)
+        node.now.name (is_unmount node.now.kind) }
 {
     match &node.name {
         Some(name) => {

@@ -1,4 +1,5 @@
-//! Where the fields of a record stand. Positions and lengths are in bytes, counted from the record's start.
+//! Where the fields of a record stand. Positions and lengths are in bytes, counted from the
+//! record's start.
 
 /// The length of a record's header, in bytes: every field but the data stands in it.
 pub const HEADER_LEN: usize = 64;

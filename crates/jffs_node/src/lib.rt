@@ -1,7 +1,9 @@
 //! Nodes, names, paths and records: what one entry of the log says, and how it is spelled on flash.
 //!
-//! This crate knows nothing of trees, nor of a sector beyond the bytes that it is shown. Its promise is carried by
-//! `decode`: a node is read exactly where its record stands, and else the answer says why there is none.
+//! This crate knows nothing of trees, nor of a sector beyond the bytes that it is shown. Its
+//! promise is carried by
+//! `decode`: a node is read exactly where its record stands, and else the answer says why there is
+//! none.
 #![tactic(auto)]
 
 mod data;

@@ -1,11 +1,13 @@
 //! Names of files and directories.
 
-ghost use Rattle.std.specs.Prelude.{◌≡◌, ◌≤◌, length, Some, None, if◌then◌else◌, refl, bytes_eq, IsTrue};
+ghost use Rattle.std.specs.Prelude.{◌≡◌, ◌≤◌, length, Some, None, if◌then◌else◌, refl, bytes_eq};
+ghost use Rattle.std.specs.Prelude.{IsTrue};
 ghost use Rattle.jffs_node.specs.Name.{is_name, is_name_byte as name_byte_test};
 ghost use Rattle.std.specs.List.{list_all};
 ghost use Rattle.std.specs.Ordering.{nat_cmp};
 ghost use Rattle.std.specs.Cmp.{partial_equiv_from_equiv};
-ghost use Rattle.std.specs.Cmp.Lexicographic.{slice_cmp, nat_list_eq_equiv, nat_list_cmp_total, texts_ties, texts_po};
+ghost use Rattle.std.specs.Cmp.Lexicographic.{slice_cmp, nat_list_eq_equiv, nat_list_cmp_total};
+ghost use Rattle.std.specs.Cmp.Lexicographic.{texts_ties, texts_po};
 
 use std::cmp::Ordering;
 use std::marker::Model;

@@ -71,7 +71,8 @@ pub struct Node {
     pub writer: u16,
     /// Which of its sender's requests this answers; 0 if cleaning made it. Any number is read.
     pub seq: u32,
-    /// The file's size after this node, in bytes. A node with a size is written in the second form, one without in the first.
+    /// The file's size after this node, in bytes. A node with a size is written in the second form,
+    /// one without in the first.
     pub size: Option<u32>,
     /// The name in the parent. An unmount node has none, every other node has one.
     pub name: Option<Name>,

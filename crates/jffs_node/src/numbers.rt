@@ -1,14 +1,19 @@
 //! The rules on the numbers of a record.
 
 ghost use Rattle.std.specs.Prelude.{◌≡◌, ◌+◌, ◌==◌, ◌&&◌, ◌||◌, nat_le};
-ghost use Rattle.jffs_node.specs.Record.{has_no_range as no_range_test, kind_numbers as kind_numbers_test, size_numbers as size_numbers_test, numbers_hold as numbers_test, fits_rest as fits_rest_test, len_of_data, file_max};
+ghost use Rattle.jffs_node.specs.Record.{has_no_range as no_range_test};
+ghost use Rattle.jffs_node.specs.Record.{kind_numbers as kind_numbers_test};
+ghost use Rattle.jffs_node.specs.Record.{size_numbers as size_numbers_test};
+ghost use Rattle.jffs_node.specs.Record.{numbers_hold as numbers_test, fits_rest as fits_rest_test};
+ghost use Rattle.jffs_node.specs.Record.{len_of_data, file_max};
 ghost use Rattle.jffs_node.specs.Header.{checked};
 
 use crate::layout::{HEADER_LEN, RECORD_ALIGN};
 use crate::node::{FILE_MAX, FIRST_INODE, Kind, Node, ROOT_INODE};
 use crate::read::Why;
 
-/// The length of a record with that many bytes of data: with the header, filled up to a multiple of 4.
+/// The length of a record with that many bytes of data: with the header, filled up to a multiple of
+/// 4.
 pub(crate) fn len_with_data(amount: u32) -> u64
     ensures { result ≡ len_of_data amount }
 {
@@ -16,14 +21,17 @@ pub(crate) fn len_with_data(amount: u32) -> u64
     HEADER_LEN as u64 + amount as u64 + fill as u64
 }
 
-/// The rule on numbers, of a node whose data need not be there yet, at the head of the last `rest` bytes of its sector.
+/// The rule on numbers, of a node whose data need not be there yet, at the head of the last `rest`
+/// bytes of its sector.
 pub(crate) fn check_numbers(
     node: &Node,
     amount: u32,
     record_max: u32,
     rest: usize,
 ) -> Result<(), Why>
-    ensures { result ≡ checked (numbers_test node.now amount && fits_rest_test node.now.kind amount record_max rest) Why.Size tt }
+    ensures { result ≡ checked
+        (numbers_test node.now amount && fits_rest_test node.now.kind amount record_max rest)
+        Why.Size tt }
 {
     if numbers_hold(node, amount) && fits_rest(node.kind, amount, record_max, rest) {
         Ok(())
@@ -32,7 +40,8 @@ pub(crate) fn check_numbers(
     }
 }
 
-/// Whether a node's numbers suit each other and the amount of its data, which need not be there yet.
+/// Whether a node's numbers suit each other and the amount of its data, which need not be there
+/// yet.
 pub(crate) fn numbers_hold(node: &Node, amount: u32) -> bool
     ensures { result ≡ numbers_test node.now amount }
 {
@@ -43,7 +52,8 @@ pub(crate) fn numbers_hold(node: &Node, amount: u32) -> bool
         && size_numbers_hold(node, amount)
 }
 
-/// An unmount node is of no inode, a directory has no data, and a file stays within the greatest size.
+/// An unmount node is of no inode, a directory has no data, and a file stays within the greatest
+/// size.
 fn kind_numbers_hold(node: &Node, amount: u32) -> bool
     ensures { result ≡ kind_numbers_test node.now.kind node.now amount }
 {
@@ -65,7 +75,9 @@ fn is_in_tree(node: &Node) -> bool
 
 /// The ranges stay within the greatest size, and what has data removes no more than that.
 fn is_in_file(node: &Node, amount: u32) -> bool
-    ensures { result ≡ (nat_le (node.now.offset + amount) file_max && nat_le (node.now.offset + node.now.rsize) file_max && (nat_le node.now.rsize amount || amount == 0)) }
+    ensures { result ≡ (nat_le (node.now.offset + amount) file_max
+        && nat_le (node.now.offset + node.now.rsize) file_max
+        && (nat_le node.now.rsize amount || amount == 0)) }
 {
     ends_within(node.offset, amount, FILE_MAX)
         && ends_within(node.offset, node.rsize, FILE_MAX)
@@ -96,8 +108,8 @@ fn ends_within(offset: u32, len: u32, end: u32) -> bool
     offset as u64 + len as u64 <= end as u64
 }
 
-/// Whether a record with so much data may stand at the head of the last `rest` bytes of its sector: only an unmount
-/// record may leave no room for another.
+/// Whether a record with so much data may stand at the head of the last `rest` bytes of its sector:
+/// only an unmount record may leave no room for another.
 fn fits_rest(kind: Kind, amount: u32, record_max: u32, rest: usize) -> bool
     ensures { result ≡ fits_rest_test kind amount record_max rest }
 {

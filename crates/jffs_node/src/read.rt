@@ -13,7 +13,8 @@ pub enum Why {
     Kind,
     /// An unknown flag, two flags, or a flag of an unmount record.
     Flags,
-    /// No name where one belongs or the other way round, a byte that no name has, or bytes after the name.
+    /// No name where one belongs or the other way round, a byte that no name has, or bytes after
+    /// the name.
     Name,
     /// An unknown form, or the second form for anything but a file that is there.
     Form,

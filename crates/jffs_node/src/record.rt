@@ -1,7 +1,9 @@
 //! The bytes of a record.
 
 ghost use Rattle.std.specs.Prelude.{◌≡◌, ◌+◌, ◌<◌, ◌≤◌, ◌^◌, ◌++◌, length, take, replicate, IsTrue};
-ghost use Rattle.jffs_node.specs.Record.{record_len as length_of, header, name_bytes, kind_byte as byte_of_kind, flags_byte as byte_of_flags, form_number as number_of_form, spelling, is_lawful};
+ghost use Rattle.jffs_node.specs.Record.{record_len as length_of, header, name_bytes};
+ghost use Rattle.jffs_node.specs.Record.{kind_byte as byte_of_kind, flags_byte as byte_of_flags};
+ghost use Rattle.jffs_node.specs.Record.{form_number as number_of_form, spelling, is_lawful};
 ghost use Rattle.jffs_node.specs.Name.{padded_name};
 
 use crate::layout::{ERASED, FIRST_FORM, GATE_CLOSED, MAGIC, SECOND_FORM};

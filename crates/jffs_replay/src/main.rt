@@ -1,4 +1,5 @@
-//! The program `jffs_replay`: operations on standard input, an answer line for each on standard output.
+//! The program `jffs_replay`: operations on standard input, an answer line for each on standard
+//! output.
 #![tactic(auto)]
 
 use jffs_tools::run_replay;

@@ -8,5 +8,7 @@ use Rattle.jffs_run.specs.declared.outcome.AcceptedBy.TheVariants.{Shared, Rings
 use Rattle.jffs_run.specs.Ends.{accepted_by, all_hands}
 
 abbrev pub accepted_of : AcceptedBy → ℕ → List Request
-accepted_of (Shared hands) sender = accepted_by shared.ghosts sender (all_hands shared.ghosts hands.value)
-accepted_of (Rings hands) sender = accepted_by ring.ghosts sender (all_hands ring.ghosts hands.value)
+accepted_of (Shared hands) sender =
+    accepted_by shared.ghosts sender (all_hands shared.ghosts hands.value)
+accepted_of (Rings hands) sender =
+    accepted_by ring.ghosts sender (all_hands ring.ghosts hands.value)

@@ -11,7 +11,8 @@ use Rattle.jffs_run.specs.declared.outcome.Run.{Run}
 use Rattle.jffs_run.specs.declared.reader.ReaderEnd.{ReaderEnd}
 use Rattle.jffs_flash.specs.Device.{Device}
 
--- The writers and the readers' statements of a script; what each sender had accepted, all answers, what waits, what became of each reader, what was served, and the device at the end.
+-- The writers and the readers' statements of a script; what each sender had accepted, all answers,
+-- what waits, what became of each reader, what was served, and the device at the end.
 pub record Account : Type 0 where
   pub script : List Writer
   pub statements : List ReaderStatement
@@ -23,7 +24,8 @@ pub record Account : Type 0 where
   pub device : Device
 
 -- the account of a run of this script, whose senders had accepted this
-abbrev pub account_of : {F A : Type 0} → Flash.Ghosts F → Script → (ℕ → List Request) → Run F A → Account
+abbrev pub account_of : {F A : Type 0} → Flash.Ghosts F → Script → (ℕ → List Request) → Run F A
+    → Account
 account_of g script accepted run = record {
   script = script.writers.items;
   statements = script.readers.items;

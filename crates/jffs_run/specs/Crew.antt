@@ -1,5 +1,6 @@
 -- What the threads of a run are given, and what comes back.
-use Rattle.std.specs.Prelude.{◌≡◌, ℕ, ◌≤◌, ◌⊎◌, List, [], ◌∷◌, ◌++◌, map, vec_len, vec_capacity, Vec}
+use Rattle.std.specs.Prelude.{◌≡◌, ℕ, ◌≤◌, ◌⊎◌, List, [], ◌∷◌, ◌++◌, map, vec_len, vec_capacity}
+use Rattle.std.specs.Prelude.{Vec}
 use Rattle.std.specs.List.{All}
 use Rattle.jffs_tree.specs.declared.wish.Wish.TheVariants.{Unmount}
 use Rattle.jffs_line.specs.Line.{End, senders}
@@ -19,7 +20,8 @@ module _ {H : Type 0} (g : Hand.Ghosts H) where
   abbrev pub crew_hands : Crew H → List H
   crew_hands crew = crew.writers.items ++ crew.cleaner.hand ∷ crew.control.hand ∷ []
 
-  -- the crew has a hand for each writer of the script, at most 8, and a reader of this index for each of its readers, and no hand has handed anything in
+  -- the crew has a hand for each writer of the script, at most 8, and a reader of this index for
+  -- each of its readers, and no hand has handed anything in
   pub record IsFit (script : Script) (crew : Crew H) (index : Index) : Type 0 where
     pub fresh : All (λ hand. g.accepted hand ≡ []) crew.writers.items
     pub unused : g.accepted crew.cleaner.hand ≡ []
@@ -29,17 +31,21 @@ module _ {H : Type 0} (g : Hand.Ghosts H) where
     pub readers : vec_len crew.readers ≡ vec_len script.readers
     pub looking : All (λ reader. index_of reader ≡ index) crew.readers.items
 
-  -- the hands are those of the crew. Each writer's handed in the first of its commands, and all of them where the control asked for the Unmount; the cleaner's asked for copies alone
+  -- the hands are those of the crew. Each writer's handed in the first of its commands, and all of
+  -- them where the control asked for the Unmount; the cleaner's asked for copies alone
   pub record HasHandedIn (script : List Writer) (crew : Crew H) (hands : Hands H) : Type 0 where
     pub ends : map (end_of g) (all_hands g hands) ≡ map (end_of g) (crew_hands crew)
     pub first : EachFrom (HandedIn g script) 0 hands.writers.items
-    pub whole : (g.accepted hands.control.hand ≡ []) ⊎ EachFrom (HandedInAll g script) 0 hands.writers.items
+    pub whole : (g.accepted hands.control.hand ≡ [])
+        ⊎ EachFrom (HandedInAll g script) 0 hands.writers.items
     pub cleaner : AreCopies (g.accepted hands.cleaner)
-    pub control : (g.accepted hands.control.hand ≡ []) ⊎ (g.accepted hands.control.hand ≡ request (g.sender hands.control.hand) 1 Unmount ∷ [])
+    pub control : (g.accepted hands.control.hand ≡ [])
+        ⊎ (g.accepted hands.control.hand ≡ request (g.sender hands.control.hand) 1 Unmount ∷ [])
 
 module _ {H : Type 0} (g : Hand.Ghosts H) where
   -- the ends of a line for `writers` writers, from which nothing was handed in and nothing taken
-  pub record IsNewLine (ends : List End) (taken : ℕ → List Request) (hands : Hands H) (writers : ℕ) : Type 0 where
+  pub record IsNewLine (ends : List End) (taken : ℕ → List Request) (hands : Hands H)
+      (writers : ℕ) : Type 0 where
     pub ends_are : ends ≡ map (end_of g) (all_hands g hands)
     pub numbers : map g.sender (all_hands g hands) ≡ senders writers
     pub fresh : All (λ hand. g.accepted hand ≡ []) (all_hands g hands)

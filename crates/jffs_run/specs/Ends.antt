@@ -1,5 +1,6 @@
 -- The hands of a run.
-use Rattle.std.specs.Prelude.{◌≡◌, ℕ, ◌+◌, ◌<◌, List, [], ◌∷◌, ◌++◌, length, take, eqb, cond, slice_index_or}
+use Rattle.std.specs.Prelude.{◌≡◌, ℕ, ◌+◌, ◌<◌, List, [], ◌∷◌, ◌++◌, length, take, eqb, cond}
+use Rattle.std.specs.Prelude.{slice_index_or}
 use Rattle.std.specs.List.{AllByRecursion}
 use Rattle.jffs_line.specs.Line.{End}
 use Rattle.jffs_line.specs.declared.request.Request.{Request}
@@ -44,11 +45,14 @@ module _ {H : Type 0} (g : Hand.Ghosts H) where
   -- what the first of the hands with this sender accepted
   abbrev pub accepted_by : ℕ → List H → List Request
   accepted_by sender [] = []
-  accepted_by sender (hand ∷ hands) = cond (eqb (g.sender hand) sender) (g.accepted hand) (accepted_by sender hands)
+  accepted_by sender (hand ∷ hands) =
+      cond (eqb (g.sender hand) sender) (g.accepted hand) (accepted_by sender hands)
 
   -- the hand of the writer at this slot handed in the first of its commands
   abbrev pub HandedIn : List Writer → ℕ → H → Type 0
-  HandedIn script slot hand = g.accepted hand ≡ numbered (g.sender hand) 1 (take (length (g.accepted hand)) (wishes_of (commands_at script slot)))
+  HandedIn script slot hand = g.accepted hand
+      ≡ numbered (g.sender hand) 1
+      (take (length (g.accepted hand)) (wishes_of (commands_at script slot)))
 
   -- it handed in all of them
   abbrev pub HandedInAll : List Writer → ℕ → H → Type 0

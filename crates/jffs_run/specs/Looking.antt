@@ -24,9 +24,11 @@ IsFileIn shown inode = kind_in shown.tree inode ≡ Some File
 -- what a path reads in a view: nothing is said of an end that is NotSeen
 abbrev pub FitsPath : Shown → List (List ℕ) → ReaderEnd → Type 0
 FitsPath shown path NotSeen = Unit {0}
-FitsPath shown path NoFile = (inode : ℕ) → resolve (state_in shown.tree) path ≡ Some inode → IsFileIn shown inode → ⊥
+FitsPath shown path NoFile =
+    (inode : ℕ) → resolve (state_in shown.tree) path ≡ Some inode → IsFileIn shown inode → ⊥
 FitsPath shown path (Bytes bytes) =
-    (inode : ℕ) × (resolve (state_in shown.tree) path ≡ Some inode) × IsFileIn shown inode × (bytes.items ≡ bytes_in shown.tree inode)
+    (inode : ℕ) × (resolve (state_in shown.tree) path ≡ Some inode) × IsFileIn shown inode
+    × (bytes.items ≡ bytes_in shown.tree inode)
 
 -- an end other than NotSeen is what the path reads in a view that shows the answer
 abbrev pub FitsView : Shown → ReaderStatement → ReaderEnd → Type 0
@@ -35,14 +37,17 @@ FitsView shown statement end = ShowsAnswer shown statement × FitsPath shown sta
 
 -- the reader of this statement read that in a view of a beginning of the history
 abbrev pub SeenIn : History → ReaderStatement → ReaderEnd → Type 0
-SeenIn history statement end = (first : History) × BeginsWith history first × FitsView (view_of first) statement end
+SeenIn history statement end =
+    (first : History) × BeginsWith history first × FitsView (view_of first) statement end
 
 -- so did the reader of the statement at this slot
 abbrev pub HasSeen : History → List ReaderStatement → ℕ → ReaderEnd → Type 0
-HasSeen history statements slot end = (statement : ReaderStatement) × HasAt statements slot statement × SeenIn history statement end
+HasSeen history statements slot end =
+    (statement : ReaderStatement) × HasAt statements slot statement × SeenIn history statement end
 
 -- there is an end for each statement, and so did the reader of each
-pub record HaveSeen (history : History) (statements : List ReaderStatement) (ends : List ReaderEnd) : Type 0 where
+pub record HaveSeen (history : History) (statements : List ReaderStatement)
+    (ends : List ReaderEnd) : Type 0 where
   pub every : length ends ≡ length statements
   pub each : EachFrom (HasSeen history statements) 0 ends
 

@@ -14,6 +14,7 @@ numbered sender n [] = []
 numbered sender n (wish ∷ wishes) = request sender n wish ∷ numbered sender (n + 1) wishes
 
 -- the first of the commands, in order, and all of them where the writer came to its end
-pub record Wrote (sender : ℕ) (commands : List Command) (accepted : List Request) (stop : Stop) : Type 0 where
+pub record Wrote (sender : ℕ) (commands : List Command) (accepted : List Request) (stop : Stop) :
+    Type 0 where
   pub first : accepted ≡ numbered sender 1 (take (length accepted) (wishes_of commands))
   pub whole : stop ≡ Done → length accepted ≡ length commands

@@ -17,10 +17,12 @@ use Rattle.jffs_run.specs.Ends.{HasAt, commands_at, end_of}
 
 -- the thread of the reader at this slot, which looks at this index for its statement
 abbrev pub IsLooking : Index → List ReaderStatement → ℕ → PromisedHandle ReaderStop Looks → Type 0
-IsLooking index statements slot handle = (index_of handle.promise.reader.value ≡ index) × HasAt statements slot handle.promise.statement.now
+IsLooking index statements slot handle = (index_of handle.promise.reader.value ≡ index)
+    × HasAt statements slot handle.promise.statement.now
 
 -- the thread of the writer at this slot, which hands in its commands
-abbrev pub IsStarted : {H : Type 0} → List Writer → ℕ → PromisedHandle (WriterEnd H) (Writes H) → Type 0
+abbrev pub IsStarted : {H : Type 0} → List Writer → ℕ → PromisedHandle (WriterEnd H) (Writes H)
+    → Type 0
 IsStarted script slot handle = handle.promise.commands.now ≡ commands_at script slot
 
 module _ {H : Type 0} (g : Hand.Ghosts H) where

@@ -17,23 +17,34 @@ use Rattle.jffs_run.specs.Account.{Account}
 use Rattle.jffs_run.specs.Headline.{IsRun}
 
 -- one turn of a run, from the log that was mounted, with the run's own turns before it and after it
-pub record InRun {start : CoreState} {account : Account} (run : IsRun start account) (mounted : List Node) (before : List Reply) (r : Reply) (later : List Reply) : Type 0 where
+pub record InRun {start : CoreState} {account : Account} (run : IsRun start account)
+    (mounted : List Node) (before : List Reply) (r : Reply) (later : List Reply) : Type 0 where
   pub after : List Node
   pub within : Within mounted mounted start before r later run.core after
 
 -- What is answered NoSpace had no room at that very turn.
 abbrev pub NoSpaceMeansNoRoom : Type 0
-NoSpaceMeansNoRoom = (before : Device) (start : CoreState) (account : Account) (fresh : IsFresh before start) (run : IsRun start account)
-    → (first later : List Reply) (r : Reply) → run.replies ≡ first ++ r ∷ later → r.step.outcome ≡ Refused NoSpace
-    → (turn : InRun run (past_of fresh.scanned.log) first r later) × (n : NewNode) × HadNoRoom (turn_of turn.within.taken turn.within.was turn.within.now) r.request n
+NoSpaceMeansNoRoom =
+    (before : Device) (start : CoreState) (account : Account) (fresh : IsFresh before start)
+    (run : IsRun start account)
+    → (first later : List Reply) (r : Reply) → run.replies ≡ first ++ r ∷ later
+    → r.step.outcome ≡ Refused NoSpace
+    → (turn : InRun run (past_of fresh.scanned.log) first r later) × (n : NewNode)
+    × HadNoRoom (turn_of turn.within.taken turn.within.was turn.within.now) r.request n
 
 -- After an answer that tells of a failure each is Failed.
 abbrev pub FailedStaysFailed : Type 0
-FailedStaysFailed = (before : Device) (start : CoreState) (account : Account) (fresh : IsFresh before start) (run : IsRun start account)
-    → (first later : List Reply) (r : Reply) → run.replies ≡ first ++ r ∷ later → any_failure (map answer_in first) ≡ true → r.step.outcome ≡ Refused Failed
-
--- In a run whose device works to the end, a scan of the image as it is with an answer finds what the fresh nodes up to there make.
-abbrev pub AnswersAreDurable : Type 0
-AnswersAreDurable = (before : Device) (start : CoreState) (account : Account) (fresh : IsFresh before start) (run : IsRun start account) → run.core.failed ≡ false
+FailedStaysFailed = (before : Device) (start : CoreState) (account : Account)
+    (fresh : IsFresh before start) (run : IsRun start account)
     → (first later : List Reply) (r : Reply) → run.replies ≡ first ++ r ∷ later
-    → (turn : InRun run (past_of fresh.scanned.log) first r later) × FindsContents (past_of fresh.scanned.log) (after_reply turn.within.replied) turn.within.now
+    → any_failure (map answer_in first) ≡ true → r.step.outcome ≡ Refused Failed
+
+-- In a run whose device works to the end, a scan of the image as it is with an answer finds what
+-- the fresh nodes up to there make.
+abbrev pub AnswersAreDurable : Type 0
+AnswersAreDurable =
+    (before : Device) (start : CoreState) (account : Account) (fresh : IsFresh before start)
+    (run : IsRun start account) → run.core.failed ≡ false
+    → (first later : List Reply) (r : Reply) → run.replies ≡ first ++ r ∷ later
+    → (turn : InRun run (past_of fresh.scanned.log) first r later)
+    × FindsContents (past_of fresh.scanned.log) (after_reply turn.within.replied) turn.within.now

@@ -20,21 +20,28 @@ use Rattle.jffs_run.specs.Headline.{IsRun}
 
 -- all commands of every writer were accepted
 abbrev pub TookAll : List Writer → (ℕ → List Request) → Type 0
-TookAll script accepted = (slot : ℕ) → slot < length script → accepted (slot + 1) ≡ numbered (slot + 1) 1 (wishes_of (commands_at script slot))
+TookAll script accepted =
+    (slot : ℕ) → slot < length script
+    → accepted (slot + 1) ≡ numbered (slot + 1) 1 (wishes_of (commands_at script slot))
 
 -- the control's Unmount was answered so
 abbrev pub AnswersUnmount : List Reply → Outcome → Type 0
 AnswersUnmount [] outcome = ⊥
-AnswersUnmount (r ∷ replies) outcome = ((r.request ≡ request 10 1 Unmount) × (r.step.outcome ≡ outcome)) ⊎ AnswersUnmount replies outcome
+AnswersUnmount (r ∷ replies) outcome =
+    ((r.request ≡ request 10 1 Unmount) × (r.step.outcome ≡ outcome))
+    ⊎ AnswersUnmount replies outcome
 
 -- where Closed or NotClosed was served, the Unmount was answered so, and all commands were accepted
 abbrev pub FitsEnd : Served → List Writer → (ℕ → List Request) → List Reply → Type 0
-FitsEnd served.Closed script accepted replies = AnswersUnmount replies Closed × TookAll script accepted
-FitsEnd (served.NotClosed cause) script accepted replies = AnswersUnmount replies (Refused cause) × TookAll script accepted
+FitsEnd served.Closed script accepted replies =
+    AnswersUnmount replies Closed × TookAll script accepted
+FitsEnd (served.NotClosed cause) script accepted replies =
+    AnswersUnmount replies (Refused cause) × TookAll script accepted
 FitsEnd served.Ended script accepted replies = Unit {0}
 FitsEnd served.Memory script accepted replies = Unit {0}
 
 -- Each run from a mount on ends so.
 abbrev pub RunsEndUnmounted : Type 0
-RunsEndUnmounted = (before : Device) (start : CoreState) (account : Account) (fresh : IsFresh before start) (run : IsRun start account)
+RunsEndUnmounted = (before : Device) (start : CoreState) (account : Account)
+    (fresh : IsFresh before start) (run : IsRun start account)
     → FitsEnd account.served account.script account.accepted run.replies

@@ -20,7 +20,8 @@ fn run_cleaner<R: Wait, H: Hand>(
     ended: &Ended,
 ) -> Cleaner<H>
     requires fresh { H.accepted cleaner.hand ≡ [] }
-    ensures end { (H.sender result.hand ≡ H.sender cleaner.hand) × (H.line result.hand ≡ H.line cleaner.hand) }
+    ensures end { (H.sender result.hand ≡ H.sender cleaner.hand)
+        × (H.line result.hand ≡ H.line cleaner.hand) }
     ensures copies { AreCopies (H.accepted result.hand) }
 {
     let Cleaner {
@@ -54,7 +55,8 @@ pub(crate) fn start_cleaner<'s, E, R: Wait + Sync, H: Hand + Send + 's>(
         promise,
         move || -> Cleaner<H>
             requires { H.accepted cleaner.hand ≡ [] }
-            ensures { (H.sender result.hand ≡ H.sender cleaner.hand) × (H.line result.hand ≡ H.line cleaner.hand) × AreCopies (H.accepted result.hand) }
+            ensures { (H.sender result.hand ≡ H.sender cleaner.hand)
+                × (H.line result.hand ≡ H.line cleaner.hand) × AreCopies (H.accepted result.hand) }
         { run_cleaner(rt, alloc, cleaner, rounds, ended) },
     );
     match started {
@@ -65,7 +67,9 @@ pub(crate) fn start_cleaner<'s, E, R: Wait + Sync, H: Hand + Send + 's>(
 
 /// The cleaner's hand, once its thread has ended. None where no thread could be made.
 pub(crate) fn join_cleaner<R: Threads, H: Hand>(rt: &R, cleaning: Option<Cleaning<H>>) -> Option<H>
-    ensures { (hand : _) → IfSome cleaning (IsCleaning H.Hand hand) → IfSome result (λ h. (H.sender h ≡ H.sender hand) × (H.line h ≡ H.line hand) × AreCopies (H.accepted h)) }
+    ensures { (hand : _) → IfSome cleaning (IsCleaning H.Hand hand)
+        → IfSome result (λ h. (H.sender h ≡ H.sender hand) × (H.line h ≡ H.line hand)
+        × AreCopies (H.accepted h)) }
 {
     match cleaning {
         Some(Cleaning::Thread(handle)) => Some(handle.join(rt).hand),

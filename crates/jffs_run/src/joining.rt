@@ -1,9 +1,11 @@
 //! Joining the writers and the readers.
 
-ghost use Rattle.std.specs.Prelude.{◌≡◌, ◌≤◌, ◌⊎◌, [], List, map, true, false, None, vec_len, vec_capacity};
+ghost use Rattle.std.specs.Prelude.{◌≡◌, ◌≤◌, ◌⊎◌, [], List, map, true, false, None, vec_len};
+ghost use Rattle.std.specs.Prelude.{vec_capacity};
 ghost use Rattle.jffs_text.specs.declared.script.Writer.{Writer};
 ghost use Rattle.jffs_text.specs.declared.script.ReaderStatement.{ReaderStatement};
-ghost use Rattle.jffs_index.specs.Ends.{index_of, known, published, publisher_index, told_of, told_index};
+ghost use Rattle.jffs_index.specs.Ends.{index_of, known, published, publisher_index, told_of};
+ghost use Rattle.jffs_index.specs.Ends.{told_index};
 ghost use Rattle.jffs_index.specs.declared.rule.History.{History};
 ghost use Rattle.jffs_index.specs.Histories.{view_of, BeginsWith};
 ghost use Rattle.jffs_run.specs.Ends.{EachFrom, HandedIn, HandedInAll, end_of};
@@ -41,7 +43,9 @@ impl Stops {
 
     /// Takes in how one more writer stopped.
     fn note(&mut self, stop: Stop)
-        ensures { self.new.log_ended ≡ false → self.new.memory ≡ false → self.new.spent ≡ false → (self.old.log_ended ≡ false) × (self.old.memory ≡ false) × (self.old.spent ≡ false) × (stop ≡ Stop.Done) }
+        ensures { self.new.log_ended ≡ false → self.new.memory ≡ false → self.new.spent ≡ false
+            → (self.old.log_ended ≡ false) × (self.old.memory ≡ false) × (self.old.spent ≡ false)
+            × (stop ≡ Stop.Done) }
     {
         match stop {
             Stop::Done => {}
@@ -80,9 +84,13 @@ pub(crate) fn join_writers<'s, R: Threads, H: Hand + Send + 's>(
 ) -> Joined<H>
     requires empty { hands.items ≡ [] }
     requires room { vec_len handles ≤ vec_capacity hands }
-    ensures ends { map (end_of H.Hand) result.hands.items ≡ map (end_given H.Hand) handles.entry.items }
-    ensures handed_in { (script : List Writer) → EachFrom (IsStarted script) 0 handles.entry.items → EachFrom (HandedIn H.Hand script) 0 result.hands.items }
-    ensures whole { (script : List Writer) → EachFrom (IsStarted script) 0 handles.entry.items → result.stops.log_ended ≡ false → result.stops.memory ≡ false → result.stops.spent ≡ false → EachFrom (HandedInAll H.Hand script) 0 result.hands.items }
+    ensures ends { map (end_of H.Hand) result.hands.items
+        ≡ map (end_given H.Hand) handles.entry.items }
+    ensures handed_in { (script : List Writer) → EachFrom (IsStarted script) 0 handles.entry.items
+        → EachFrom (HandedIn H.Hand script) 0 result.hands.items }
+    ensures whole { (script : List Writer) → EachFrom (IsStarted script) 0 handles.entry.items
+        → result.stops.log_ended ≡ false → result.stops.memory ≡ false → result.stops.spent ≡ false
+        → EachFrom (HandedInAll H.Hand script) 0 result.hands.items }
 {
     let mut hands = hands;
     let mut stops = Stops::none();
@@ -99,7 +107,9 @@ pub(crate) fn join_writers<'s, R: Threads, H: Hand + Send + 's>(
 fn last_look(reader: Reader, told: Told, whole: bool, answered: u64, end: ReaderEnd) -> ReaderEnd
     requires index { told_index told ≡ index_of reader }
     requires whole { whole ≡ true → (view_of (told_of told)).answered ≡ answered }
-    ensures { (result ≡ ReaderEnd.NotSeen) ⊎ ((result ≡ end) × BeginsWith (told_of told) (known reader) × ((view_of (told_of told)).answered ≡ answered)) }
+    ensures { (result ≡ ReaderEnd.NotSeen)
+        ⊎ ((result ≡ end) × BeginsWith (told_of told) (known reader)
+        × ((view_of (told_of told)).answered ≡ answered)) }
 {
     let mut reader = reader;
     reader.learn(told);
@@ -125,9 +135,13 @@ pub(crate) fn join_readers<'s, R: Threads, W: Wait + Drop>(
 ) -> Vec<ReaderEnd>
     requires empty { ends.items ≡ [] }
     requires room { vec_len handles ≤ vec_capacity ends }
-    requires started { (statements : List ReaderStatement) × EachFrom (IsLooking (publisher_index publisher.now) statements) 0 handles.items }
+    requires started { (statements : List ReaderStatement)
+        × EachFrom (IsLooking (publisher_index publisher.now) statements) 0 handles.items }
     ensures count { vec_len result ≡ vec_len handles.entry }
-    ensures seen { (statements : List ReaderStatement) (history : History) → EachFrom (IsLooking (publisher_index publisher.now) statements) 0 handles.entry.items → IsWhole (published publisher.now) answered history → EachFrom (HasSeen history statements) 0 result.items }
+    ensures seen { (statements : List ReaderStatement) (history : History)
+        → EachFrom (IsLooking (publisher_index publisher.now) statements) 0 handles.entry.items
+        → IsWhole (published publisher.now) answered history
+        → EachFrom (HasSeen history statements) 0 result.items }
 {
     let whole = publisher.view().answered() == answered;
     let mut ends = ends;

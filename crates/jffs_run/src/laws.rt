@@ -2,45 +2,50 @@
 
 ghost use Rattle.jffs_run.specs.Heavy.{RunsHaveRoom, SpaceIsSure};
 ghost use Rattle.jffs_run.specs.Turns.{AnswersAreDurable, FailedStaysFailed, NoSpaceMeansNoRoom};
-ghost use Rattle.jffs_run.specs.Scanned.{RunsLeaveContents, FailedRunsLeaveHistory, RunsWithoutFaults};
+ghost use Rattle.jffs_run.specs.Scanned.{RunsLeaveContents, FailedRunsLeaveHistory};
+ghost use Rattle.jffs_run.specs.Scanned.{RunsWithoutFaults};
 ghost use Rattle.jffs_run.specs.Unmounted.{RunsEndUnmounted};
 
-/// What the contract of `run_threads` says of the core, said of the device: the answers are lawful for their requests,
-/// and a scan finds what the fresh nodes appended since the mount made. Where the device failed, but not in an erase,
-/// a scan finds that, or what the node of the request that was answered Device makes of it.
+/// What the contract of `run_threads` says of the core, said of the device: the answers are lawful
+/// for their requests, and a scan finds what the fresh nodes appended since the mount made. Where
+/// the device failed, but not in an erase, a scan finds that, or what the node of the request that
+/// was answered Device makes of it.
 pub fn runs_leave_contents()
     ensures works { RunsLeaveContents }
     ensures failed { FailedRunsLeaveHistory }
 {}
 
-/// What `run_threads` serves tells how the control's Unmount was answered: Closed, or refused for that cause. In both
-/// cases all commands of every writer were accepted.
+/// What `run_threads` serves tells how the control's Unmount was answered: Closed, or refused for
+/// that cause. In both cases all commands of every writer were accepted.
 pub fn runs_end_unmounted()
     ensures { RunsEndUnmounted }
 {}
 
-/// Where the device's count of faults is at the end of `run_threads` what it was at its beginning, nothing was answered
-/// Device or Failed, and a scan finds what the fresh nodes appended since the mount made.
+/// Where the device's count of faults is at the end of `run_threads` what it was at its beginning,
+/// nothing was answered Device or Failed, and a scan finds what the fresh nodes appended since the
+/// mount made.
 pub fn runs_without_faults()
     ensures { RunsWithoutFaults }
 {}
 
-/// From a mount on that found two sectors erased, up to the first answer Closed, Memory, VersionsSpent or Device: what
+/// From a mount on that found two sectors erased, up to the first answer Closed, Memory,
+/// VersionsSpent or Device: what
 /// `run_threads` answers NoSpace is no Unmount, and a fresh node only where the live records weigh
 /// (S - 4)(3Z/4 - 64) bytes when its request is taken.
 pub fn runs_have_room()
     ensures { RunsHaveRoom }
 {}
 
-/// From a mount on that found two sectors erased, up to the first answer Closed, Memory, VersionsSpent or Device: where
-/// the live records weigh less than (S - 4)(3Z/4 - 64) bytes, `run_threads` refuses a fresh node that the tree allows for
-/// want of memory, of versions or of a device that works, and for nothing else.
+/// From a mount on that found two sectors erased, up to the first answer Closed, Memory,
+/// VersionsSpent or Device: where the live records weigh less than (S - 4)(3Z/4 - 64) bytes,
+/// `run_threads` refuses a fresh node that the tree allows for want of memory, of versions or of a
+/// device that works, and for nothing else.
 pub fn space_is_sure()
     ensures { SpaceIsSure }
 {}
 
-/// What `run_threads` answers NoSpace had no room at that very turn: its node, the free bytes and the erased sectors
-/// are those when its request was taken.
+/// What `run_threads` answers NoSpace had no room at that very turn: its node, the free bytes and
+/// the erased sectors are those when its request was taken.
 pub fn no_space_means_no_room()
     ensures { NoSpaceMeansNoRoom }
 {}
@@ -50,8 +55,8 @@ pub fn failed_stays_failed()
     ensures { FailedStaysFailed }
 {}
 
-/// In a run whose device works to the end, a scan of the device as it is with any one answer finds what the fresh nodes
-/// up to there make: a loss of power after it loses nothing that was answered.
+/// In a run whose device works to the end, a scan of the device as it is with any one answer finds
+/// what the fresh nodes up to there make: a loss of power after it loses nothing that was answered.
 pub fn answers_are_durable()
     ensures { AnswersAreDurable }
 {}

@@ -1,8 +1,9 @@
 //! A run of a script in threads, from its text to the lines that tell what became of it.
 //!
 //! `run_threads` starts a thread for the log, one for each writer and each reader, and one for the
-//! cleaner where the script asks for it, and joins them all; `run_program` does all that the program
-//! does with a script, whatever its input and output are, and `run_called` what its words ask for.
+//! cleaner where the script asks for it, and joins them all; `run_program` does all that the
+//! program does with a script, whatever its input and output are, and `run_called` what its words
+//! ask for.
 //! It stands on `jffs_text` for texts, on `jffs_line` and `jffs_index` for what flows between the
 //! threads, and on `jffs_serve` for the log's side.
 #![tactic(auto)]

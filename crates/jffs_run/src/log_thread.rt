@@ -24,7 +24,8 @@ fn run_log<R: Wait, F: Flash, T: Taker, W: Wait + Drop>(
 ) -> LogEnd<F, T, W>
     requires ready { CanServe side.session side.publisher }
     ensures ends { T.ends result.side.taker ≡ T.ends side.taker }
-    ensures served { HasServed side.session side.publisher (T.taken side.taker) result.side.session result.side.publisher (T.taken result.side.taker) result.served }
+    ensures served { HasServed side.session side.publisher (T.taken side.taker) result.side.session
+        result.side.publisher (T.taken result.side.taker) result.served }
 {
     let LogSide {
         mut session,
@@ -75,7 +76,9 @@ pub(crate) fn start_log<
         promise,
         move || -> LogEnd<F, T, W>
             requires { CanServe side.session side.publisher }
-            ensures { (T.ends result.side.taker ≡ T.ends side.taker) × HasServed side.session side.publisher (T.taken side.taker) result.side.session result.side.publisher (T.taken result.side.taker) result.served }
+            ensures { (T.ends result.side.taker ≡ T.ends side.taker)
+                × HasServed side.session side.publisher (T.taken side.taker) result.side.session
+                result.side.publisher (T.taken result.side.taker) result.served }
         { run_log(rt, side, ended) },
     );
     started.ok()

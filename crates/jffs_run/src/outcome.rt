@@ -38,7 +38,14 @@ impl<F> Run<F, ()> {
 
     /// The same run, and besides what the hands had accepted.
     pub(crate) fn with_accepted<A>(self, accepted: A) -> Run<F, A>
-        ensures { result ≡ record { accepted = accepted; answers = self.answers; waiting = self.waiting; readers = self.readers; served = self.served; flash = self.flash } }
+        ensures { result ≡ record {
+          accepted = accepted;
+          answers = self.answers;
+          waiting = self.waiting;
+          readers = self.readers;
+          served = self.served;
+          flash = self.flash;
+        } }
     {
         let Run {
             accepted: (),

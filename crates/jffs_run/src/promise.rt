@@ -108,7 +108,8 @@ impl<F: Flash, T: Taker, W: Wait + Drop> Promise<LogEnd<F, T, W>> for Serves<F, 
 
     ghost kept_by = { λ p r.
         (T.ends r.side.taker ≡ T.ends p.side.value.taker)
-        × HasServed p.side.value.session p.side.value.publisher (T.taken p.side.value.taker) r.side.session r.side.publisher (T.taken r.side.taker) r.served };
+        × HasServed p.side.value.session p.side.value.publisher (T.taken p.side.value.taker)
+        r.side.session r.side.publisher (T.taken r.side.taker) r.served };
 }
 
 /// The log thread.

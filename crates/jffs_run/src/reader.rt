@@ -39,8 +39,8 @@ pub(crate) struct ReaderStop {
 }
 
 /// Looks until the awaited request is answered, and reads the path then. `NotSeen`: it looked
-/// too often, the session closed or the log thread ended without that answer, or the bytes could not
-/// be allocated.
+/// too often, the session closed or the log thread ended without that answer, or the bytes could
+/// not be allocated.
 pub(crate) fn run_reader<R: Wait>(
     rt: &R,
     alloc: Global,

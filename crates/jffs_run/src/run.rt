@@ -43,7 +43,9 @@ impl<'s, H: Hand> Reserved<'s, H> {
     ghost use Rattle.jffs_run.specs.Crew.{HasRoom};
 
     fn reserve(alloc: Global, writers: usize, readers: usize) -> Result<Reserved<'s, H>, AllocError>
-        ensures { IfOk result (λ reserved. HasRoom writers reserved.writers × HasRoom writers reserved.hands × HasRoom readers reserved.readers × HasRoom readers reserved.ends) }
+        ensures { IfOk result
+            (λ reserved. HasRoom writers reserved.writers × HasRoom writers reserved.hands
+            × HasRoom readers reserved.readers × HasRoom readers reserved.ends) }
     {
         Ok(Reserved {
             writers: Vec::with_capacity(alloc, writers)?,
@@ -78,10 +80,18 @@ fn run_in<
     requires crew { IsFit H.Hand script.now crew (publisher_index side.publisher) }
     requires ready { CanServe side.session side.publisher }
     ensures fault { IfErr result (λ fault. fault.flash ≡ None → fault.why ≡ RunWhy.Spawn) }
-    ensures hands { IfOk result (λ finished. HasHandedIn H.Hand script.entry.now.writers.items crew finished.hands) }
-    ensures readers { IfOk result (λ finished. (history : History) → IsWhole (published finished.log.side.publisher) (length finished.log.side.session.core.answers) history → HaveSeen history script.entry.now.readers.items finished.readers.items) }
+    ensures hands { IfOk result
+        (λ finished. HasHandedIn H.Hand script.entry.now.writers.items crew finished.hands) }
+    ensures readers { IfOk result
+        (λ finished. (history : History)
+        → IsWhole (published finished.log.side.publisher)
+        (length finished.log.side.session.core.answers) history
+        → HaveSeen history script.entry.now.readers.items finished.readers.items) }
     ensures ends { IfOk result (λ finished. T.ends finished.log.side.taker ≡ T.ends side.taker) }
-    ensures served { IfOk result (λ finished. HasServed side.session side.publisher (T.taken side.taker) finished.log.side.session finished.log.side.publisher (T.taken finished.log.side.taker) finished.log.served) }
+    ensures served { IfOk result
+        (λ finished. HasServed side.session side.publisher (T.taken side.taker)
+        finished.log.side.session finished.log.side.publisher (T.taken finished.log.side.taker)
+        finished.log.served) }
 {
     let Crew {
         writers,
@@ -158,8 +168,11 @@ fn ask_unmount<R: Wait, H: Hand>(
     ended: &Ended,
 ) -> Control<H>
     requires idle { H.accepted control.hand ≡ [] }
-    ensures end { (H.sender result.hand ≡ H.sender control.hand) × (H.line result.hand ≡ H.line control.hand) }
-    ensures asked { (H.accepted result.hand ≡ []) ⊎ ((log_ended ≡ false) × (H.accepted result.hand ≡ request (H.sender control.hand) 1 Unmount ∷ [])) }
+    ensures end { (H.sender result.hand ≡ H.sender control.hand)
+        × (H.line result.hand ≡ H.line control.hand) }
+    ensures asked { (H.accepted result.hand ≡ [])
+        ⊎ ((log_ended ≡ false)
+        × (H.accepted result.hand ≡ request (H.sender control.hand) 1 Unmount ∷ [])) }
 {
     let mut control = control;
     if !log_ended {
@@ -191,10 +204,18 @@ pub(crate) fn run_all<
     requires crew { IsFit H.Hand script.now crew (publisher_index side.publisher) }
     requires ready { CanServe side.session side.publisher }
     ensures fault { IfErr result (λ fault. fault.flash ≡ None → fault.why ≡ RunWhy.Spawn) }
-    ensures hands { IfOk result (λ finished. HasHandedIn H.Hand script.now.writers.items crew finished.hands) }
-    ensures readers { IfOk result (λ finished. (history : History) → IsWhole (published finished.log.side.publisher) (length finished.log.side.session.core.answers) history → HaveSeen history script.now.readers.items finished.readers.items) }
+    ensures hands { IfOk result
+        (λ finished. HasHandedIn H.Hand script.now.writers.items crew finished.hands) }
+    ensures readers { IfOk result
+        (λ finished. (history : History)
+        → IsWhole (published finished.log.side.publisher)
+        (length finished.log.side.session.core.answers) history
+        → HaveSeen history script.now.readers.items finished.readers.items) }
     ensures ends { IfOk result (λ finished. T.ends finished.log.side.taker ≡ T.ends side.taker) }
-    ensures served { IfOk result (λ finished. HasServed side.session side.publisher (T.taken side.taker) finished.log.side.session finished.log.side.publisher (T.taken finished.log.side.taker) finished.log.served) }
+    ensures served { IfOk result
+        (λ finished. HasServed side.session side.publisher (T.taken side.taker)
+        finished.log.side.session finished.log.side.publisher (T.taken finished.log.side.taker)
+        finished.log.served) }
 {
     let ended = Ended::new();
     let ended = &ended;
@@ -202,7 +223,8 @@ pub(crate) fn run_all<
         thread::scope_env(),
         rt,
         |scope| -> Result<Finished<H, F, T, W>, RunFault<F>>
-            requires { IsFit H.Hand script.now crew (publisher_index side.publisher) × CanServe side.session side.publisher }
+            requires { IsFit H.Hand script.now crew (publisher_index side.publisher)
+                × CanServe side.session side.publisher }
         { run_in(rt, scope, alloc, script, crew, side, gate, ended) },
     )
 }

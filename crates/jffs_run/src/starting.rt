@@ -1,6 +1,7 @@
 //! Starting the writers and the readers.
 
-ghost use Rattle.std.specs.Prelude.{◌≡◌, ◌≤◌, [], length, map, IfSome, IsTrue, vec_len, vec_capacity};
+ghost use Rattle.std.specs.Prelude.{◌≡◌, ◌≤◌, [], length, map, IfSome, IsTrue, vec_len};
+ghost use Rattle.std.specs.Prelude.{vec_capacity};
 ghost use Rattle.std.specs.List.{All};
 ghost use Rattle.jffs_index.specs.declared.rule.Index.{Index};
 ghost use Rattle.jffs_index.specs.Ends.{index_of, known};
@@ -40,7 +41,9 @@ fn start_writer<'s, E, R: Wait + Sync, H: Hand + Send + 's, G: Gate + Sync>(
     ended: &'s Ended,
 ) -> Option<WriterHandle<'s, H>>
     requires fresh { H.accepted hand ≡ [] }
-    ensures { IfSome result (λ handle. (handle.promise.hand.value ≡ hand) × (handle.promise.commands.now ≡ commands.entry.now)) }
+    ensures { IfSome result
+        (λ handle. (handle.promise.hand.value ≡ hand)
+        × (handle.promise.commands.now ≡ commands.entry.now)) }
 {
     let promise = Writes {
         hand: Snapshot::of(&hand),
@@ -50,7 +53,8 @@ fn start_writer<'s, E, R: Wait + Sync, H: Hand + Send + 's, G: Gate + Sync>(
         promise,
         move || -> WriterEnd<H>
             requires { H.accepted hand ≡ [] }
-            ensures { (H.sender result.hand ≡ H.sender hand) × (H.line result.hand ≡ H.line hand) × Wrote (H.sender hand) commands.entry.now (H.accepted result.hand) result.stop }
+            ensures { (H.sender result.hand ≡ H.sender hand) × (H.line result.hand ≡ H.line hand)
+                × Wrote (H.sender hand) commands.entry.now (H.accepted result.hand) result.stop }
         { run_writer(rt, alloc, number, hand, commands, gate, ended) },
     );
     started.ok()
@@ -74,7 +78,8 @@ pub(crate) fn start_writers<'s, E, R: Wait + Sync, H: Hand + Send + 's, G: Gate 
     requires few { vec_len hands ≤ 8 }
     ensures started { EachFrom (IsStarted writers.entry.now) 0 result.handles.items }
     ensures count { vec_len result.handles ≤ vec_len hands }
-    ensures all { IsTrue result.all → map (end_given H.Hand) result.handles.items ≡ map (end_of H.Hand) hands.items }
+    ensures all { IsTrue result.all
+        → map (end_given H.Hand) result.handles.items ≡ map (end_of H.Hand) hands.items }
 {
     let mut handles = handles;
     let mut number = 0;
@@ -101,7 +106,9 @@ fn start_reader<'s, E, R: Wait + Sync>(
     statement: &'s ReaderStatement,
     ended: &'s Ended,
 ) -> Option<ReaderHandle<'s>>
-    ensures { IfSome result (λ handle. (handle.promise.reader.value ≡ reader) × (handle.promise.statement.now ≡ statement.entry.now)) }
+    ensures { IfSome result
+        (λ handle. (handle.promise.reader.value ≡ reader)
+        × (handle.promise.statement.now ≡ statement.entry.now)) }
 {
     let promise = Looks {
         reader: Snapshot::of(&reader),
@@ -110,7 +117,8 @@ fn start_reader<'s, E, R: Wait + Sync>(
     let started = scope.spawn_with(
         promise,
         move || -> ReaderStop
-            ensures { (index_of result.reader ≡ index_of reader) × FitsView (view_of (known result.reader)) statement.entry.now result.end }
+            ensures { (index_of result.reader ≡ index_of reader)
+                × FitsView (view_of (known result.reader)) statement.entry.now result.end }
         { run_reader(rt, alloc, reader, statement, ended) },
     );
     started.ok()
@@ -129,7 +137,8 @@ pub(crate) fn start_readers<'s, E, R: Wait + Sync>(
     requires empty { handles.items ≡ [] }
     requires room { vec_len readers ≤ vec_capacity handles }
     requires count { vec_len readers ≡ length statements.now }
-    ensures started { (index : Index) → All (λ reader. index_of reader ≡ index) readers.items → EachFrom (IsLooking index statements.entry.now) 0 result.handles.items }
+    ensures started { (index : Index) → All (λ reader. index_of reader ≡ index) readers.items
+        → EachFrom (IsLooking index statements.entry.now) 0 result.handles.items }
     ensures count { vec_len result.handles ≤ vec_len readers }
     ensures all { IsTrue result.all → vec_len result.handles ≡ vec_len readers }
 {

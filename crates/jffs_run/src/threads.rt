@@ -1,6 +1,7 @@
 //! A run of a script in threads.
 
-ghost use Rattle.std.specs.Prelude.{◌≡◌, ◌+◌, ℕ, [], ◌++◌, map, false, IfOk, IfErr, None, vec_len, Contains};
+ghost use Rattle.std.specs.Prelude.{◌≡◌, ◌+◌, ℕ, [], ◌++◌, map, false, IfOk, IfErr, None, vec_len};
+ghost use Rattle.std.specs.Prelude.{Contains};
 ghost use Rattle.std.specs.List.{All};
 ghost use Rattle.jffs_index.specs.Histories.{opening_of};
 ghost use Rattle.jffs_index.specs.Ends.{published, pending, publisher_index, index_of};
@@ -54,9 +55,13 @@ fn open<W: Wait + Drop, F: Flash>(
     core: &Core<F>,
     readers: usize,
 ) -> Result<Opened<W>, RunWhy>
-    ensures published { IfOk result (λ opened. (published opened.publisher ≡ opening_of core.now.tree) × (pending opened.publisher ≡ [])) }
+    ensures published { IfOk result
+        (λ opened. (published opened.publisher ≡ opening_of core.now.tree)
+        × (pending opened.publisher ≡ [])) }
     ensures count { IfOk result (λ opened. vec_len opened.readers ≡ readers) }
-    ensures looking { IfOk result (λ opened. All (λ reader. index_of reader ≡ publisher_index opened.publisher) opened.readers.items) }
+    ensures looking { IfOk result
+        (λ opened. All (λ reader. index_of reader ≡ publisher_index opened.publisher)
+        opened.readers.items) }
 {
     if readers >= READERS_MAX {
         return Err(RunWhy::Index);
@@ -86,10 +91,13 @@ fn run_over<R: Threads + Wait + Sync, F: Flash + Send + Drop, T: Settle + Send, 
 ) -> Result<Accounted<F, T::Of>, RunFault<F>>
 where
     T::Of: Send,
-    requires line { IsNewLine T.Of.Hand (T.ends line.taker) (T.taken line.taker) line.hands (vec_len script.now.writers) }
+    requires line { IsNewLine T.Of.Hand (T.ends line.taker) (T.taken line.taker) line.hands
+        (vec_len script.now.writers) }
     requires core { (core.answers ≡ []) × (core.closed ≡ false) }
     ensures fault { IfErr result (λ fault. fault.flash ≡ None → fault.why ≡ RunWhy.Spawn) }
-    ensures run { IfOk result (λ r. IsRun core (account_of F.Flash script.now (λ sender. accepted_by T.Of.Hand sender (all_hands T.Of.Hand r.0.value)) r.1)) }
+    ensures run { IfOk result
+        (λ r. IsRun core (account_of F.Flash script.now
+        (λ sender. accepted_by T.Of.Hand sender (all_hands T.Of.Hand r.0.value)) r.1)) }
 {
     let Opened {
         publisher,
@@ -130,13 +138,23 @@ fn settle_all<R: Wait, F: Flash + Drop, T: Settle, W: Wait + Drop>(
     alloc: Global,
     finished: Finished<T::Of, F, T, W>,
 ) -> Result<Run<F, ()>, RunFault<F>>
-    requires ends { T.ends finished.log.side.taker ≡ map (end_of T.Of.Hand) (all_hands T.Of.Hand finished.hands) }
+    requires ends { T.ends finished.log.side.taker
+        ≡ map (end_of T.Of.Hand) (all_hands T.Of.Hand finished.hands) }
     ensures fault { IfErr result (λ fault. fault.flash ≡ None → fault.why ≡ RunWhy.Spawn) }
-    ensures rest { IfOk result (λ run. (run.answers.items ≡ finished.log.side.session.core.answers) × (run.readers ≡ finished.readers) × (run.served ≡ finished.log.served)) }
-    ensures settled { IfOk result (λ run. All (λ h. T.taken finished.log.side.taker (T.Of.sender h) ++ of (T.Of.sender h) run.waiting.items ≡ T.Of.accepted h) (all_hands T.Of.Hand finished.hands)) }
-    ensures left { IfOk result (λ run. IsLeftBy finished.log.side.session.core (F.device run.flash)) }
-    ensures numbered { IfOk result (λ _. All (λ h. IsNumbered (T.Of.accepted h)) (all_hands T.Of.Hand finished.hands)) }
-    ensures others { IfOk result (λ run. (w : ℕ) → ¬ (Contains (map T.Of.sender (all_hands T.Of.Hand finished.hands)) w) → T.taken finished.log.side.taker w ++ of w run.waiting.items ≡ []) }
+    ensures rest { IfOk result
+        (λ run. (run.answers.items ≡ finished.log.side.session.core.answers)
+        × (run.readers ≡ finished.readers) × (run.served ≡ finished.log.served)) }
+    ensures settled { IfOk result
+        (λ run. All (λ h. T.taken finished.log.side.taker (T.Of.sender h)
+        ++ of (T.Of.sender h) run.waiting.items ≡ T.Of.accepted h)
+        (all_hands T.Of.Hand finished.hands)) }
+    ensures left { IfOk result
+        (λ run. IsLeftBy finished.log.side.session.core (F.device run.flash)) }
+    ensures numbered { IfOk result
+        (λ _. All (λ h. IsNumbered (T.Of.accepted h)) (all_hands T.Of.Hand finished.hands)) }
+    ensures others { IfOk result
+        (λ run. (w : ℕ) → ¬ (Contains (map T.Of.sender (all_hands T.Of.Hand finished.hands)) w)
+        → T.taken finished.log.side.taker w ++ of w run.waiting.items ≡ []) }
 {
     let Finished {
         hands,
@@ -171,7 +189,9 @@ pub fn run_threads<R: Threads + Wait + Sync, F: Flash + Send + Drop, G: Gate + S
     gate: &G,
 ) -> Result<Run<F>, RunFault<F>>
     ensures fault { IfErr result (λ fault. fault.flash ≡ None → fault.why ≡ RunWhy.Spawn) }
-    ensures run { IfOk result (λ run. (start : CoreState) × IsFresh (F.device flash) start × IsRun start (account_of F.Flash script.now (accepted_of run.accepted) run)) }
+    ensures run { IfOk result
+        (λ run. (start : CoreState) × IsFresh (F.device flash) start
+        × IsRun start (account_of F.Flash script.now (accepted_of run.accepted) run)) }
 {
     let core = match Core::mount(alloc, flash) {
         Ok(core) => core,
@@ -192,7 +212,8 @@ fn run_mounted<R: Threads + Wait + Sync, F: Flash + Send + Drop, G: Gate + Sync>
 ) -> Result<Run<F>, RunFault<F>>
     requires core { (core.answers ≡ []) × (core.closed ≡ false) }
     ensures fault { IfErr result (λ fault. fault.flash ≡ None → fault.why ≡ RunWhy.Spawn) }
-    ensures run { IfOk result (λ run. IsRun core (account_of F.Flash script.now (accepted_of run.accepted) run)) }
+    ensures run { IfOk result
+        (λ run. IsRun core (account_of F.Flash script.now (accepted_of run.accepted) run)) }
 {
     let writers = script.writers.len();
     if writers > WRITERS_MAX {

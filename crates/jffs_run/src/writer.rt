@@ -65,7 +65,10 @@ pub(crate) fn offer_until<R: Wait, H: Hand>(
     ended: &Ended,
 ) -> Offered
     ensures end { (H.sender hand.new ≡ H.sender hand.old) × (H.line hand.new ≡ H.line hand.old) }
-    ensures accepted { result ≡ Offered.Accepted → H.accepted hand.new ≡ H.accepted hand.old ++ request (H.sender hand.old) (length (H.accepted hand.old) + 1) wish ∷ [] }
+    ensures accepted { result ≡ Offered.Accepted
+        → H.accepted hand.new
+        ≡ H.accepted hand.old
+        ++ request (H.sender hand.old) (length (H.accepted hand.old) + 1) wish ∷ [] }
     ensures refused { result ≢ Offered.Accepted → H.accepted hand.new ≡ H.accepted hand.old }
 {
     let mut pauses = Pauses::up_to(SLEEP_MAX);

@@ -13,4 +13,5 @@ IsCopy _ = ⊥
 -- `count` requests were accepted since, and each asks for a copy
 abbrev pub HandsInCopies : List Request → List Request → ℕ → Type 0
 HandsInCopies before now count =
-    (more : List Request) × (now ≡ before ++ more) × AllByRecursion (λ (r : Request). IsCopy r.wish) more × (count ≡ length more)
+    (more : List Request) × (now ≡ before ++ more)
+    × AllByRecursion (λ (r : Request). IsCopy r.wish) more × (count ≡ length more)

@@ -11,9 +11,17 @@ use Rattle.jffs_serve.specs.declared.copies.Copying.{Copying}
 abbrev pub copying_as : ℕ → NewNode → Option Copying
 copying_as source n = elim n.name as (λ _. Option Copying) [
   | None ↦ None
-  | Some name ↦ Some (record { source = source; parent = n.parent; name = name; offset = n.offset; bytes = n.bytes })
+  | Some name ↦ Some (record {
+    source = source;
+    parent = n.parent;
+    name = name;
+    offset = n.offset;
+    bytes = n.bytes;
+  })
 ]
 
 -- the copy of a node that lives in the tree: what cleaning would copy there now
 abbrev pub copy_in : Tree → Node → Option Copying
-copy_in tree n = if holds_version tree n.inode n.version then copying_as n.version (cleaning_copy (state_in tree) n) else None
+copy_in tree n =
+    if holds_version tree n.inode n.version
+    then copying_as n.version (cleaning_copy (state_in tree) n) else None

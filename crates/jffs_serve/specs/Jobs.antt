@@ -11,4 +11,5 @@ IsDue core sent_at = (wants_cleaning core ≡ true) × (sent_at ≢ Some core.in
 
 -- one image more, that of the oldest sector
 abbrev pub SendsOldest : CoreState → List (Vec ℕ) → List (Vec ℕ) → Type 0
-SendsOldest core before now = (image : Vec ℕ) × (now ≡ before ++ image ∷ []) × (image.items ≡ sector_bytes core.index.sector_size core.index.first core.image)
+SendsOldest core before now = (image : Vec ℕ) × (now ≡ before ++ image ∷ [])
+    × (image.items ≡ sector_bytes core.index.sector_size core.index.first core.image)

@@ -23,12 +23,14 @@ answer_in r = record { writer = r.step.writer; seq = r.step.seq; outcome = r.ste
 
 -- the step has the request's sender and number, and a node where one was appended
 abbrev pub Replies : Reply → Type 0
-Replies r = (r.step.writer ≡ r.request.writer) × (r.step.seq ≡ r.request.seq) × HasNode r.step.outcome r.step.node
+Replies r = (r.step.writer ≡ r.request.writer) × (r.step.seq ≡ r.request.seq)
+    × HasNode r.step.outcome r.step.node
 
 -- each step replies to its request, and none stands after one that closed the session
 abbrev pub AllReply : List Reply → Type 0
 AllReply [] = Unit {0}
-AllReply (r ∷ replies) = Replies r × (is_closed r.step.outcome ≡ true → replies ≡ []) × AllReply replies
+AllReply (r ∷ replies) =
+    Replies r × (is_closed r.step.outcome ≡ true → replies ≡ []) × AllReply replies
 
 -- the last of them refuses an Unmount for this cause
 abbrev pub RefusesUnmount : List Reply → Cause → Type 0
@@ -40,7 +42,8 @@ RefusesUnmount (r ∷ q ∷ replies) cause = RefusesUnmount (q ∷ replies) caus
 abbrev pub any_closed : List Answer → Bool
 any_closed answers = list_any (λ (a : Answer). is_closed a.outcome) answers
 
--- Closed is served only where an Unmount was answered Closed, NotClosed only where the last answer refused one for that cause
+-- Closed is served only where an Unmount was answered Closed, NotClosed only where the last answer
+-- refused one for that cause
 abbrev pub FitsServed : Served → Bool → List Reply → Type 0
 FitsServed served.Closed closed replies = closed ≡ true
 FitsServed (served.NotClosed cause) closed replies = RefusesUnmount replies cause

@@ -18,11 +18,13 @@ ShowsCore tree core = core.failed ≡ false → state_in tree ≡ state_in core.
 -- what was put shows the core, once the unsent step is put too; and that step may be put
 abbrev pub IsShown : Option PendingStep → Shown → CoreState → Type 0
 IsShown None shown core = ShowsCore shown.tree core
-IsShown (Some (Unput step ending)) shown core = (fits shown step ≡ true) × ShowsCore (after_step shown step).tree core
+IsShown (Some (Unput step ending)) shown core =
+    (fits shown step ≡ true) × ShowsCore (after_step shown step).tree core
 IsShown (Some (Unpublished ending)) shown core = ShowsCore shown.tree core
 
 module _ {F W : Type 0} where
-  -- A session can be served over a publisher: no step waits to be published that the session doesn't know of, and what was put shows the core.
+  -- A session can be served over a publisher: no step waits to be published that the session
+  -- doesn't know of, and what was put shows the core.
   pub record CanServe (session : Session F) (publisher : Publisher W) : Type 0 where
     pub ready : IsReady session.unsent (pending publisher)
     pub shown : IsShown session.unsent (view_of (all_put publisher)) session.core

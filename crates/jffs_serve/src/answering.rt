@@ -12,7 +12,8 @@ use jffs_line::Request;
 use jffs_tree::Outcome;
 
 impl<F: Flash> Session<F> {
-    ghost use Rattle.std.specs.Prelude.{◌≡◌, ◌≢◌, ◌<◌, ℕ, List, [], ◌∷◌, ◌++◌, ◌⊎◌, true, false, Some, None, length};
+    ghost use Rattle.std.specs.Prelude.{◌≡◌, ◌≢◌, ◌<◌, ℕ, List, [], ◌∷◌, ◌++◌, ◌⊎◌, true, false};
+    ghost use Rattle.std.specs.Prelude.{Some, None, length};
     ghost use Rattle.jffs_index.specs.declared.step.Step.{Step};
     ghost use Rattle.jffs_line.specs.declared.request.Request.{Request};
     ghost use Rattle.jffs_line.specs.Requests.{of};
@@ -30,9 +31,12 @@ impl<F: Flash> Session<F> {
         requires reserved { length self.old.core.answers < self.old.core.capacity }
         requires opened { self.old.core.closed ≡ false }
         requires sent { self.old.unsent ≡ None }
-        ensures replies { (put : List Step) (before now : ℕ → List Request) → ((w : ℕ) → now w ≡ before w ++ of w (request ∷ [])) → RepliesMore self.old put before self.new put now None }
+        ensures replies { (put : List Step) (before now : ℕ → List Request)
+            → ((w : ℕ) → now w ≡ before w ++ of w (request ∷ []))
+            → RepliesMore self.old put before self.new put now None }
         ensures ready { IsReady self.new.unsent [] }
-        ensures shown { (shown : Shown) → ShowsCore shown.tree self.old.core → IsShown self.new.unsent shown self.new.core }
+        ensures shown { (shown : Shown) → ShowsCore shown.tree self.old.core
+            → IsShown self.new.unsent shown self.new.core }
     {
         let unmounts = request.wish.is_unmount();
         let writer = request.writer;
@@ -52,7 +56,8 @@ impl<F: Flash> Session<F> {
         requires put { unput self.old.unsent ≡ [] }
         ensures unsent { self.new.unsent ≡ None }
         ensures core { self.new.core ≡ self.old.core }
-        ensures replies { (put : List Step) (taken : ℕ → List Request) → RepliesMore self.old put taken self.new put taken result }
+        ensures replies { (put : List Step) (taken : ℕ → List Request)
+            → RepliesMore self.old put taken self.new put taken result }
     {
         match self.unsent.take() {
             Some(PendingStep::Unput(_, ending)) => ending,
@@ -61,7 +66,8 @@ impl<F: Flash> Session<F> {
         }
     }
 
-    /// Erases dead sectors, unless the device failed or the session is closed, and perhaps sends a job.
+    /// Erases dead sectors, unless the device failed or the session is closed, and perhaps sends a
+    /// job.
     pub(crate) fn tidy(&mut self, jobs: &mut Jobs)
         ensures replies { HasSameReplies self.old self.new }
         ensures tree { KeepsTree self.old.core self.new.core }
@@ -83,13 +89,16 @@ impl<F: Flash> Session<F> {
     }
 
     /// Sends the image of the oldest sector where a cleaner is wanted and has not had it yet. No
-    /// job is sent where an allocation or the read fails, or the ring is full; after a failed read the
-    /// core is failed.
+    /// job is sent where an allocation or the read fails, or the ring is full; after a failed read
+    /// the core is failed.
     fn send_job(&mut self, jobs: &mut Jobs)
         ensures replies { HasSameReplies self.old self.new }
         ensures tree { KeepsTree self.old.core self.new.core }
-        ensures job { ((sent jobs.new.producer ≡ sent jobs.old.producer) × (self.new.sent_at ≡ self.old.sent_at))
-            ⊎ (IsDue self.old.core self.old.sent_at × (self.new.sent_at ≡ Some self.old.core.index.erases) × SendsOldest self.old.core (sent jobs.old.producer) (sent jobs.new.producer)) }
+        ensures job { ((sent jobs.new.producer ≡ sent jobs.old.producer)
+            × (self.new.sent_at ≡ self.old.sent_at))
+            ⊎ (IsDue self.old.core self.old.sent_at
+            × (self.new.sent_at ≡ Some self.old.core.index.erases)
+            × SendsOldest self.old.core (sent jobs.old.producer) (sent jobs.new.producer)) }
     {
         let erases = self.core.log().erases();
         if !self.is_due(erases) || jobs.is_full() {
@@ -104,7 +113,8 @@ impl<F: Flash> Session<F> {
 
     /// Whether a cleaner is wanted, and no job was sent since there were `erases` erases.
     fn is_due(&self, erases: u64) -> bool
-        ensures { result ≡ true → (wants_cleaning self.now.core ≡ true) × (self.now.sent_at ≢ Some erases) }
+        ensures { result ≡ true
+            → (wants_cleaning self.now.core ≡ true) × (self.now.sent_at ≢ Some erases) }
     {
         self.core.wants_cleaning() && self.sent_at != Some(erases)
     }

@@ -37,8 +37,8 @@ struct Found {
     copies: Vec<Copying>,
 }
 
-/// At most `limit` rounds, until the session is closed. In each it looks for an image, and hands in a
-/// copy for every record there that still lives. A round without an image ends with a pause.
+/// At most `limit` rounds, until the session is closed. In each it looks for an image, and hands in
+/// a copy for every record there that still lives. A round without an image ends with a pause.
 pub fn clean_loop<R: Wait, H: Hand>(
     rt: &R,
     alloc: Global,
@@ -49,7 +49,8 @@ pub fn clean_loop<R: Wait, H: Hand>(
 ) -> CleanerEnd
     ensures copies { HandsInCopies (H.accepted hand.old) (H.accepted hand.new) result.handed_in }
     ensures end { (H.sender hand.new ≡ H.sender hand.old) × (H.line hand.new ≡ H.line hand.old) }
-    ensures reader { (index_of reader.new ≡ index_of reader.old) × BeginsWith (known reader.new) (known reader.old) }
+    ensures reader { (index_of reader.new ≡ index_of reader.old)
+        × BeginsWith (known reader.new) (known reader.old) }
 {
     clean_until(rt, alloc, jobs, reader, hand, limit, &Ended::new())
 }
@@ -66,7 +67,8 @@ pub fn clean_until<R: Wait, H: Hand>(
 ) -> CleanerEnd
     ensures copies { HandsInCopies (H.accepted hand.old) (H.accepted hand.new) result.handed_in }
     ensures end { (H.sender hand.new ≡ H.sender hand.old) × (H.line hand.new ≡ H.line hand.old) }
-    ensures reader { (index_of reader.new ≡ index_of reader.old) × BeginsWith (known reader.new) (known reader.old) }
+    ensures reader { (index_of reader.new ≡ index_of reader.old)
+        × BeginsWith (known reader.new) (known reader.old) }
 {
     let mut pauses = Pauses::up_to(IDLE_SLEEP_MAX);
     let mut end = CleanerEnd { handed_in: 0 };
@@ -116,7 +118,9 @@ fn hand_in_all<R: Wait, H: Hand>(
     end: &mut CleanerEnd,
 )
     requires counted { end.old.handed_in ≤ length (H.accepted hand.old) }
-    ensures copies { (before : List Request) → HandsInCopies before (H.accepted hand.old) end.old.handed_in → HandsInCopies before (H.accepted hand.new) end.new.handed_in }
+    ensures copies { (before : List Request)
+        → HandsInCopies before (H.accepted hand.old) end.old.handed_in
+        → HandsInCopies before (H.accepted hand.new) end.new.handed_in }
     ensures counted { end.new.handed_in ≤ length (H.accepted hand.new) }
     ensures end { (H.sender hand.new ≡ H.sender hand.old) × (H.line hand.new ≡ H.line hand.old) }
 {
@@ -130,7 +134,9 @@ fn hand_in_all<R: Wait, H: Hand>(
 /// Offers a copy, again and again while the line is full, up to `TRIES` times or until the log
 /// thread has ended. Answers its number where it was accepted.
 fn hand_in<R: Wait, H: Hand>(rt: &R, hand: &mut H, copy: Copying, ended: &Ended) -> Option<u32>
-    ensures accepted { IfSome result (λ seq. (seq ≡ length (H.accepted hand.new)) × HandsInCopies (H.accepted hand.old) (H.accepted hand.new) 1) }
+    ensures accepted { IfSome result
+        (λ seq. (seq ≡ length (H.accepted hand.new))
+        × HandsInCopies (H.accepted hand.old) (H.accepted hand.new) 1) }
     ensures refused { IfNone result (H.accepted hand.new ≡ H.accepted hand.old) }
     ensures end { (H.sender hand.new ≡ H.sender hand.old) × (H.line hand.new ≡ H.line hand.old) }
 {

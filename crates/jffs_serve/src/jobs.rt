@@ -43,8 +43,10 @@ impl Jobs {
     /// Adds an image at the end of the ring. A full ring hands it back, and nothing is changed.
     /// Takes no memory.
     pub fn send(&mut self, image: Vec<u8>) -> Result<(), Vec<u8>>
-        ensures added { OnOk result (sent self.new.producer ≡ sent self.old.producer ++ image ∷ []) }
-        ensures full { IfErr result (λ back. (back ≡ image) × (sent self.new.producer ≡ sent self.old.producer)) }
+        ensures added { OnOk result
+            (sent self.new.producer ≡ sent self.old.producer ++ image ∷ []) }
+        ensures full { IfErr result
+            (λ back. (back ≡ image) × (sent self.new.producer ≡ sent self.old.producer)) }
     {
         match self.producer.push(image) {
             Ok(()) => Ok(()),
@@ -66,7 +68,8 @@ impl JobEnd {
 
     /// Takes the image that was sent first. Takes no memory.
     pub(crate) fn take(&mut self) -> Option<Vec<u8>>
-        ensures some { IfSome result (λ image. received self.new.consumer ≡ received self.old.consumer ++ image ∷ []) }
+        ensures some { IfSome result
+            (λ image. received self.new.consumer ≡ received self.old.consumer ++ image ∷ []) }
         ensures none { IfNone result (received self.new.consumer ≡ received self.old.consumer) }
     {
         self.consumer.pop().ok()

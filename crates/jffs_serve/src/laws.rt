@@ -1,6 +1,8 @@
 //! Laws over the definitions. The functions do nothing: their contracts are the laws.
 
-ghost use Rattle.jffs_serve.specs.ChainLaws.{ChainsEndSo, ChainsSplit, FailedAnswersFailed, FailuresAreFaults, NoSpaceIsHeavy, NoRoomAtTheTurn, RepliesAreLawful, UnmountsHaveSpace};
+ghost use Rattle.jffs_serve.specs.ChainLaws.{ChainsEndSo, ChainsSplit, FailedAnswersFailed};
+ghost use Rattle.jffs_serve.specs.ChainLaws.{FailuresAreFaults, NoSpaceIsHeavy, NoRoomAtTheTurn};
+ghost use Rattle.jffs_serve.specs.ChainLaws.{RepliesAreLawful, UnmountsHaveSpace};
 
 /// The answers of a session are a lawful run of the requests.
 pub fn replies_are_lawful()
@@ -15,8 +17,8 @@ pub fn sessions_are_chains()
     ensures splits { ChainsSplit }
 {}
 
-/// At each turn: a request is answered NoSpace only where its node has no room then, and once a core
-/// has failed each answer is Failed.
+/// At each turn: a request is answered NoSpace only where its node has no room then, and once a
+/// core has failed each answer is Failed.
 pub fn turns_are_real()
     ensures no_space { NoRoomAtTheTurn }
     ensures failed { FailedAnswersFailed }

@@ -3,7 +3,8 @@
 //!
 //! It stands on `jffs_core` for answers, on `jffs_line` for requests, and on `jffs_index` for what
 //! readers see. `serve` carries the promise: each request that is taken is answered once, in the
-//! order in which it was taken, and each answer is published, also where memory is refused on the way.
+//! order in which it was taken, and each answer is published, also where memory is refused on the
+//! way.
 //! The answers are a lawful run of the requests, with no node between them, and the core
 //! represents the history after them.
 #![tactic(auto)]

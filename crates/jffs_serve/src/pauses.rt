@@ -8,8 +8,8 @@ use std::time::Duration;
 /// The first sleep, in microseconds.
 const SLEEP_MIN: u64 = 50;
 
-/// Each sleep is longer than the one before by the part of it that this divides off. So what is waited for is seen late
-/// by no more than that part of the wait.
+/// Each sleep is longer than the one before by the part of it that this divides off. So what is
+/// waited for is seen late by no more than that part of the wait.
 const GROWTH: u64 = 8;
 
 /// The word of an `Ended` before it is told.

@@ -36,8 +36,10 @@ pub fn serve<R: Wait, W: Wait + Drop, F: Flash, T: Taker>(
 ) -> Served
     requires ready { CanServe session.old publisher.old }
     ensures ready { CanServe session.new publisher.new }
-    ensures replies { RepliesMore session.old (all_put publisher.old).steps (T.taken taker.old) session.new (all_put publisher.new).steps (T.taken taker.new) (Some result) }
-    ensures published { result ≢ Served.Memory → (session.new.unsent ≡ None) × (pending publisher.new ≡ []) }
+    ensures replies { RepliesMore session.old (all_put publisher.old).steps (T.taken taker.old)
+        session.new (all_put publisher.new).steps (T.taken taker.new) (Some result) }
+    ensures published { result ≢ Served.Memory
+        → (session.new.unsent ≡ None) × (pending publisher.new ≡ []) }
     ensures ends { T.ends taker.new ≡ T.ends taker.old }
     ensures index { publisher_index publisher.new ≡ publisher_index publisher.old }
     ensures opening { (all_put publisher.new).opening ≡ (all_put publisher.old).opening }
@@ -65,10 +67,14 @@ fn answer_next<R: Wait, F: Flash, T: Taker>(
     taker: &mut T,
 ) -> Result<(), Served>
     ensures replies { (put : List Step) → MatchResult result
-        (λ _. RepliesMore session.old put (T.taken taker.old) session.new put (T.taken taker.new) None)
-        (λ served. RepliesMore session.old put (T.taken taker.old) session.new put (T.taken taker.new) (Some served)) }
-    ensures ready { (pending : List Step) → IsReady session.old.unsent pending → IsReady session.new.unsent pending }
-    ensures shown { (shown : Shown) → IsShown session.old.unsent shown session.old.core → IsShown session.new.unsent shown session.new.core }
+        (λ _. RepliesMore session.old put (T.taken taker.old) session.new put (T.taken taker.new)
+        None)
+        (λ served. RepliesMore session.old put (T.taken taker.old) session.new put
+        (T.taken taker.new) (Some served)) }
+    ensures ready { (pending : List Step) → IsReady session.old.unsent pending
+        → IsReady session.new.unsent pending }
+    ensures shown { (shown : Shown) → IsShown session.old.unsent shown session.old.core
+        → IsShown session.new.unsent shown session.new.core }
     ensures unsent { OnErr result ((session.old.unsent ≡ None) × (session.new.unsent ≡ None)) }
     ensures ends { T.ends taker.new ≡ T.ends taker.old }
 {
@@ -99,8 +105,10 @@ fn send_pending<F: Flash, W: Wait + Drop>(
     requires ready { CanServe session.old publisher.old }
     ensures ready { CanServe session.new publisher.new }
     ensures replies { (taken : ℕ → List Request) → MatchResult result
-        (λ ending. RepliesMore session.old (all_put publisher.old).steps taken session.new (all_put publisher.new).steps taken ending)
-        (λ _. RepliesMore session.old (all_put publisher.old).steps taken session.new (all_put publisher.new).steps taken None) }
+        (λ ending. RepliesMore session.old (all_put publisher.old).steps taken session.new
+        (all_put publisher.new).steps taken ending)
+        (λ _. RepliesMore session.old (all_put publisher.old).steps taken session.new
+        (all_put publisher.new).steps taken None) }
     ensures sent { OnOk result ((session.new.unsent ≡ None) × (pending publisher.new ≡ [])) }
     ensures index { publisher_index publisher.new ≡ publisher_index publisher.old }
     ensures opening { (all_put publisher.new).opening ≡ (all_put publisher.old).opening }
@@ -119,7 +127,9 @@ fn put_pending<F: Flash, W: Wait + Drop>(
 ) -> Result<(), NoMemory>
     requires ready { CanServe session.old publisher.old }
     ensures ready { CanServe session.new publisher.new }
-    ensures replies { (taken : ℕ → List Request) → RepliesMore session.old (all_put publisher.old).steps taken session.new (all_put publisher.new).steps taken None }
+    ensures replies { (taken : ℕ → List Request)
+        → RepliesMore session.old (all_put publisher.old).steps taken session.new
+        (all_put publisher.new).steps taken None }
     ensures put { OnOk result (unput session.new.unsent ≡ []) }
     ensures index { publisher_index publisher.new ≡ publisher_index publisher.old }
     ensures opening { (all_put publisher.new).opening ≡ (all_put publisher.old).opening }

@@ -1,7 +1,11 @@
 -- The names of causes.
 use Rattle.std.specs.Prelude.{ℕ, List, codes}
 use Rattle.jffs_tree.specs.declared.wish.Cause.{Cause}
-use Rattle.jffs_tree.specs.declared.wish.Cause.TheVariants.{RootFixed, NoParent, NameTaken, NotFound, IsDirectory, DataLong, FileLong, NotEmpty, NotNeeded, Stale, InodesSpent, VersionsSpent, Memory, NoSpace, Device, Failed}
+use Rattle.jffs_tree.specs.declared.wish.Cause.TheVariants.{RootFixed, NoParent, NameTaken}
+use Rattle.jffs_tree.specs.declared.wish.Cause.TheVariants.{NotFound, IsDirectory, DataLong}
+use Rattle.jffs_tree.specs.declared.wish.Cause.TheVariants.{FileLong, NotEmpty, NotNeeded, Stale}
+use Rattle.jffs_tree.specs.declared.wish.Cause.TheVariants.{InodesSpent, VersionsSpent, Memory}
+use Rattle.jffs_tree.specs.declared.wish.Cause.TheVariants.{NoSpace, Device, Failed}
 
 -- the name of a cause
 abbrev pub cause_text : Cause → List ℕ

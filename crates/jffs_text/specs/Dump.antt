@@ -1,5 +1,6 @@
 -- The text of a state: a directory before its names, names in the order of their bytes.
-use Rattle.std.specs.Prelude.{ℕ, zero, suc, ◌+◌, ◌/◌, ◌%◌, nat_lt, List, [], ◌∷◌, ◌++◌, length, flat_map, codes, decimal, if◌then◌else◌}
+use Rattle.std.specs.Prelude.{ℕ, zero, suc, ◌+◌, ◌/◌, ◌%◌, nat_lt, List, [], ◌∷◌, ◌++◌, length}
+use Rattle.std.specs.Prelude.{flat_map, codes, decimal, if◌then◌else◌}
 use Rattle.std.specs.Ordering.{is_gt}
 use Rattle.jffs_tree.specs.State.{State, root, at, bytes_of, is_directory_in}
 use Rattle.jffs_tree.specs.Look.{children, name_cmp}
@@ -28,7 +29,8 @@ abbrev pub directory_line : List ℕ → List ℕ
 directory_line path = codes "d " ++ path ++ line_end
 
 abbrev pub file_line : List ℕ → List ℕ → List ℕ
-file_line path bytes = codes "f " ++ path ++ size_text (length bytes) ++ shown_bytes bytes ++ line_end
+file_line path bytes =
+    codes "f " ++ path ++ size_text (length bytes) ++ shown_bytes bytes ++ line_end
 
 -- a name put before the first that is greater or equal
 abbrev pub put_by_name : (List ℕ × ℕ) → List (List ℕ × ℕ) → List (List ℕ × ℕ)
@@ -43,16 +45,20 @@ by_name (a ∷ names) = put_by_name a (by_name names)
 abbrev pub path_of : List ℕ → List ℕ → List ℕ
 path_of above name = above ++ (codes "/" ++ name)
 
--- The text of one name and its inode, in the directory whose path is `above`; `deeper` gives what stands below a directory.
+-- The text of one name and its inode, in the directory whose path is `above`; `deeper` gives what
+-- stands below a directory.
 abbrev pub name_text : State → (List ℕ → ℕ → List ℕ) → List ℕ → (List ℕ × ℕ) → List ℕ
 name_text s deeper above a =
     let path = path_of above a.0 in
-    if is_directory_in s a.1 then directory_line path ++ deeper path a.1 else file_line path (bytes_of (at s a.1))
+    if is_directory_in s a.1 then directory_line path ++ deeper path a.1
+    else file_line path (bytes_of (at s a.1))
 
--- What stands below the directory of that path and inode, at most as many levels down as the first number says. The root's path is empty here.
+-- What stands below the directory of that path and inode, at most as many levels down as the first
+-- number says. The root's path is empty here.
 unfoldable pub below : ℕ → State → List ℕ → ℕ → List ℕ
 below zero s above i = []
-below (suc levels) s above i = flat_map (name_text s (below levels s) above) (by_name (children i s))
+below (suc levels) s above i =
+    flat_map (name_text s (below levels s) above) (by_name (children i s))
 
 -- no path has more than eight names
 unfoldable pub dump_text : State → List ℕ

@@ -6,7 +6,8 @@ ghost use Rattle.jffs_tree.specs.State.{is_directory_in, bytes_of, at};
 ghost use Rattle.jffs_tree.specs.Origin.{state_in};
 ghost use Rattle.jffs_tree.specs.Look.{bytes_in};
 ghost use Rattle.jffs_text.specs.Added.{IsBegun};
-ghost use Rattle.jffs_text.specs.Dump.{hex, hex_digit as digit_of, shown_bytes, directory_line, file_line, path_of, below, dump_text};
+ghost use Rattle.jffs_text.specs.Dump.{hex, hex_digit as digit_of, shown_bytes, directory_line};
+ghost use Rattle.jffs_text.specs.Dump.{file_line, path_of, below, dump_text};
 
 use jffs_node::{Name, NoMemory, PATH_DEPTH_MAX, ROOT_INODE};
 use jffs_tree::Tree;
@@ -57,8 +58,10 @@ const CHUNK_LEN: usize = 256;
 /// `Write` if the writer failed, `Memory` if allocation failed. After an error a beginning of that
 /// text is written.
 pub fn dump<W: Write>(alloc: Global, tree: &Tree, out: &mut W) -> Result<(), DumpFault>
-    ensures whole { OnOk result (Appends (W.contents out.old) (W.contents out.new) (dump_text (state_in tree.now))) }
-    ensures begun { IsBegun (W.contents out.old) (W.contents out.new) (dump_text (state_in tree.now)) }
+    ensures whole { OnOk result
+        (Appends (W.contents out.old) (W.contents out.new) (dump_text (state_in tree.now))) }
+    ensures begun { IsBegun (W.contents out.old) (W.contents out.new)
+        (dump_text (state_in tree.now)) }
 {
     put(b"d /\n", out)?;
     let mut path = Vec::new(alloc);
@@ -76,8 +79,11 @@ fn dump_names<W: Write>(
 ) -> Result<(), DumpFault>
     requires { is_directory_in (state_in tree.now) directory ≡ true }
     ensures path { OnOk result (path.new.items ≡ path.old.items) }
-    ensures whole { OnOk result (Appends (W.contents out.old) (W.contents out.new) (below levels (state_in tree.now) path.old.items directory)) }
-    ensures begun { IsBegun (W.contents out.old) (W.contents out.new) (below levels (state_in tree.now) path.old.items directory) }
+    ensures whole { OnOk result
+        (Appends (W.contents out.old) (W.contents out.new)
+        (below levels (state_in tree.now) path.old.items directory)) }
+    ensures begun { IsBegun (W.contents out.old) (W.contents out.new)
+        (below levels (state_in tree.now) path.old.items directory) }
 {
     if levels == 0 {
         return Ok(());
@@ -106,8 +112,10 @@ fn push_name(path: &mut Vec<u8>, name: &Name) -> Result<(), AllocError>
 
 /// The line of a directory.
 fn dump_directory<W: Write>(path: &Vec<u8>, out: &mut W) -> io::Result<()>
-    ensures whole { OnOk result (Appends (W.contents out.old) (W.contents out.new) (directory_line path.now.items)) }
-    ensures begun { IsBegun (W.contents out.old) (W.contents out.new) (directory_line path.now.items) }
+    ensures whole { OnOk result
+        (Appends (W.contents out.old) (W.contents out.new) (directory_line path.now.items)) }
+    ensures begun { IsBegun (W.contents out.old) (W.contents out.new)
+        (directory_line path.now.items) }
 {
     put(b"d ", out)?;
     put(path, out)?;
@@ -122,8 +130,11 @@ fn dump_file<W: Write>(
     out: &mut W,
 ) -> Result<(), DumpFault>
     requires { is_directory_in (state_in tree.now) inode ≡ false }
-    ensures whole { OnOk result (Appends (W.contents out.old) (W.contents out.new) (file_line path.now.items (bytes_of (at (state_in tree.now) inode)))) }
-    ensures begun { IsBegun (W.contents out.old) (W.contents out.new) (file_line path.now.items (bytes_of (at (state_in tree.now) inode))) }
+    ensures whole { OnOk result
+        (Appends (W.contents out.old) (W.contents out.new)
+        (file_line path.now.items (bytes_of (at (state_in tree.now) inode)))) }
+    ensures begun { IsBegun (W.contents out.old) (W.contents out.new)
+        (file_line path.now.items (bytes_of (at (state_in tree.now) inode))) }
 {
     let size = tree.size(inode).unwrap_or(0);
     let size_text = format!(in *path.allocator(); " {size} ")?;
@@ -138,8 +149,11 @@ fn dump_file<W: Write>(
 /// The bytes of a file of that size in hex, `-` for none.
 fn dump_bytes<W: Write>(tree: &Tree, inode: u32, size: u32, out: &mut W) -> io::Result<()>
     requires { size ≡ length (bytes_in tree.now inode) }
-    ensures whole { OnOk result (Appends (W.contents out.old) (W.contents out.new) (shown_bytes (bytes_in tree.now inode))) }
-    ensures begun { IsBegun (W.contents out.old) (W.contents out.new) (shown_bytes (bytes_in tree.now inode)) }
+    ensures whole { OnOk result
+        (Appends (W.contents out.old) (W.contents out.new)
+        (shown_bytes (bytes_in tree.now inode))) }
+    ensures begun { IsBegun (W.contents out.old) (W.contents out.new)
+        (shown_bytes (bytes_in tree.now inode)) }
 {
     if size == 0 {
         return put(b"-", out);
@@ -157,7 +171,8 @@ fn dump_bytes<W: Write>(tree: &Tree, inode: u32, size: u32, out: &mut W) -> io::
 /// Writes bytes in lower case hex. The error is the writer's; after it a beginning of that is
 /// written.
 pub fn write_hex<W: Write>(bytes: &[u8], out: &mut W) -> io::Result<()>
-    ensures whole { OnOk result (Appends (W.contents out.old) (W.contents out.new) (hex bytes.now)) }
+    ensures whole { OnOk result
+        (Appends (W.contents out.old) (W.contents out.new) (hex bytes.now)) }
     ensures begun { IsBegun (W.contents out.old) (W.contents out.new) (hex bytes.now) }
 {
     let mut digits = [0u8; 2 * CHUNK_LEN];

@@ -1,7 +1,7 @@
 //! The texts of the file system: the script that a run reads, and the lines that tell of a tree.
 //!
-//! `Script::parse` carries the script's grammar, and `Script::read` says what is wrong in words; `dump` is the tree's
-//! text; `Usage` reads the words that a program is called with.
+//! `Script::parse` carries the script's grammar, and `Script::read` says what is wrong in words;
+//! `dump` is the tree's text; `Usage` reads the words that a program is called with.
 #![tactic(auto)]
 
 mod arguments;

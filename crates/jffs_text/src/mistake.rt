@@ -107,7 +107,8 @@ pub enum Mistake {
 }
 
 impl Mistake {
-    /// What kind of refusal it is. On the first statement of a script each kind but `Text` counts as
+    /// What kind of refusal it is. On the first statement of a script each kind but `Text` counts
+    /// as
     /// `Volume`.
     pub fn why(self) -> ScriptWhy {
         match self {

@@ -1,7 +1,8 @@
 -- The names of the rules on records.
 use Rattle.std.specs.Prelude.{ℕ, List, codes}
 use Rattle.jffs_node.specs.declared.read.Why.{Why}
-use Rattle.jffs_node.specs.declared.read.Why.TheVariants.{Magic, Kind, Flags, Name, Form, Spare, Size, Pad}
+use Rattle.jffs_node.specs.declared.read.Why.TheVariants.{Magic, Kind, Flags, Name, Form, Spare}
+use Rattle.jffs_node.specs.declared.read.Why.TheVariants.{Size, Pad}
 
 -- the name of the rule that a bad record breaks
 abbrev pub rule_text : Why → List ℕ

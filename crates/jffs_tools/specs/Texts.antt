@@ -1,9 +1,11 @@
 -- The texts that the tools print.
-use Rattle.std.specs.Prelude.{ℕ, zero, suc, ◌+◌, Bool, true, false, nat_eq, nat_lt, List, [], ◌++◌, Option, Some, None, codes, decimal, if◌then◌else◌}
+use Rattle.std.specs.Prelude.{ℕ, zero, suc, ◌+◌, Bool, true, false, nat_eq, nat_lt, List, [], ◌++◌}
+use Rattle.std.specs.Prelude.{Option, Some, None, codes, decimal, if◌then◌else◌}
 use Rattle.jffs_tree.specs.declared.wish.Limits.{Limits}
 use Rattle.jffs_log.specs.declared.log_index.RecordRef.{RecordRef}
 use Rattle.jffs_tools.specs.declared.did.Did.{Did}
-use Rattle.jffs_tools.specs.declared.did.Did.TheVariants.{Appended, Copied, ClosedAt, Closed, Cleaned, OneSector, Erased, Refused}
+use Rattle.jffs_tools.specs.declared.did.Did.TheVariants.{Appended, Copied, ClosedAt, Closed}
+use Rattle.jffs_tools.specs.declared.did.Did.TheVariants.{Cleaned, OneSector, Erased, Refused}
 use Rattle.jffs_tools.specs.declared.did.Totals.{Totals}
 use Rattle.jffs_tools.specs.declared.did.Answered.{Answered}
 use Rattle.jffs_text.specs.Causes.{cause_text}
@@ -15,7 +17,8 @@ number_text None = codes "none"
 
 -- the numbers that come next
 abbrev pub next_text : Limits → List ℕ
-next_text l = codes "next " ++ (number_text l.next_version ++ (codes " " ++ number_text l.next_inode))
+next_text l =
+    codes "next " ++ (number_text l.next_version ++ (codes " " ++ number_text l.next_inode))
 
 -- whether a volume is clean
 abbrev pub mounted_text : Bool → List ℕ
@@ -29,7 +32,8 @@ life_text false = codes "dead"
 
 -- where a record stands, how long it is, its version, and whether it is live
 abbrev pub record_text : RecordRef → Bool → List ℕ
-record_text k live = codes "record " ++ (decimal k.sector ++ (codes " " ++ (decimal k.offset ++ (codes " " ++
+record_text k live =
+    codes "record " ++ (decimal k.sector ++ (codes " " ++ (decimal k.offset ++ (codes " " ++
     (decimal k.length ++ (codes " " ++ (decimal k.version ++ (codes " " ++ life_text live))))))))
 
 -- a refused request
@@ -38,11 +42,13 @@ refused_text name = codes "refused " ++ name
 
 -- what an operation did
 abbrev pub did_text : Did → List ℕ
-did_text (Appended inode version at) = codes "appended " ++ (decimal inode ++ (codes " " ++ (decimal version ++ (codes " at " ++ decimal at))))
+did_text (Appended inode version at) = codes "appended "
+    ++ (decimal inode ++ (codes " " ++ (decimal version ++ (codes " at " ++ decimal at))))
 did_text (Copied version at) = codes "copied " ++ (decimal version ++ (codes " at " ++ decimal at))
 did_text (ClosedAt at) = codes "closed at " ++ decimal at
 did_text Closed = codes "closed"
-did_text (Cleaned sector copies) = codes "erased sector " ++ (decimal sector ++ (codes " copies " ++ decimal copies))
+did_text (Cleaned sector copies) =
+    codes "erased sector " ++ (decimal sector ++ (codes " copies " ++ decimal copies))
 did_text OneSector = codes "one sector"
 did_text (Erased n) = codes "erased " ++ decimal n
 did_text (Refused cause) = refused_text (cause_text cause)
@@ -72,4 +78,5 @@ sector_behind sectors sector = if nat_lt (sector + 1) sectors then sector + 1 el
 -- the numbers of the sectors from `first` on, round a device; the second number says how many
 unfoldable pub ring_text : ℕ → ℕ → ℕ → List ℕ
 ring_text sectors zero first = []
-ring_text sectors (suc held) first = codes " " ++ (decimal first ++ ring_text sectors held (sector_behind sectors first))
+ring_text sectors (suc held) first =
+    codes " " ++ (decimal first ++ ring_text sectors held (sector_behind sectors first))

@@ -25,7 +25,9 @@ pub(crate) fn read_image<R: Read>(
     sector_size: u32,
     input: &mut R,
 ) -> io::Result<Vec<u8>>
-    ensures { IfOk result (λ bytes. IfSome (R.remaining input.old) (λ all. bytes.items ≡ take (wanted sectors sector_size) all)) }
+    ensures { IfOk result
+        (λ bytes. IfSome (R.remaining input.old)
+        (λ all. bytes.items ≡ take (wanted sectors sector_size) all)) }
 {
     let most = device_length(sectors, sector_size).min(VOLUME_MAX) + 1;
     let mut bytes = Vec::new(alloc);

@@ -2,7 +2,8 @@
 
 ghost use Rattle.std.specs.Prelude.{◌≡◌, ◌+◌, ◌*◌, ◌++◌, ◌∷◌, [], List};
 ghost use Rattle.jffs_log.specs.declared.log_index.RecordRef.{RecordRef};
-ghost use Rattle.jffs_tools.specs.Telling.{offset_of, totals_unless, count_given as given_before, did_of, own_records as own_of};
+ghost use Rattle.jffs_tools.specs.Telling.{offset_of, totals_unless, count_given as given_before};
+ghost use Rattle.jffs_tools.specs.Telling.{did_of, own_records as own_of};
 
 use crate::did::{Did, Totals};
 use jffs_core::Core;
@@ -70,7 +71,9 @@ pub(crate) fn did(outcome: Outcome, appended: u64, at: u64) -> Did
 
 /// The byte of the image at which the newest record begins; 0 where there is none.
 pub(crate) fn last_offset(core: &Core<FuseFlash>) -> u64
-    ensures { (before : List RecordRef) (k : RecordRef) → core.now.index.records.items ≡ before ++ (k ∷ []) → result ≡ offset_of core.now.index.sector_size k }
+    ensures { (before : List RecordRef) (k : RecordRef)
+        → core.now.index.records.items ≡ before ++ (k ∷ [])
+        → result ≡ offset_of core.now.index.sector_size k }
 {
     let log = core.log();
     match log.records().back() {

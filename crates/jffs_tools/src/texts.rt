@@ -5,7 +5,14 @@ ghost use Rattle.hex.specs.Hex.{encode_lower};
 ghost use Rattle.sha2.specs.Sha256.{sha256};
 ghost use Rattle.jffs_text.specs.Causes.{cause_text};
 ghost use Rattle.jffs_tools.specs.Refusals.{why_text};
-ghost use Rattle.jffs_tools.specs.Texts.{number_text as text_of_number, next_text as text_of_next, mounted_text as text_of_mounted, life_text as text_of_life, record_text as text_of_record, refused_text as text_of_refused, did_text as text_of_did, copies_text as text_of_copies, totals_text as text_of_totals, rest_text as text_of_rest, answered_text as text_of_answered, ring_text, sector_behind};
+ghost use Rattle.jffs_tools.specs.Texts.{number_text as text_of_number, next_text as text_of_next};
+ghost use Rattle.jffs_tools.specs.Texts.{mounted_text as text_of_mounted};
+ghost use Rattle.jffs_tools.specs.Texts.{life_text as text_of_life, record_text as text_of_record};
+ghost use Rattle.jffs_tools.specs.Texts.{refused_text as text_of_refused, did_text as text_of_did};
+ghost use Rattle.jffs_tools.specs.Texts.{copies_text as text_of_copies};
+ghost use Rattle.jffs_tools.specs.Texts.{totals_text as text_of_totals, rest_text as text_of_rest};
+ghost use Rattle.jffs_tools.specs.Texts.{answered_text as text_of_answered, ring_text};
+ghost use Rattle.jffs_tools.specs.Texts.{sector_behind};
 
 use crate::did::{Answered, Did, Totals};
 use crate::names::rule_name;

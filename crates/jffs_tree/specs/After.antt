@@ -1,5 +1,7 @@
 -- What one more node makes of a tree.
-use Rattle.std.specs.Prelude.{◌≡◌, ◌≤◌, ℕ, Bool, IsTrue, true, not, ◌&&◌, ◌||◌, ◌==◌, nat_le, ◌+◌, ◌-◌, List, [], ◌++◌, length, take, drop, replicate, Option, Some, None, IfSome, option_map, unwrap_or, is_some, if◌then◌else◌}
+use Rattle.std.specs.Prelude.{◌≡◌, ◌≤◌, ℕ, Bool, IsTrue, true, not, ◌&&◌, ◌||◌, ◌==◌, nat_le, ◌+◌}
+use Rattle.std.specs.Prelude.{◌-◌, List, [], ◌++◌, length, take, drop, replicate, Option, Some}
+use Rattle.std.specs.Prelude.{None, IfSome, option_map, unwrap_or, is_some, if◌then◌else◌}
 use Rattle.std.specs.FinMap.Entries as entries
 use Rattle.std.specs.Ordering.{nat_cmp}
 use Rattle.jffs_node.specs.declared.node.Node.{Node}
@@ -8,7 +10,8 @@ use Rattle.jffs_node.specs.Record.{dsize, file_max, kind_byte, is_lawful, is_unm
 use Rattle.jffs_tree.specs.State.{written}
 use Rattle.jffs_tree.specs.Origin.{Held, Tree}
 
--- Padding, splicing and sizing of any list, d standing where nothing stood. Of bytes they are `padded`, `splice` and `sized`, with 0.
+-- Padding, splicing and sizing of any list, d standing where nothing stood. Of bytes they are
+-- `padded`, `splice` and `sized`, with 0.
 abbrev pub padded_with : {A : Type 0} → A → ℕ → List A → List A
 padded_with d k c = c ++ replicate (k - length c) d
 
@@ -25,7 +28,9 @@ held_in tree i = entries.find nat_cmp i tree
 
 -- the last writers, after the node: it is that of its own data, and padding has none
 abbrev pub writers_after : Node → List (Option ℕ) → List (Option ℕ)
-writers_after n ws = sized_with None n.size (spliced_with None n.offset n.rsize (replicate (dsize n) (Some n.version)) ws)
+writers_after n ws =
+    sized_with None n.size
+    (spliced_with None n.offset n.rsize (replicate (dsize n) (Some n.version)) ws)
 
 abbrev pub held_after : Node → Option Held → Held
 held_after n old = record {
@@ -45,15 +50,20 @@ put_node tree n = entries.put nat_cmp n.inode (held_after n (held_in tree n.inod
 
 -- the tree after the node
 abbrev pub tree_after : Tree → Node → Tree
-tree_after tree n = if is_unmount n.kind then tree else (if n.deleted then without_inode tree n.inode else put_node tree n)
+tree_after tree n =
+    if is_unmount n.kind then tree
+    else (if n.deleted then without_inode tree n.inode else put_node tree n)
 
 -- There are no bytes after the range of the node, unless it keeps their offsets.
 abbrev pub keeps_offsets_in : Tree → Node → Bool
-keeps_offsets_in tree n = (dsize n == n.rsize) || nat_le (length (unwrap_or (option_map (λ h. h.entry.bytes) (held_in tree n.inode)) [])) (n.offset + n.rsize)
+keeps_offsets_in tree n = (dsize n == n.rsize)
+    || nat_le (length (unwrap_or (option_map (λ h. h.entry.bytes) (held_in tree n.inode)) []))
+    (n.offset + n.rsize)
 
 -- its inode has its kind, where it is present
 abbrev pub keeps_kind_in : Tree → Node → Bool
-keeps_kind_in tree n = n.deleted || option_map_or (λ h. kind_byte h.entry.kind == kind_byte n.kind) (held_in tree n.inode) true
+keeps_kind_in tree n = n.deleted
+    || option_map_or (λ h. kind_byte h.entry.kind == kind_byte n.kind) (held_in tree n.inode) true
 
 -- what a node must keep to be applied to a tree
 abbrev pub can_apply : Tree → Node → Bool
@@ -62,7 +72,8 @@ can_apply tree n = is_lawful n && keeps_kind_in tree n && keeps_offsets_in tree 
 -- The inodes stand in order, the node's is as the node makes it, and each other is as it was.
 pub record IsWritten (old new : Tree) (n : Node) : Type 0 where
   pub ordered : IsTrue (entries.is_sorted nat_cmp new)
-  pub found : (i : ℕ) → held_in new i ≡ (if n.inode == i then Some (held_after n (held_in old i)) else held_in old i)
+  pub found : (i : ℕ) → held_in new i
+      ≡ (if n.inode == i then Some (held_after n (held_in old i)) else held_in old i)
 
 -- It makes no file too long, and the size that it states reaches its data.
 pub record IsSmall (n : Node) : Type 0 where

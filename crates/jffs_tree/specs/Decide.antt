@@ -1,5 +1,9 @@
--- What is decided on a wish: why it is refused, or which node it makes. Of a state, and of who holds which live version.
-use Rattle.std.specs.Prelude.{ℕ, ◌+◌, ◌-◌, min, max, Bool, true, false, not, ◌&&◌, ◌||◌, ◌==◌, nat_le, nat_lt, List, [], ◌∷◌, length, take, drop, get_or, Option, Some, None, is_none, is_some, unwrap_or, Result, Ok, Err, bytes_eq, if◌then◌else◌}
+-- What is decided on a wish: why it is refused, or which node it makes. Of a state, and of who
+-- holds which live version.
+use Rattle.std.specs.Prelude.{ℕ, ◌+◌, ◌-◌, min, max, Bool, true, false, not, ◌&&◌, ◌||◌, ◌==◌}
+use Rattle.std.specs.Prelude.{nat_le, nat_lt, List, [], ◌∷◌, length, take, drop, get_or, Option}
+use Rattle.std.specs.Prelude.{Some, None, is_none, is_some, unwrap_or, Result, Ok, Err, bytes_eq}
+use Rattle.std.specs.Prelude.{if◌then◌else◌}
 use Rattle.std.specs.Option.{option_map_or}
 use Rattle.std.specs.List.{list_any}
 use Rattle.jffs_node.specs.declared.node.Node.{Node}
@@ -7,9 +11,13 @@ use Rattle.jffs_node.specs.declared.node.Kind.{Kind}
 use Rattle.jffs_node.specs.declared.node.Kind.TheVariants.{File, Directory, Unmount as UnmountNode}
 use Rattle.jffs_node.specs.Record.{dsize, file_max, is_directory}
 use Rattle.jffs_tree.specs.declared.wish.Wish.{Wish}
-use Rattle.jffs_tree.specs.declared.wish.Wish.TheVariants.{MakeDir, Create, Write, Truncate, Rename, Remove, Copy, Unmount}
+use Rattle.jffs_tree.specs.declared.wish.Wish.TheVariants.{MakeDir, Create, Write, Truncate, Rename}
+use Rattle.jffs_tree.specs.declared.wish.Wish.TheVariants.{Remove, Copy, Unmount}
 use Rattle.jffs_tree.specs.declared.wish.Cause.{Cause}
-use Rattle.jffs_tree.specs.declared.wish.Cause.TheVariants.{RootFixed, NoParent, NameTaken, NotFound, IsDirectory, DataLong, FileLong, NotEmpty, NotNeeded, Stale, InodesSpent, VersionsSpent}
+use Rattle.jffs_tree.specs.declared.wish.Cause.TheVariants.{RootFixed, NoParent, NameTaken}
+use Rattle.jffs_tree.specs.declared.wish.Cause.TheVariants.{NotFound, IsDirectory, DataLong}
+use Rattle.jffs_tree.specs.declared.wish.Cause.TheVariants.{FileLong, NotEmpty, NotNeeded, Stale}
+use Rattle.jffs_tree.specs.declared.wish.Cause.TheVariants.{InodesSpent, VersionsSpent}
 use Rattle.jffs_tree.specs.declared.wish.Limits.{Limits}
 use Rattle.jffs_tree.specs.declared.wish.NewNode.{NewNode}
 use Rattle.jffs_tree.specs.State.{Entry, State, at, resolve, is_directory_in, state_of_past}
@@ -75,7 +83,12 @@ abbrev pub write_node : ℕ → Entry → ℕ → List ℕ → NewNode
 write_node i e offset bytes =
     let old = length e.bytes in
     if length bytes == 0 then record (plain i e) { offset = min offset old }
-    else record (plain i e) { offset = offset; rsize = min (length bytes) (old - offset); size = Some (max old (offset + length bytes)); bytes = bytes }
+    else record (plain i e) {
+      offset = offset;
+      rsize = min (length bytes) (old - offset);
+      size = Some (max old (offset + length bytes));
+      bytes = bytes;
+    }
 
 abbrev pub truncate_node : ℕ → Entry → ℕ → NewNode
 truncate_node i e size =
@@ -83,14 +96,27 @@ truncate_node i e size =
     record (plain i e) { offset = min size old; rsize = old - min size old; size = Some size }
 
 abbrev pub copy_node : ℕ → Entry → ℕ → List ℕ → NewNode
-copy_node i e offset bytes = record (plain i e) { copy = true; offset = offset; rsize = length bytes; bytes = bytes }
+copy_node i e offset bytes =
+    record (plain i e) { copy = true; offset = offset; rsize = length bytes; bytes = bytes }
 
 abbrev pub unmount_node : NewNode
-unmount_node = record { kind = UnmountNode; deleted = false; copy = false; inode = 0; parent = 0; offset = 0; rsize = 0; size = None; name = None; bytes = [] }
+unmount_node = record {
+  kind = UnmountNode;
+  deleted = false;
+  copy = false;
+  inode = 0;
+  parent = 0;
+  offset = 0;
+  rsize = 0;
+  size = None;
+  name = None;
+  bytes = [];
+}
 
 -- the current bytes from the offset on begin with these
 abbrev pub is_current : Entry → ℕ → List ℕ → Bool
-is_current e offset bytes = nat_le offset (length e.bytes) && bytes_eq (take (length bytes) (drop offset e.bytes)) bytes
+is_current e offset bytes =
+    nat_le offset (length e.bytes) && bytes_eq (take (length bytes) (drop offset e.bytes)) bytes
 
 abbrev pub held_entry : Option (ℕ × Held) → Entry
 held_entry None = nobody
@@ -119,7 +145,13 @@ decide_new s limits kind path = unless (
     ∷ (is_none limits.next_inode, InodesSpent)
     ∷ (is_none limits.next_version, VersionsSpent)
     ∷ [])
-    (plain (unwrap_or limits.next_inode 0) (record { kind = kind; parent = unwrap_or (parent_in s path) 0; name = last_name path; bytes = [] }))
+    (plain (unwrap_or limits.next_inode 0)
+    (record {
+      kind = kind;
+      parent = unwrap_or (parent_in s path) 0;
+      name = last_name path;
+      bytes = [];
+    }))
 
 abbrev pub decide_in : State → (ℕ → Option (ℕ × Held)) → Limits → Wish → Result NewNode Cause
 decide_in s holds limits (MakeDir path) = decide_new s limits Directory path
@@ -165,8 +197,10 @@ decide_in s holds limits (Remove path) =
     ∷ (is_none limits.next_version, VersionsSpent)
     ∷ [])
     (record (plain i (entry_of s i)) { deleted = true; size = None })
-decide_in s holds limits (Copy source parent name offset bytes) = decide_copy (holds source) limits parent name offset bytes
-decide_in s holds limits Unmount = unless ((is_none limits.next_version, VersionsSpent) ∷ []) unmount_node
+decide_in s holds limits (Copy source parent name offset bytes) =
+    decide_copy (holds source) limits parent name offset bytes
+decide_in s holds limits Unmount =
+    unless ((is_none limits.next_version, VersionsSpent) ∷ []) unmount_node
 
 -- whether an accepted wish's node carries bytes, and so needs memory
 abbrev pub carries_bytes : Wish → Bool
@@ -204,7 +238,8 @@ with n version writer seq = record {
   bytes = n.bytes;
 }
 
--- The copy that cleaning makes of a live node: it says anew what the file has now where the source wrote, up to the file's end.
+-- The copy that cleaning makes of a live node: it says anew what the file has now where the source
+-- wrote, up to the file's end.
 abbrev pub cleaning_copy : State → Node → NewNode
 cleaning_copy s n =
     let e = entry_of s n.inode in

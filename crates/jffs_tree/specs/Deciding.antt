@@ -1,5 +1,6 @@
 -- What a decision keeps.
-use Rattle.std.specs.Prelude.{◌≡◌, ◌≤◌, ◌<◌, ◌^◌, ℕ, true, List, ◌∷◌, length, get_or, Some, Ok, IsTrue}
+use Rattle.std.specs.Prelude.{◌≡◌, ◌≤◌, ◌<◌, ◌^◌, ℕ, true, List, ◌∷◌, length, get_or, Some, Ok}
+use Rattle.std.specs.Prelude.{IsTrue}
 use Rattle.std.specs.List.{AllByRecursion}
 use Rattle.jffs_node.specs.declared.node.Node.{Node}
 use Rattle.jffs_node.specs.Path.{IsPath}
@@ -7,7 +8,8 @@ use Rattle.jffs_node.specs.Record.{dsize, is_lawful}
 use Rattle.jffs_tree.specs.declared.wish.Limits.{Limits}
 use Rattle.jffs_tree.specs.declared.wish.NewNode.{NewNode}
 use Rattle.jffs_tree.specs.declared.wish.Wish.{Wish}
-use Rattle.jffs_tree.specs.declared.wish.Wish.TheVariants.{MakeDir, Create, Write, Truncate, Rename, Remove, Copy, Unmount}
+use Rattle.jffs_tree.specs.declared.wish.Wish.TheVariants.{MakeDir, Create, Write, Truncate, Rename}
+use Rattle.jffs_tree.specs.declared.wish.Wish.TheVariants.{Remove, Copy, Unmount}
 use Rattle.jffs_tree.specs.State.{Entry, state_of_past}
 use Rattle.jffs_tree.specs.Origin.{entry}
 use Rattle.jffs_tree.specs.Check.{makes_tree}
@@ -47,12 +49,16 @@ pub record AreNumbers (version writer seq : ℕ) : Type 0 where
 
 -- A decided node is lawful, keeps the rules, and has no more data than a node may carry.
 abbrev pub DecidedNodesKeepRules : Type 0
-DecidedNodesKeepRules = (past : List Node) (limits : Limits) (wish : Wish) (n : NewNode) (version writer seq : ℕ)
-    → IsLawfulPast past → AreLimitsOf past limits → IsWish wish → AreNumbers version writer seq → decide past limits wish ≡ Ok n
+DecidedNodesKeepRules =
+    (past : List Node) (limits : Limits) (wish : Wish) (n : NewNode) (version writer seq : ℕ)
+    → IsLawfulPast past → AreLimitsOf past limits → IsWish wish → AreNumbers version writer seq
+    → decide past limits wish ≡ Ok n
     → IsLawfulPast (with n version writer seq ∷ past) × (length n.bytes ≤ limits.data_max)
 
--- So is the copy that cleaning makes of a node whose inode is present, and it has no more data than that node.
+-- So is the copy that cleaning makes of a node whose inode is present, and it has no more data than
+-- that node.
 abbrev pub CleaningCopiesKeepRules : Type 0
 CleaningCopiesKeepRules = (past : List Node) (n : Node) (e : Entry) (version writer seq : ℕ)
     → IsLawfulPast past → entry past n.inode ≡ Some e → AreNumbers version writer seq
-    → IsLawfulPast (with (cleaning_copy (state_of_past past) n) version writer seq ∷ past) × (length (cleaning_copy (state_of_past past) n).bytes ≤ dsize n)
+    → IsLawfulPast (with (cleaning_copy (state_of_past past) n) version writer seq ∷ past)
+    × (length (cleaning_copy (state_of_past past) n).bytes ≤ dsize n)

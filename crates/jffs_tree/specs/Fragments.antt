@@ -1,5 +1,8 @@
--- A file as its fragments: ranges of offsets, each written by one node. What no node wrote (a hole, padding) is in none.
-use Rattle.std.specs.Prelude.{◌≡◌, ◌≢◌, ◌<◌, ◌≤◌, ◌⊎◌, ℕ, ◌+◌, ◌-◌, not, ◌&&◌, ◌==◌, nat_le, nat_lt, List, [], ◌∷◌, ◌++◌, length, map, replicate, take, drop, sum_by, Option, Some, None, if◌then◌else◌}
+-- A file as its fragments: ranges of offsets, each written by one node. What no node wrote (a hole,
+-- padding) is in none.
+use Rattle.std.specs.Prelude.{◌≡◌, ◌≢◌, ◌<◌, ◌≤◌, ◌⊎◌, ℕ, ◌+◌, ◌-◌, not, ◌&&◌, ◌==◌, nat_le, nat_lt}
+use Rattle.std.specs.Prelude.{List, [], ◌∷◌, ◌++◌, length, map, replicate, take, drop, sum_by}
+use Rattle.std.specs.Prelude.{Option, Some, None, if◌then◌else◌}
 use Rattle.std.specs.List.{AllByRecursion, filter}
 use Rattle.std.specs.Map.{values_of}
 use Rattle.jffs_node.specs.declared.node.Node.{Node}
@@ -50,7 +53,9 @@ NoneHolds p es = AllByRecursion (λ e. (end_of e ≤ p) ⊎ (p < e.0)) es
 
 -- From an offset on a file of these fragments has these bytes, where it is long enough.
 abbrev pub Says : Fragments → ℕ → List ℕ → Type 0
-Says es at bytes = (size : ℕ) → AreLaid 0 size es → at + length bytes ≤ size → take (length bytes) (drop at (map byte_of (laid 0 size es))) ≡ bytes
+Says es at bytes =
+    (size : ℕ) → AreLaid 0 size es → at + length bytes ≤ size
+    → take (length bytes) (drop at (map byte_of (laid 0 size es))) ≡ bytes
 
 -- those that begin before an offset, from one on, and outside a range
 abbrev pub before : ℕ → Fragments → Fragments
@@ -75,7 +80,8 @@ AreShort es = AllByRecursion (λ e. length e.1.bytes ≤ file_max) es
 
 -- the fragment of a node's data, if it has any
 abbrev pub fragment_of : Node → Fragments
-fragment_of n = if dsize n == 0 then [] else (n.offset, record { bytes = n.bytes; writer = n.version }) ∷ []
+fragment_of n =
+    if dsize n == 0 then [] else (n.offset, record { bytes = n.bytes; writer = n.version }) ∷ []
 
 -- with a node's data instead of what stands from its offset to an end
 abbrev pub overwritten : ℕ → Node → Fragments → Fragments
@@ -87,7 +93,9 @@ HasAmounts counts i es = (v : ℕ) → amount_by v es ≤ mark_of counts v i
 
 -- In an inode the marks for some fragments have become those for others.
 abbrev pub MovesAmounts : Counts → Counts → ℕ → Fragments → Fragments → Type 0
-MovesAmounts old new inode was now = (v i : ℕ) → mark_of new v i + (if i == inode then amount_by v was else 0) ≡ mark_of old v i + (if i == inode then amount_by v now else 0)
+MovesAmounts old new inode was now =
+    (v i : ℕ) → mark_of new v i + (if i == inode then amount_by v was else 0)
+    ≡ mark_of old v i + (if i == inode then amount_by v now else 0)
 
 -- The same cells, and cut wherever they were.
 pub record SameCells (old new : Fragments) : Type 0 where
@@ -96,14 +104,19 @@ pub record SameCells (old new : Fragments) : Type 0 where
   pub amounts : (v : ℕ) → amount_by v new ≡ amount_by v old
   pub cuts : (q : ℕ) → AreCut q old → AreCut q new
 
--- A node can be written over a file of the size: nothing gets too long, and no byte after its range moves.
+-- A node can be written over a file of the size: nothing gets too long, and no byte after its range
+-- moves.
 pub record FitsFile (n : Node) (size : ℕ) : Type 0 where
   pub small : size ≤ file_max
   pub node : IsSmall n
   pub offsets : dsize n ≢ n.rsize → size ≤ n.offset + n.rsize
 
 -- The cells are those before, spliced and sized as the node says.
-pub record IsFileAfter (n : Node) (size : ℕ) (was : Fragments) (after : ℕ) (now : Fragments) : Type 0 where
+pub record IsFileAfter (n : Node) (size : ℕ) (was : Fragments) (after : ℕ) (now : Fragments) :
+    Type 0 where
   pub ordered : AreLaid 0 after now
   pub small : after ≤ file_max
-  pub cells : laid 0 after now ≡ sized_with None n.size (spliced_with None n.offset n.rsize (map (λ b. Some (b, n.version)) n.bytes) (laid 0 size was))
+  pub cells : laid 0 after now
+      ≡ sized_with None n.size
+      (spliced_with None n.offset n.rsize (map (λ b. Some (b, n.version)) n.bytes)
+      (laid 0 size was))

@@ -1,5 +1,6 @@
 -- The index of children: for each inode where it stands, in the order of directory, name and inode.
-use Rattle.std.specs.Prelude.{◌≡◌, ℕ, Bool, false, ◌&&◌, ◌==◌, List, [], flat_map, Option, Some, None, option_map, bytes_eq, if◌then◌else◌}
+use Rattle.std.specs.Prelude.{◌≡◌, ℕ, Bool, false, ◌&&◌, ◌==◌, List, [], flat_map, Option, Some}
+use Rattle.std.specs.Prelude.{None, option_map, bytes_eq, if◌then◌else◌}
 use Rattle.std.specs.List.{list_any}
 use Rattle.std.specs.Option.{option_map_or, option_to_list, option_cmp}
 use Rattle.std.specs.Ordering.{ordering_then, nat_cmp}
@@ -9,12 +10,14 @@ use Rattle.std.specs.declared.cmp.Ordering.{Ordering}
 use Rattle.jffs_tree.specs.Origin.{Tree}
 use Rattle.jffs_tree.specs.After.{held_in}
 
--- A directory, a name in it and the inode that stands there. A key without a name is before all names of its directory.
+-- A directory, a name in it and the inode that stands there. A key without a name is before all
+-- names of its directory.
 abbrev pub ChildKey : Type 0
 ChildKey = ℕ × Option (List ℕ) × ℕ
 
 abbrev pub key_cmp : ChildKey → ChildKey → Ordering
-key_cmp a b = ordering_then (ordering_then (nat_cmp a.0 b.0) (option_cmp (slice_cmp nat_cmp) a.1 b.1)) (nat_cmp a.2 b.2)
+key_cmp a b = ordering_then
+    (ordering_then (nat_cmp a.0 b.0) (option_cmp (slice_cmp nat_cmp) a.1 b.1)) (nat_cmp a.2 b.2)
 
 -- whether the index has the key
 abbrev pub has_child : List ChildKey → ChildKey → Bool
@@ -26,7 +29,8 @@ is_named name (Some other) = bytes_eq name other
 
 -- whether the tree's inode stands at the key
 abbrev pub stands_at : Tree → ChildKey → Bool
-stands_at tree q = option_map_or (λ h. (h.entry.parent == q.0) && is_named h.entry.name q.1) (held_in tree q.2) false
+stands_at tree q = option_map_or (λ h. (h.entry.parent == q.0) && is_named h.entry.name q.1)
+    (held_in tree q.2) false
 
 -- The index has just the keys where the inodes of the tree stand.
 abbrev pub IsIndexOf : Tree → List ChildKey → Type 0

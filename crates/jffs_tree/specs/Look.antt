@@ -1,5 +1,6 @@
 -- What a look into a tree finds.
-use Rattle.std.specs.Prelude.{◌≡◌, ℕ, Bool, false, ◌&&◌, ◌==◌, nat_le, count_by, flat_map, List, [], length, Option, Some, map, option_map, unwrap_or, if◌then◌else◌}
+use Rattle.std.specs.Prelude.{◌≡◌, ℕ, Bool, false, ◌&&◌, ◌==◌, nat_le, count_by, flat_map, List, []}
+use Rattle.std.specs.Prelude.{length, Option, Some, map, option_map, unwrap_or, if◌then◌else◌}
 use Rattle.std.specs.List.{AllByRecursion, list_any, filter}
 use Rattle.std.specs.Ordering.{nat_cmp, ordering_then}
 use Rattle.std.specs.Cmp.Lexicographic.{slice_cmp}
@@ -14,20 +15,23 @@ use Rattle.jffs_tree.specs.After.{held_in}
 
 -- the root is a directory in every tree
 abbrev pub kind_in : Tree → ℕ → Option Kind
-kind_in tree i = if i == root then Some Directory else option_map (λ h. h.entry.kind) (held_in tree i)
+kind_in tree i =
+    if i == root then Some Directory else option_map (λ h. h.entry.kind) (held_in tree i)
 
 -- the bytes of a file; a directory has none
 abbrev pub bytes_in : Tree → ℕ → List ℕ
 bytes_in tree i = unwrap_or (option_map (λ h. h.entry.bytes) (held_in tree i)) []
 
 abbrev pub size_of : Tree → ℕ → Option ℕ
-size_of tree i = if i == root then Some 0 else option_map (λ h. length h.entry.bytes) (held_in tree i)
+size_of tree i =
+    if i == root then Some 0 else option_map (λ h. length h.entry.bytes) (held_in tree i)
 
 abbrev pub parent_name_in : Tree → ℕ → Option (ℕ × List ℕ)
 parent_name_in tree i = option_map (λ h. (h.entry.parent, h.entry.name)) (held_in tree i)
 
 abbrev pub holds_version : Tree → ℕ → ℕ → Bool
-holds_version tree i v = option_map_or (λ h. list_any (λ w. w == v) (versions_held (i, h))) (held_in tree i) false
+holds_version tree i v =
+    option_map_or (λ h. list_any (λ w. w == v) (versions_held (i, h))) (held_in tree i) false
 
 -- how often a version is live in a tree
 abbrev pub marks_in : Tree → ℕ → ℕ
@@ -35,7 +39,8 @@ marks_in tree v = count_by (λ w. w == v) (flat_map versions_held tree)
 
 -- whether some version from the first to the last is live in a tree
 abbrev pub any_live_in : Tree → ℕ → ℕ → Bool
-any_live_in tree first last = list_any (λ w. nat_le first w && nat_le w last) (flat_map versions_held tree)
+any_live_in tree first last =
+    list_any (λ w. nat_le first w && nat_le w last) (flat_map versions_held tree)
 
 -- each node of the version is of the inode, as it is where versions rise
 abbrev pub IsVersionOf : List Node → ℕ → ℕ → Type 0

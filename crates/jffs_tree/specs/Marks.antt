@@ -1,5 +1,6 @@
 -- How often each version is live, kept besides the inodes.
-use Rattle.std.specs.Prelude.{◌≡◌, ◌≢◌, ◌≤◌, ◌+◌, ℕ, ◌==◌, ◌&&◌, List, Some, count_by, sum_by, flat_map, unwrap_or, if◌then◌else◌}
+use Rattle.std.specs.Prelude.{◌≡◌, ◌≢◌, ◌≤◌, ◌+◌, ℕ, ◌==◌, ◌&&◌, List, Some, count_by, sum_by}
+use Rattle.std.specs.Prelude.{flat_map, unwrap_or, if◌then◌else◌}
 use Rattle.std.specs.List.{filter}
 use Rattle.std.specs.List.Sorted.{IsStrictlySortedBy}
 use Rattle.std.specs.Option.{option_map_or, option_to_list}
@@ -39,7 +40,9 @@ SameMarks old new = (v i : ℕ) → mark_of new v i ≡ mark_of old v i
 
 -- the higher have `count` more of one version in one inode, and the same elsewhere
 abbrev pub HaveMore : Counts → Counts → ℕ → ℕ → ℕ → Type 0
-HaveMore lower higher version inode count = (v i : ℕ) → mark_of lower v i + (if (v == version) && (i == inode) then count else 0) ≡ mark_of higher v i
+HaveMore lower higher version inode count =
+    (v i : ℕ) → mark_of lower v i + (if (v == version) && (i == inode) then count else 0)
+    ≡ mark_of higher v i
 
 -- how many bytes of an inode the version wrote
 abbrev pub bytes_by : ℕ → Held → ℕ
@@ -49,13 +52,17 @@ bytes_by v h = count_by (λ w. w == v) (flat_map option_to_list h.writers)
 abbrev pub brought_by : ℕ → Node → ℕ
 brought_by v n = if v == n.version then dsize n else 0
 
--- There are marks for all bytes of an inode, and for the data of the node that is to be written over it.
+-- There are marks for all bytes of an inode, and for the data of the node that is to be written
+-- over it.
 abbrev pub HasMarks : Counts → Node → Held → Type 0
 HasMarks counts n h = (v : ℕ) → bytes_by v h + brought_by v n ≤ mark_of counts v n.inode
 
--- In the node's inode the marks for its bytes before and for the node's data have become those for its bytes after.
+-- In the node's inode the marks for its bytes before and for the node's data have become those for
+-- its bytes after.
 abbrev pub MovesMarks : Counts → Counts → Node → Held → Held → Type 0
-MovesMarks old new n before after = (v i : ℕ) → mark_of new v i + (if i == n.inode then bytes_by v before + brought_by v n else 0) ≡ mark_of old v i + (if i == n.inode then bytes_by v after else 0)
+MovesMarks old new n before after =
+    (v i : ℕ) → mark_of new v i + (if i == n.inode then bytes_by v before + brought_by v n else 0)
+    ≡ mark_of old v i + (if i == n.inode then bytes_by v after else 0)
 
 -- There are marks for all bytes of an inode.
 abbrev pub HasByteMarks : Counts → ℕ → Held → Type 0
@@ -63,7 +70,8 @@ HasByteMarks counts inode h = (v : ℕ) → bytes_by v h ≤ mark_of counts v in
 
 -- The marks for all bytes of an inode are gone.
 abbrev pub LosesByteMarks : Counts → Counts → ℕ → Held → Type 0
-LosesByteMarks old new inode h = (v i : ℕ) → mark_of new v i + (if i == inode then bytes_by v h else 0) ≡ mark_of old v i
+LosesByteMarks old new inode h =
+    (v i : ℕ) → mark_of new v i + (if i == inode then bytes_by v h else 0) ≡ mark_of old v i
 
 -- how many bytes of an inode in a tree the version wrote
 abbrev pub bytes_by_in : Tree → ℕ → ℕ → ℕ
@@ -71,14 +79,19 @@ bytes_by_in tree v i = option_map_or (λ h. bytes_by v h) (held_in tree i) 0
 
 -- `HasMarks` and `MovesMarks` of the node's inode in a tree, present or not
 abbrev pub HasMarksIn : Counts → Node → Tree → Type 0
-HasMarksIn counts n tree = (v : ℕ) → bytes_by_in tree v n.inode + brought_by v n ≤ mark_of counts v n.inode
+HasMarksIn counts n tree =
+    (v : ℕ) → bytes_by_in tree v n.inode + brought_by v n ≤ mark_of counts v n.inode
 
 abbrev pub MovesMarksIn : Counts → Counts → Node → Tree → Tree → Type 0
-MovesMarksIn old new n before after = (v i : ℕ) → mark_of new v i + (if i == n.inode then bytes_by_in before v i + brought_by v n else 0) ≡ mark_of old v i + (if i == n.inode then bytes_by_in after v i else 0)
+MovesMarksIn old new n before after =
+    (v i : ℕ) → mark_of new v i
+    + (if i == n.inode then bytes_by_in before v i + brought_by v n else 0)
+    ≡ mark_of old v i + (if i == n.inode then bytes_by_in after v i else 0)
 
 -- how often the tree holds the version in an inode: once as its newest, once for each byte
 abbrev pub held_marks : Tree → ℕ → ℕ → ℕ
-held_marks tree v i = option_map_or (λ h. count_by (λ w. w == v) (versions_held (i, h))) (held_in tree i) 0
+held_marks tree v i =
+    option_map_or (λ h. count_by (λ w. w == v) (versions_held (i, h))) (held_in tree i) 0
 
 -- the marks are those of the tree
 abbrev pub AreMarksOf : Tree → Counts → Type 0

@@ -1,5 +1,7 @@
 -- Which node a byte comes from, and which nodes are live. `past` has the newest node first.
-use Rattle.std.specs.Prelude.{◌≡◌, ℕ, ◌+◌, ◌-◌, Bool, true, false, not, ◌&&◌, ◌==◌, nat_le, nat_lt, List, [], ◌∷◌, ◌++◌, length, map, flat_map, take, drop, count_by, Option, Some, None, option_map, if◌then◌else◌, IsTrue}
+use Rattle.std.specs.Prelude.{◌≡◌, ℕ, ◌+◌, ◌-◌, Bool, true, false, not, ◌&&◌, ◌==◌, nat_le, nat_lt}
+use Rattle.std.specs.Prelude.{List, [], ◌∷◌, ◌++◌, length, map, flat_map, take, drop, count_by}
+use Rattle.std.specs.Prelude.{Option, Some, None, option_map, if◌then◌else◌, IsTrue}
 use Rattle.std.specs.List.{range_with_len, list_any, find}
 use Rattle.std.specs.Option.{option_map_or, option_to_list}
 use Rattle.jffs_node.specs.declared.node.Node.{Node}
@@ -13,7 +15,9 @@ concerns i n = not (is_unmount n.kind) && (n.inode == i)
 -- what the nodes make of one inode: what `state_of_past` has there
 abbrev pub entry : List Node → ℕ → Option Entry
 entry [] i = None
-entry (n ∷ past) i = if concerns i n then (if n.deleted then None else Some (written n (entry past i))) else entry past i
+entry (n ∷ past) i =
+    if concerns i n then (if n.deleted then None else Some (written n (entry past i)))
+    else entry past i
 
 abbrev pub size_in : List Node → ℕ → ℕ
 size_in past i = length (bytes_of (entry past i))
@@ -33,7 +37,8 @@ origin (n ∷ past) i p =
     if not (concerns i n) then origin past i p else (
     if n.deleted then None else (
     if writes n p then Some n else (
-    if nat_lt (offset_before n p) (size_in past i) then origin past i (offset_before n p) else None)))
+    if nat_lt (offset_before n p) (size_in past i) then origin past i (offset_before n p)
+    else None)))
 
 -- Where in the data of its origin the byte at offset p stood.
 abbrev pub origin_offset : List Node → ℕ → ℕ → ℕ
@@ -47,7 +52,8 @@ abbrev pub newest : List Node → ℕ → Option Node
 newest [] i = None
 newest (n ∷ past) i = if concerns i n then (if n.deleted then None else Some n) else newest past i
 
--- What a tree holds of an inode: its entry; of each byte the version that wrote it last; of its newest node the version and the form.
+-- What a tree holds of an inode: its entry; of each byte the version that wrote it last; of its
+-- newest node the version and the form.
 pub record Held : Type 0 where
   pub entry : Entry
   pub writers : List (Option ℕ)

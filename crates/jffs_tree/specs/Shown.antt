@@ -7,7 +7,12 @@ use Rattle.jffs_tree.specs.Fragments.{AreLaid, laid, byte_of, writer_of}
 
 abbrev pub held_of : Inside → Held
 held_of a = record {
-  entry = record { kind = a.kind; parent = a.parent; name = a.name; bytes = map byte_of (laid 0 a.size a.fragments.entries) };
+  entry = record {
+    kind = a.kind;
+    parent = a.parent;
+    name = a.name;
+    bytes = map byte_of (laid 0 a.size a.fragments.entries);
+  };
   writers = map writer_of (laid 0 a.size a.fragments.entries);
   newest = Some a.newest;
   states_size = a.states_size;

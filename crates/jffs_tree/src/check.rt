@@ -4,7 +4,8 @@ ghost use Rattle.std.specs.Prelude.{◌≡◌};
 ghost use Rattle.std.specs.List.{list_all};
 ghost use Rattle.jffs_tree.specs.Origin.{state_in};
 ghost use Rattle.jffs_tree.specs.Look.{stands_first};
-ghost use Rattle.jffs_tree.specs.Check.{check, parents_are_there, names_differ, bytes_are_written, is_within};
+ghost use Rattle.jffs_tree.specs.Check.{check, parents_are_there, names_differ, bytes_are_written};
+ghost use Rattle.jffs_tree.specs.Check.{is_within};
 
 use crate::inode::Inode;
 use crate::look::ROOT;

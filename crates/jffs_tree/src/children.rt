@@ -1,6 +1,7 @@
 //! The index of children, by which a name is found without a walk over all inodes.
 
-ghost use Rattle.std.specs.Prelude.{◌≡◌, ◌==◌, ◌&&◌, ◌≤◌, ℕ, true, false, Some, None, Option, IfSome, IfNone, IfOk};
+ghost use Rattle.std.specs.Prelude.{◌≡◌, ◌==◌, ◌&&◌, ◌≤◌, ℕ, true, false, Some, None, Option};
+ghost use Rattle.std.specs.Prelude.{IfSome, IfNone, IfOk};
 ghost use Rattle.std.specs.List.Sorted.{IsStrictlySortedBy};
 ghost use Rattle.jffs_tree.specs.Index.{ChildKey, has_child, is_named, names_under};
 ghost use Rattle.jffs_tree.specs.Look.{name_cmp};
@@ -15,9 +16,12 @@ pub(crate) type ChildKey = (u32, Option<Name>, u32);
 
 /// The smallest inode of a name in a directory.
 pub(crate) fn first_named(children: &BTreeSet<ChildKey>, parent: u32, name: &Name) -> Option<u32>
-    ensures there { IfSome result (λ i. has_child children.now.keys (parent, Some name.now, i) ≡ true) }
-    ensures least { IfSome result (λ i. (j : ℕ) → has_child children.now.keys (parent, Some name.now, j) ≡ true → i ≤ j) }
-    ensures none { IfNone result ((j : ℕ) → has_child children.now.keys (parent, Some name.now, j) ≡ false) }
+    ensures there { IfSome result
+        (λ i. has_child children.now.keys (parent, Some name.now, i) ≡ true) }
+    ensures least { IfSome result
+        (λ i. (j : ℕ) → has_child children.now.keys (parent, Some name.now, j) ≡ true → i ≤ j) }
+    ensures none { IfNone result
+        ((j : ℕ) → has_child children.now.keys (parent, Some name.now, j) ≡ false) }
 {
     let mut rest = children.range((parent, Some(*name), 0)..);
     let Some(first) = rest.next() else {
@@ -32,8 +36,10 @@ pub(crate) fn first_named(children: &BTreeSet<ChildKey>, parent: u32, name: &Nam
 
 /// Whether something stands in the directory.
 pub(crate) fn any_named(children: &BTreeSet<ChildKey>, parent: u32) -> bool
-    ensures some { result ≡ true → (q : ChildKey) × (has_child children.now.keys q ≡ true) × (q.0 ≡ parent) }
-    ensures none { result ≡ false → (q : ChildKey) → q.0 ≡ parent → has_child children.now.keys q ≡ false }
+    ensures some { result ≡ true
+        → (q : ChildKey) × (has_child children.now.keys q ≡ true) × (q.0 ≡ parent) }
+    ensures none { result ≡ false → (q : ChildKey) → q.0 ≡ parent
+        → has_child children.now.keys q ≡ false }
 {
     let mut rest = children.range((parent, None, 0)..);
     match rest.next() {

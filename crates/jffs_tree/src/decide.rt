@@ -1,14 +1,17 @@
 //! The decision on a wish.
 
-ghost use Rattle.std.specs.Prelude.{◌≡◌, ◌≢◌, ℕ, ◌<◌, slice_index, not, false, length, Some, Err, IsSome, IsOk, option_map};
+ghost use Rattle.std.specs.Prelude.{◌≡◌, ◌≢◌, ℕ, ◌<◌, slice_index, not, false, length, Some, Err};
+ghost use Rattle.std.specs.Prelude.{IsSome, IsOk, option_map};
 ghost use Rattle.jffs_tree.specs.declared.wish.Cause.TheVariants.{Memory};
-ghost use Rattle.jffs_tree.specs.declared.wish.Wish.TheVariants.{Write, Truncate, Rename, Remove, Copy, Unmount};
+ghost use Rattle.jffs_tree.specs.declared.wish.Wish.TheVariants.{Write, Truncate, Rename, Remove};
+ghost use Rattle.jffs_tree.specs.declared.wish.Wish.TheVariants.{Copy, Unmount};
 ghost use Rattle.jffs_tree.specs.State.{is_directory_in};
 ghost use Rattle.jffs_tree.specs.Origin.{holder, state_in};
 ghost use Rattle.jffs_tree.specs.After.{held_in};
 ghost use Rattle.jffs_node.specs.Path.{IsPath};
 ghost use Rattle.jffs_tree.specs.Deciding.{IsWish};
-ghost use Rattle.jffs_tree.specs.Decide.{decide_on, decide_new, parent_in, is_empty, plain, entry_of, carries_bytes};
+ghost use Rattle.jffs_tree.specs.Decide.{decide_on, decide_new, parent_in, is_empty, plain};
+ghost use Rattle.jffs_tree.specs.Decide.{entry_of, carries_bytes};
 
 use crate::children::any_named;
 use crate::inode::Inode;
@@ -127,9 +130,12 @@ impl Tree {
         offset: u32,
         bytes: &Bytes,
     ) -> Result<NewNode, Cause>
-        ensures decided { result ≢ Err Memory → result ≡ decide_on self.now limits (Write path.now offset bytes.now) }
-        ensures bare { length bytes.now ≡ 0 → result ≡ decide_on self.now limits (Write path.now offset bytes.now) }
-        ensures last { result ≡ Err Memory → IsOk (decide_on self.now limits (Write path.now offset bytes.now)) }
+        ensures decided { result ≢ Err Memory
+            → result ≡ decide_on self.now limits (Write path.now offset bytes.now) }
+        ensures bare { length bytes.now ≡ 0
+            → result ≡ decide_on self.now limits (Write path.now offset bytes.now) }
+        ensures last { result ≡ Err Memory
+            → IsOk (decide_on self.now limits (Write path.now offset bytes.now)) }
         ensures small { (k : ℕ) → slice_index bytes.now k < 256 }
     {
         let data = bytes.as_slice();
@@ -252,9 +258,12 @@ impl Tree {
         offset: u32,
         bytes: &Bytes,
     ) -> Result<NewNode, Cause>
-        ensures decided { result ≢ Err Memory → result ≡ decide_on self.now limits (Copy source parent name.now offset bytes.now) }
-        ensures bare { length bytes.now ≡ 0 → result ≡ decide_on self.now limits (Copy source parent name.now offset bytes.now) }
-        ensures last { result ≡ Err Memory → IsOk (decide_on self.now limits (Copy source parent name.now offset bytes.now)) }
+        ensures decided { result ≢ Err Memory
+            → result ≡ decide_on self.now limits (Copy source parent name.now offset bytes.now) }
+        ensures bare { length bytes.now ≡ 0
+            → result ≡ decide_on self.now limits (Copy source parent name.now offset bytes.now) }
+        ensures last { result ≡ Err Memory
+            → IsOk (decide_on self.now limits (Copy source parent name.now offset bytes.now)) }
     {
         if (limits.data_max as usize) < bytes.len() {
             return Err(Cause::DataLong);
@@ -283,7 +292,8 @@ impl Tree {
     /// nothing stands against it, but its bytes can't be shared: allocation failed.
     pub fn decide(&self, limits: Limits, wish: &Wish) -> Result<NewNode, Cause>
         ensures decided { result ≢ Err Memory → result ≡ decide_on self.now limits wish.now }
-        ensures bare { carries_bytes wish.now ≡ false → result ≡ decide_on self.now limits wish.now }
+        ensures bare { carries_bytes wish.now ≡ false
+            → result ≡ decide_on self.now limits wish.now }
         ensures last { result ≡ Err Memory → IsOk (decide_on self.now limits wish.now) }
         ensures wish { IsWish wish.now }
     {

@@ -1,12 +1,15 @@
 //! Fragments: the ranges of a file's bytes that nodes wrote.
 
-ghost use Rattle.std.specs.Prelude.{◌≡◌, ◌≤◌, ◌<◌, ◌+◌, ◌==◌, ℕ, length, [], Some, OnOk, OnErr, IfOk, IsSome, IfSome, IfNone, if◌then◌else◌};
+ghost use Rattle.std.specs.Prelude.{◌≡◌, ◌≤◌, ◌<◌, ◌+◌, ◌==◌, ℕ, length, [], Some, OnOk, OnErr};
+ghost use Rattle.std.specs.Prelude.{IfOk, IsSome, IfSome, IfNone, if◌then◌else◌};
 ghost use Rattle.std.specs.BTreeMap.{get, insert_entry, is_at};
 ghost use Rattle.std.specs.Map.{remove_entry};
 ghost use Rattle.std.specs.Ordering.{nat_cmp};
 ghost use Rattle.jffs_node.specs.Record.{file_max};
 ghost use Rattle.jffs_tree.specs.Marks.{mark_of, brought_by};
-ghost use Rattle.jffs_tree.specs.Fragments.{AreLaid, AreCut, AreShort, FitsFile, IsFileAfter, SameCells, HasAmounts, MovesAmounts, end_of, outside, overwritten, amount_by, part_by};
+ghost use Rattle.jffs_tree.specs.Fragments.{AreLaid, AreCut, AreShort, FitsFile, IsFileAfter};
+ghost use Rattle.jffs_tree.specs.Fragments.{SameCells, HasAmounts, MovesAmounts, end_of, outside};
+ghost use Rattle.jffs_tree.specs.Fragments.{overwritten, amount_by, part_by};
 
 use crate::marks::Marks;
 use jffs_node::{Bytes, FILE_MAX, Node, shared};
@@ -48,7 +51,9 @@ impl Fragment {
 /// The first offset of the fragment that reaches across an offset.
 fn across(fragments: &Fragments, at: u32) -> Option<u32>
     requires laid { AreLaid 0 file_max fragments.now.entries }
-    ensures there { IfSome result (λ first. (f : Fragment) × (get nat_cmp fragments.now first ≡ Some f) × (first < at) × (at < end_of (first, f))) }
+    ensures there { IfSome result
+        (λ first. (f : Fragment) × (get nat_cmp fragments.now first ≡ Some f) × (first < at)
+        × (at < end_of (first, f))) }
     ensures none { IfNone result (AreCut at fragments.now.entries) }
 {
     let mut earlier = fragments.range(..at);
@@ -105,10 +110,18 @@ pub(crate) fn write_over(
 ) -> Result<u32, AllocError>
     requires laid { AreLaid 0 size fragments.old.entries }
     requires fits { FitsFile node.now size }
-    requires marked { (v : ℕ) → amount_by v fragments.old.entries + brought_by v node.now ≤ mark_of marks.old v node.now.inode }
-    ensures ok { IfOk result (λ after. IsFileAfter node.now size fragments.old.entries after fragments.new.entries) }
-    ensures moved { OnOk result ((v i : ℕ) → mark_of marks.new v i + (if i == node.now.inode then amount_by v fragments.old.entries + brought_by v node.now else 0) ≡ mark_of marks.old v i + (if i == node.now.inode then amount_by v fragments.new.entries else 0)) }
-    ensures err { OnErr result (SameCells fragments.old.entries fragments.new.entries × (marks.new ≡ marks.old)) }
+    requires marked { (v : ℕ)
+        → amount_by v fragments.old.entries + brought_by v node.now
+        ≤ mark_of marks.old v node.now.inode }
+    ensures ok { IfOk result
+        (λ after. IsFileAfter node.now size fragments.old.entries after fragments.new.entries) }
+    ensures moved { OnOk result
+        ((v i : ℕ) → mark_of marks.new v i
+        + (if i == node.now.inode then amount_by v fragments.old.entries + brought_by v node.now
+        else 0) ≡ mark_of marks.old v i
+        + (if i == node.now.inode then amount_by v fragments.new.entries else 0)) }
+    ensures err { OnErr result
+        (SameCells fragments.old.entries fragments.new.entries × (marks.new ≡ marks.old)) }
 {
     if size <= node.offset {
         return append(fragments, size, node, marks);
@@ -138,10 +151,18 @@ fn append(
 ) -> Result<u32, AllocError>
     requires laid { AreLaid 0 size fragments.old.entries }
     requires fits { FitsFile node.now size × (size ≤ node.now.offset) }
-    requires marked { (v : ℕ) → amount_by v fragments.old.entries + brought_by v node.now ≤ mark_of marks.old v node.now.inode }
-    ensures ok { IfOk result (λ after. IsFileAfter node.now size fragments.old.entries after fragments.new.entries) }
-    ensures moved { OnOk result ((v i : ℕ) → mark_of marks.new v i + (if i == node.now.inode then amount_by v fragments.old.entries + brought_by v node.now else 0) ≡ mark_of marks.old v i + (if i == node.now.inode then amount_by v fragments.new.entries else 0)) }
-    ensures err { OnErr result ((fragments.new.entries ≡ fragments.old.entries) × (marks.new ≡ marks.old)) }
+    requires marked { (v : ℕ)
+        → amount_by v fragments.old.entries + brought_by v node.now
+        ≤ mark_of marks.old v node.now.inode }
+    ensures ok { IfOk result
+        (λ after. IsFileAfter node.now size fragments.old.entries after fragments.new.entries) }
+    ensures moved { OnOk result
+        ((v i : ℕ) → mark_of marks.new v i
+        + (if i == node.now.inode then amount_by v fragments.old.entries + brought_by v node.now
+        else 0) ≡ mark_of marks.old v i
+        + (if i == node.now.inode then amount_by v fragments.new.entries else 0)) }
+    ensures err { OnErr result
+        ((fragments.new.entries ≡ fragments.old.entries) × (marks.new ≡ marks.old)) }
 {
     if node.bytes.is_empty() {
         return Ok(node.size.unwrap_or(node.offset));
@@ -170,8 +191,11 @@ pub(crate) fn make_cuts(fragments: &mut Fragments, node: &Node, end: u32) -> Res
 
 /// The first offset, from one on and before another, at which a fragment begins.
 pub(crate) fn first_between(fragments: &Fragments, from: u32, to: u32) -> Option<u32>
-    ensures there { IfSome result (λ first. (f : Fragment) × (get nat_cmp fragments.now first ≡ Some f) × (from ≤ first) × (first < to)) }
-    ensures least { IfSome result (λ first. outside from first fragments.now.entries ≡ fragments.now.entries) }
+    ensures there { IfSome result
+        (λ first. (f : Fragment) × (get nat_cmp fragments.now first ≡ Some f) × (from ≤ first)
+        × (first < to)) }
+    ensures least { IfSome result
+        (λ first. outside from first fragments.now.entries ≡ fragments.now.entries) }
     ensures none { IfNone result (outside from to fragments.now.entries ≡ fragments.now.entries) }
 {
     let mut later = fragments.range(from..);
@@ -186,7 +210,8 @@ pub(crate) fn take_out(fragments: &mut Fragments, from: u32, to: u32, inode: u32
     requires short { AreShort fragments.old.entries }
     requires marked { HasAmounts marks.old inode fragments.old.entries }
     ensures left { fragments.new.entries ≡ outside from to fragments.old.entries }
-    ensures moved { MovesAmounts marks.old marks.new inode fragments.old.entries fragments.new.entries }
+    ensures moved { MovesAmounts marks.old marks.new inode fragments.old.entries
+        fragments.new.entries }
 {
     while let Some(first) = first_between(fragments, from, to) {
         take_one(fragments, first, inode, marks);
@@ -198,9 +223,11 @@ fn take_one(fragments: &mut Fragments, first: u32, inode: u32, marks: &mut Marks
     requires short { AreShort fragments.old.entries }
     requires marked { HasAmounts marks.old inode fragments.old.entries }
     requires there { IsSome (get nat_cmp fragments.old first) }
-    ensures left { fragments.new.entries ≡ remove_entry (is_at (nat_cmp first)) fragments.old.entries }
+    ensures left { fragments.new.entries
+        ≡ remove_entry (is_at (nat_cmp first)) fragments.old.entries }
     ensures fewer { length fragments.new.entries < length fragments.old.entries }
-    ensures moved { MovesAmounts marks.old marks.new inode fragments.old.entries fragments.new.entries }
+    ensures moved { MovesAmounts marks.old marks.new inode fragments.old.entries
+        fragments.new.entries }
 {
     if let Some(gone) = fragments.remove(&first) {
         marks.lower(gone.writer, inode, gone.len());
@@ -209,7 +236,8 @@ fn take_one(fragments: &mut Fragments, first: u32, inode: u32, marks: &mut Marks
 
 /// The fragment of a node's data, which it shares. `AllocError` where no owner more can be counted.
 fn fragment_of(node: &Node) -> Result<Fragment, AllocError>
-    ensures { IfOk result (λ fragment. fragment ≡ record { bytes = node.now.bytes; writer = node.now.version }) }
+    ensures { IfOk result
+        (λ fragment. fragment ≡ record { bytes = node.now.bytes; writer = node.now.version }) }
 {
     Ok(Fragment {
         bytes: shared(&node.bytes)?,
@@ -228,9 +256,15 @@ fn put(
 ) -> Result<(), AllocError>
     requires short { AreShort fragments.old.entries }
     requires marked { HasAmounts marks.old inode fragments.old.entries }
-    ensures ok { OnOk result (fragments.new.entries ≡ insert_entry nat_cmp fragments.old.entries offset fragment) }
-    ensures moved { OnOk result ((v i : ℕ) → mark_of marks.new v i + (if i == inode then amount_by v fragments.old.entries + part_by v fragment else 0) ≡ mark_of marks.old v i + (if i == inode then amount_by v fragments.new.entries else 0)) }
-    ensures err { OnErr result ((fragments.new.entries ≡ fragments.old.entries) × (marks.new ≡ marks.old)) }
+    ensures ok { OnOk result
+        (fragments.new.entries ≡ insert_entry nat_cmp fragments.old.entries offset fragment) }
+    ensures moved { OnOk result
+        ((v i : ℕ) → mark_of marks.new v i
+        + (if i == inode then amount_by v fragments.old.entries + part_by v fragment else 0)
+        ≡ mark_of marks.old v i
+        + (if i == inode then amount_by v fragments.new.entries else 0)) }
+    ensures err { OnErr result
+        ((fragments.new.entries ≡ fragments.old.entries) × (marks.new ≡ marks.old)) }
 {
     if let Some(covered) = fragments.insert(offset, fragment)? {
         marks.lower(covered.writer, inode, covered.len());
@@ -248,10 +282,18 @@ pub(crate) fn overwrite(
 ) -> Result<(), AllocError>
     requires laid { AreLaid 0 file_max fragments.old.entries }
     requires range { (node.now.offset + length node.now.bytes ≤ end) × (end ≤ file_max) }
-    requires marked { (v : ℕ) → amount_by v fragments.old.entries + brought_by v node.now ≤ mark_of marks.old v node.now.inode }
-    ensures ok { OnOk result (fragments.new.entries ≡ overwritten end node.now fragments.old.entries) }
-    ensures moved { OnOk result ((v i : ℕ) → mark_of marks.new v i + (if i == node.now.inode then amount_by v fragments.old.entries + brought_by v node.now else 0) ≡ mark_of marks.old v i + (if i == node.now.inode then amount_by v fragments.new.entries else 0)) }
-    ensures err { OnErr result ((fragments.new.entries ≡ fragments.old.entries) × (marks.new ≡ marks.old)) }
+    requires marked { (v : ℕ)
+        → amount_by v fragments.old.entries + brought_by v node.now
+        ≤ mark_of marks.old v node.now.inode }
+    ensures ok { OnOk result
+        (fragments.new.entries ≡ overwritten end node.now fragments.old.entries) }
+    ensures moved { OnOk result
+        ((v i : ℕ) → mark_of marks.new v i
+        + (if i == node.now.inode then amount_by v fragments.old.entries + brought_by v node.now
+        else 0) ≡ mark_of marks.old v i
+        + (if i == node.now.inode then amount_by v fragments.new.entries else 0)) }
+    ensures err { OnErr result
+        ((fragments.new.entries ≡ fragments.old.entries) × (marks.new ≡ marks.old)) }
 {
     if node.bytes.is_empty() {
         take_out(fragments, node.offset, end, node.inode, marks);

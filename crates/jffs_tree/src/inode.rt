@@ -1,10 +1,13 @@
 //! One inode: its parent and name, and a file's bytes as the fragments that nodes wrote.
 
-ghost use Rattle.std.specs.Prelude.{◌≡◌, ◌≢◌, ◌==◌, ◌&&◌, ◌+◌, ◌-◌, ◌≤◌, ◌++◌, [], Some, None, false, is_some, min, length, take, drop, OnOk, OnErr, bytes_eq, slice_index_or};
+ghost use Rattle.std.specs.Prelude.{◌≡◌, ◌≢◌, ◌==◌, ◌&&◌, ◌+◌, ◌-◌, ◌≤◌, ◌++◌, [], Some, None};
+ghost use Rattle.std.specs.Prelude.{false, is_some, min, length, take, drop, OnOk, OnErr, bytes_eq};
+ghost use Rattle.std.specs.Prelude.{slice_index_or};
 ghost use Rattle.std.specs.List.{list_all};
 ghost use Rattle.jffs_node.specs.Record.{dsize};
 ghost use Rattle.jffs_tree.specs.After.{held_after, IsSmall};
-ghost use Rattle.jffs_tree.specs.Marks.{HasMarks, MovesMarks, SameMarks, HasByteMarks, LosesByteMarks};
+ghost use Rattle.jffs_tree.specs.Marks.{HasMarks, MovesMarks, SameMarks, HasByteMarks};
+ghost use Rattle.jffs_tree.specs.Marks.{LosesByteMarks};
 ghost use Rattle.jffs_tree.specs.Check.{bytes_are_written};
 ghost use Rattle.jffs_tree.specs.Decide.{is_current};
 
@@ -48,7 +51,13 @@ impl Model for Inode {
 impl Inode {
     /// One without bytes.
     pub(crate) fn empty(alloc: Global, node: &Node, name: Name) -> Inode
-        ensures { result ≡ record { entry = record { kind = node.now.kind; parent = node.now.parent; name = name; bytes = [] }; writers = []; newest = Some node.now.version; states_size = false } }
+        ensures { result ≡ record {
+          entry =
+              record { kind = node.now.kind; parent = node.now.parent; name = name; bytes = [] };
+          writers = [];
+          newest = Some node.now.version;
+          states_size = false;
+        } }
     {
         Inode {
             kind: node.kind,
@@ -71,7 +80,8 @@ impl Inode {
     ) -> Result<(), AllocError>
         requires named { node.now.name ≡ Some name }
         requires small { IsSmall node.now }
-        requires offsets { dsize node.now ≢ node.now.rsize → length self.old.entry.bytes ≤ node.now.offset + node.now.rsize }
+        requires offsets { dsize node.now ≢ node.now.rsize
+            → length self.old.entry.bytes ≤ node.now.offset + node.now.rsize }
         requires marked { HasMarks marks.old node.now self.old }
         ensures ok { OnOk result (self.new ≡ held_after node.now (Some self.old)) }
         ensures marks { OnOk result (MovesMarks marks.old marks.new node.now self.old self.new) }
@@ -104,7 +114,8 @@ impl Inode {
     /// Reads bytes from an offset on, as many as there are and as the slice takes.
     pub(crate) fn read(&self, offset: usize, out: &mut [u8]) -> usize
         ensures count { result ≡ min (length out.old) (length self.now.entry.bytes - offset) }
-        ensures read { out.new ≡ take result (drop offset self.now.entry.bytes) ++ drop result out.old }
+        ensures read { out.new
+            ≡ take result (drop offset self.now.entry.bytes) ++ drop result out.old }
     {
         let size = self.size as usize;
         let start = offset.min(size);
@@ -156,7 +167,8 @@ impl Inode {
 
     /// Whether it stands in that directory under that name.
     pub(crate) fn is_child(&self, parent: u32, name: &Name) -> bool
-        ensures { result ≡ ((self.now.entry.parent == parent) && bytes_eq self.now.entry.name name.now) }
+        ensures { result ≡ ((self.now.entry.parent == parent)
+            && bytes_eq self.now.entry.name name.now) }
     {
         self.parent == parent && self.name.bytes() == name.bytes()
     }

@@ -2,7 +2,10 @@
 
 ghost use Rattle.std.specs.Prelude.{◌≡◌, []};
 ghost use Rattle.jffs_tree.specs.Origin.{tree_of};
-ghost use Rattle.jffs_tree.specs.Laws.{TrueCopiesKeepState, ErasingKeepsState, ErasingKeepsTree, ErasingKeepsOrigins, RulesGiveOrigins, ErasingKeepsRules, BytesComeFromOrigins, TreesStepByNodes, TreesTestAsNodes, DecidesByTree, AcceptedCopiesAreTrue, CleaningCopiesAreTrue};
+ghost use Rattle.jffs_tree.specs.Laws.{TrueCopiesKeepState, ErasingKeepsState, ErasingKeepsTree};
+ghost use Rattle.jffs_tree.specs.Laws.{ErasingKeepsOrigins, RulesGiveOrigins, ErasingKeepsRules};
+ghost use Rattle.jffs_tree.specs.Laws.{BytesComeFromOrigins, TreesStepByNodes, TreesTestAsNodes};
+ghost use Rattle.jffs_tree.specs.Laws.{DecidesByTree, AcceptedCopiesAreTrue, CleaningCopiesAreTrue};
 ghost use Rattle.jffs_tree.specs.Examples.{Overwriting, Truncating, Copying};
 
 /// Without nodes the tree is empty.

@@ -1,11 +1,15 @@
 //! Looks into a tree.
 
-ghost use Rattle.std.specs.Prelude.{◌≡◌, ℕ, true, false, IfSome, IfNone, ◌==◌, ◌+◌, Some, ◌-◌, ◌++◌, ◌^◌, ◌<◌, ◌≤◌, min, length, take, drop, List, None, option_map, option_copied, slice_index_or, unwrap_or};
+ghost use Rattle.std.specs.Prelude.{◌≡◌, ℕ, true, false, IfSome, IfNone, ◌==◌, ◌+◌, Some, ◌-◌};
+ghost use Rattle.std.specs.Prelude.{◌++◌, ◌^◌, ◌<◌, ◌≤◌, min, length, take, drop, List, None};
+ghost use Rattle.std.specs.Prelude.{option_map, option_copied, slice_index_or, unwrap_or};
 ghost use Rattle.jffs_node.specs.declared.node.Node.{Node};
 ghost use Rattle.jffs_tree.specs.State.{child, resolve};
-ghost use Rattle.jffs_tree.specs.Origin.{tree_of, state_in, size_in, origin, newest, version_of, is_live, marks, any_live};
+ghost use Rattle.jffs_tree.specs.Origin.{tree_of, state_in, size_in, origin, newest, version_of};
+ghost use Rattle.jffs_tree.specs.Origin.{is_live, marks, any_live};
 ghost use Rattle.jffs_tree.specs.After.{held_in};
-ghost use Rattle.jffs_tree.specs.Look.{kind_in, size_of, bytes_in, writers_in, parent_name_in, holds_version, marks_in, any_live_in, IsVersionOf};
+ghost use Rattle.jffs_tree.specs.Look.{kind_in, size_of, bytes_in, writers_in, parent_name_in};
+ghost use Rattle.jffs_tree.specs.Look.{holds_version, marks_in, any_live_in, IsVersionOf};
 
 use crate::children::first_named;
 use crate::inode::Inode;
@@ -52,8 +56,10 @@ impl Tree {
 
     /// The version of the inode's newest node; `None` if it isn't present.
     pub fn newest(&self, inode: u32) -> Option<u32>
-        ensures held { result ≡ unwrap_or (option_map (λ h. h.newest) (held_in self.now inode)) None }
-        ensures of { (past : List Node) → self.now ≡ tree_of past → result ≡ version_of (newest past inode) }
+        ensures held { result
+            ≡ unwrap_or (option_map (λ h. h.newest) (held_in self.now inode)) None }
+        ensures of { (past : List Node) → self.now ≡ tree_of past
+            → result ≡ version_of (newest past inode) }
     {
         self.inode(inode).map(|found| found.newest)
     }
@@ -62,8 +68,10 @@ impl Tree {
     /// hole, and past the end.
     pub fn last_writer(&self, inode: u32, offset: u32) -> Option<u32>
         ensures held { result ≡ slice_index_or (writers_in self.now inode) offset None }
-        ensures inside { (past : List Node) → self.now ≡ tree_of past → offset < size_in past inode → result ≡ version_of (origin past inode offset) }
-        ensures past_end { (past : List Node) → self.now ≡ tree_of past → size_in past inode ≤ offset → result ≡ None }
+        ensures inside { (past : List Node) → self.now ≡ tree_of past → offset < size_in past inode
+            → result ≡ version_of (origin past inode offset) }
+        ensures past_end { (past : List Node) → self.now ≡ tree_of past
+            → size_in past inode ≤ offset → result ≡ None }
     {
         match self.inode(inode) {
             Some(found) => found.writer(offset),
@@ -75,7 +83,8 @@ impl Tree {
     /// many. The rest of the slice stays as it is.
     pub fn read(&self, inode: u32, offset: u32, out: &mut [u8]) -> usize
         ensures count { result ≡ min (length out.old) (length (bytes_in self.now inode) - offset) }
-        ensures read { out.new ≡ take result (drop offset (bytes_in self.now inode)) ++ drop result out.old }
+        ensures read { out.new
+            ≡ take result (drop offset (bytes_in self.now inode)) ++ drop result out.old }
     {
         let Some(found) = self.inode(inode) else {
             return 0;
@@ -88,7 +97,8 @@ impl Tree {
     /// it is live in the whole tree. Takes no memory.
     pub fn live(&self, inode: u32, version: u32) -> bool
         ensures held { result ≡ holds_version self.now inode version }
-        ensures whole { (past : List Node) → self.now ≡ tree_of past → IsVersionOf past version inode → result ≡ is_live past version }
+        ensures whole { (past : List Node) → self.now ≡ tree_of past
+            → IsVersionOf past version inode → result ≡ is_live past version }
     {
         0 < self.marks.at(version, inode)
     }
@@ -98,7 +108,8 @@ impl Tree {
     /// the count, and nothing is counted anew. Takes no memory.
     pub fn marks(&self, version: u32) -> u32
         ensures held { result ≡ min (marks_in self.now version) (2 ^ 32 - 1) }
-        ensures of { (past : List Node) → self.now ≡ tree_of past → result ≡ min (marks past version) (2 ^ 32 - 1) }
+        ensures of { (past : List Node) → self.now ≡ tree_of past
+            → result ≡ min (marks past version) (2 ^ 32 - 1) }
     {
         self.marks.total(version)
     }
@@ -106,9 +117,12 @@ impl Tree {
     /// The least live version from `first` to `last`, both included; `None` if none is. Takes no
     /// memory.
     pub fn first_live(&self, first: u32, last: u32) -> Option<u32>
-        ensures live { IfSome result (λ v. (i : ℕ) × (first ≤ v) × (v ≤ last) × (holds_version self.now i v ≡ true)) }
-        ensures least { IfSome result (λ v. (w i : ℕ) → first ≤ w → w < v → holds_version self.now i w ≡ false) }
-        ensures none { IfNone result ((v i : ℕ) → first ≤ v → v ≤ last → holds_version self.now i v ≡ false) }
+        ensures live { IfSome result
+            (λ v. (i : ℕ) × (first ≤ v) × (v ≤ last) × (holds_version self.now i v ≡ true)) }
+        ensures least { IfSome result
+            (λ v. (w i : ℕ) → first ≤ w → w < v → holds_version self.now i w ≡ false) }
+        ensures none { IfNone result
+            ((v i : ℕ) → first ≤ v → v ≤ last → holds_version self.now i v ≡ false) }
     {
         self.marks.least(first, last)
     }
@@ -116,7 +130,8 @@ impl Tree {
     /// Whether a version of that range, with both its ends, is live. Takes no memory.
     pub fn any_live(&self, first: u32, last: u32) -> bool
         ensures held { result ≡ any_live_in self.now first last }
-        ensures of { (past : List Node) → self.now ≡ tree_of past → result ≡ any_live past first last }
+        ensures of { (past : List Node) → self.now ≡ tree_of past
+            → result ≡ any_live past first last }
     {
         self.marks.any(first, last)
     }

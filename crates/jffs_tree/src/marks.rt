@@ -1,6 +1,7 @@
 //! How often each version is live, kept under the changes of a tree and never counted anew.
 
-ghost use Rattle.std.specs.Prelude.{◌≡◌, ◌+◌, ◌-◌, ◌<◌, ◌≤◌, ◌^◌, ℕ, [], true, false, min, IfSome, IfNone, OnOk, OnErr};
+ghost use Rattle.std.specs.Prelude.{◌≡◌, ◌+◌, ◌-◌, ◌<◌, ◌≤◌, ◌^◌, ℕ, [], true, false, min, IfSome};
+ghost use Rattle.std.specs.Prelude.{IfNone, OnOk, OnErr};
 ghost use Rattle.jffs_tree.specs.Marks.{AreKept, HaveMore, mark_of, marks_of};
 
 use std::alloc::{AllocError, Global};
@@ -93,8 +94,10 @@ impl Marks {
 
     /// The least version from `first` to `last`, both included, that has marks.
     pub(crate) fn least(&self, first: u32, last: u32) -> Option<u32>
-        ensures some { IfSome result (λ v. (i : ℕ) × (first ≤ v) × (v ≤ last) × (0 < mark_of self.now v i)) }
-        ensures least { IfSome result (λ v. (w i : ℕ) → first ≤ w → w < v → mark_of self.now w i ≡ 0) }
+        ensures some { IfSome result
+            (λ v. (i : ℕ) × (first ≤ v) × (v ≤ last) × (0 < mark_of self.now v i)) }
+        ensures least { IfSome result
+            (λ v. (w i : ℕ) → first ≤ w → w < v → mark_of self.now w i ≡ 0) }
         ensures none { IfNone result ((v i : ℕ) → first ≤ v → v ≤ last → mark_of self.now v i ≡ 0) }
     {
         let mut rest = self.counts.range((first, 0)..);
@@ -106,8 +109,10 @@ impl Marks {
 
     /// Whether a version of that range, with both its ends, has marks.
     pub(crate) fn any(&self, first: u32, last: u32) -> bool
-        ensures some { result ≡ true → (v : ℕ) × (i : ℕ) × (first ≤ v) × (v ≤ last) × (0 < mark_of self.now v i) }
-        ensures none { result ≡ false → (v i : ℕ) → first ≤ v → v ≤ last → mark_of self.now v i ≡ 0 }
+        ensures some { result ≡ true
+            → (v : ℕ) × (i : ℕ) × (first ≤ v) × (v ≤ last) × (0 < mark_of self.now v i) }
+        ensures none { result ≡ false → (v i : ℕ) → first ≤ v → v ≤ last
+            → mark_of self.now v i ≡ 0 }
     {
         self.least(first, last).is_some()
     }

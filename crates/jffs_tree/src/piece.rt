@@ -1,6 +1,8 @@
-//! Pieces: what one fragment, or the hole before the next one, says of a file's bytes from an offset on.
+//! Pieces: what one fragment, or the hole before the next one, says of a file's bytes from an
+//! offset on.
 
-ghost use Rattle.std.specs.Prelude.{◌≡◌, ◌≤◌, ◌<◌, ◌+◌, ℕ, length, map, take, drop, replicate, None, Some, IfSome, IfNone, slice_index_or, is_some};
+ghost use Rattle.std.specs.Prelude.{◌≡◌, ◌≤◌, ◌<◌, ◌+◌, ℕ, length, map, take, drop, replicate};
+ghost use Rattle.std.specs.Prelude.{None, Some, IfSome, IfNone, slice_index_or, is_some};
 ghost use Rattle.std.specs.List.{list_all};
 ghost use Rattle.std.specs.BTreeMap.{get};
 ghost use Rattle.std.specs.Ordering.{nat_cmp};
@@ -33,7 +35,9 @@ pub(crate) fn copy_piece(fragments: &Fragments, at: u32, out: &mut [u8]) -> usiz
 fn bytes_at(fragments: &Fragments, at: u32) -> Option<&[u8]>
     requires laid { AreLaid 0 file_max fragments.now.entries }
     requires inside { at < file_max }
-    ensures there { IfSome result (λ bytes. (0 < length bytes.now) × ((n : ℕ) → Says fragments.now.entries at (take n bytes.now))) }
+    ensures there { IfSome result
+        (λ bytes. (0 < length bytes.now)
+        × ((n : ℕ) → Says fragments.now.entries at (take n bytes.now))) }
     ensures none { IfNone result (NoneHolds at fragments.now.entries) }
 {
     let first = holding(fragments, at)?;
@@ -59,7 +63,9 @@ fn hole_at(fragments: &Fragments, at: u32, most: usize) -> usize
 fn holding(fragments: &Fragments, at: u32) -> Option<u32>
     requires laid { AreLaid 0 file_max fragments.now.entries }
     requires inside { at < file_max }
-    ensures there { IfSome result (λ first. (f : Fragment) × (get nat_cmp fragments.now first ≡ Some f) × (first ≤ at) × (at < end_of (first, f))) }
+    ensures there { IfSome result
+        (λ first. (f : Fragment) × (get nat_cmp fragments.now first ≡ Some f) × (first ≤ at)
+        × (at < end_of (first, f))) }
     ensures none { IfNone result (NoneHolds at fragments.now.entries) }
 {
     let mut earlier = fragments.range(..at + 1);

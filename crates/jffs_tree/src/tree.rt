@@ -1,12 +1,15 @@
 //! The tree.
 
-ghost use Rattle.std.specs.Prelude.{◌≡◌, ◌+◌, ◌≤◌, ℕ, ◌∷◌, [], List, true, Some, IsSome, IsTrue, OnOk, OnErr, IfErr, option_map};
+ghost use Rattle.std.specs.Prelude.{◌≡◌, ◌+◌, ◌≤◌, ℕ, ◌∷◌, [], List, true, Some, IsSome, IsTrue};
+ghost use Rattle.std.specs.Prelude.{OnOk, OnErr, IfErr, option_map};
 ghost use Rattle.jffs_node.specs.declared.node.Node.{Node};
 ghost use Rattle.jffs_node.specs.Record.{file_max, is_lawful};
 ghost use Rattle.jffs_tree.specs.Origin.{tree_of};
-ghost use Rattle.jffs_tree.specs.After.{held_in, keeps_offsets_in, tree_after, without_inode, put_node, IsSmall, IsWritable, IsWritten};
+ghost use Rattle.jffs_tree.specs.After.{held_in, keeps_offsets_in, tree_after, without_inode};
+ghost use Rattle.jffs_tree.specs.After.{put_node, IsSmall, IsWritable, IsWritten};
 ghost use Rattle.jffs_tree.specs.Look.{parent_name_in};
-ghost use Rattle.jffs_tree.specs.Marks.{AreMarksOf, SameMarks, HasMarksIn, MovesMarksIn, held_marks};
+ghost use Rattle.jffs_tree.specs.Marks.{AreMarksOf, SameMarks, HasMarksIn, MovesMarksIn};
+ghost use Rattle.jffs_tree.specs.Marks.{held_marks};
 
 use crate::children::{ChildKey, bears};
 use crate::inode::Inode;
@@ -62,7 +65,8 @@ impl Tree {
         requires lawful { IsTrue (is_lawful node.now) }
         requires offsets { IsTrue (keeps_offsets_in self.old node.now) }
         ensures after { OnOk result (self.new ≡ tree_after self.old node.now) }
-        ensures ok { OnOk result ((past : List Node) → self.old ≡ tree_of past → self.new ≡ tree_of (node.now ∷ past)) }
+        ensures ok { OnOk result
+            ((past : List Node) → self.old ≡ tree_of past → self.new ≡ tree_of (node.now ∷ past)) }
         ensures err { OnErr result (self.new ≡ self.old) }
         ensures cause { IfErr result (λ cause. cause ≡ Cause.Memory) }
     {
@@ -174,7 +178,8 @@ fn write_marked(
     requires marked { AreMarksOf inodes.old.entries marks.old }
     ensures ok { OnOk result (IsWritten inodes.old.entries inodes.new.entries node.now) }
     ensures marks { OnOk result (AreMarksOf inodes.new.entries marks.new) }
-    ensures err { OnErr result ((inodes.new.entries ≡ inodes.old.entries) × SameMarks marks.old marks.new) }
+    ensures err { OnErr result
+        ((inodes.new.entries ≡ inodes.old.entries) × SameMarks marks.old marks.new) }
 {
     let left = newest_of(inodes, node.inode);
     let brought = node.bytes.as_slice().len() as u32 + 1;
@@ -192,7 +197,8 @@ fn write_marked(
 /// The newest version of an inode in a map. No version has more marks there than a file has
 /// bytes, and that one.
 fn newest_of(inodes: &BTreeMap<u32, Inode>, inode: u32) -> Option<u32>
-    ensures held { option_map (λ v. Some v) result ≡ option_map (λ h. h.newest) (held_in inodes.now.entries inode) }
+    ensures held { option_map (λ v. Some v) result
+        ≡ option_map (λ h. h.newest) (held_in inodes.now.entries inode) }
     ensures few { (v : ℕ) → held_marks inodes.now.entries v inode ≤ file_max + 1 }
 {
     match inodes.get(&inode) {
@@ -212,8 +218,10 @@ fn write_inode(
     requires writable { IsWritable inodes.old.entries node.now name }
     requires marked { HasMarksIn marks.old node.now inodes.old.entries }
     ensures ok { OnOk result (IsWritten inodes.old.entries inodes.new.entries node.now) }
-    ensures marks { OnOk result (MovesMarksIn marks.old marks.new node.now inodes.old.entries inodes.new.entries) }
-    ensures err { OnErr result ((inodes.new.entries ≡ inodes.old.entries) × SameMarks marks.old marks.new) }
+    ensures marks { OnOk result
+        (MovesMarksIn marks.old marks.new node.now inodes.old.entries inodes.new.entries) }
+    ensures err { OnErr result
+        ((inodes.new.entries ≡ inodes.old.entries) × SameMarks marks.old marks.new) }
 {
     if inodes.contains_key(&node.inode) {
         return write_present(inodes, marks, node, name);
@@ -237,8 +245,10 @@ fn write_present(
     requires writable { IsWritable inodes.old.entries node.now name }
     requires marked { HasMarksIn marks.old node.now inodes.old.entries }
     ensures ok { OnOk result (IsWritten inodes.old.entries inodes.new.entries node.now) }
-    ensures marks { OnOk result (MovesMarksIn marks.old marks.new node.now inodes.old.entries inodes.new.entries) }
-    ensures err { OnErr result ((inodes.new.entries ≡ inodes.old.entries) × SameMarks marks.old marks.new) }
+    ensures marks { OnOk result
+        (MovesMarksIn marks.old marks.new node.now inodes.old.entries inodes.new.entries) }
+    ensures err { OnErr result
+        ((inodes.new.entries ≡ inodes.old.entries) × SameMarks marks.old marks.new) }
 {
     let Some(inode) = inodes.get_mut(&node.inode) else {
         unreachable!()

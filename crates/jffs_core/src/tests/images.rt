@@ -3,8 +3,8 @@
 use jffs_flash::ERASED_BYTE;
 use std::alloc::{AllocError, Global};
 
-/// The first bytes of three records of the first form, each filled up with zeros to 64 bytes: a file `f`
-/// is created, `hello` is written into it, and the session is closed.
+/// The first bytes of three records of the first form, each filled up with zeros to 64 bytes: a
+/// file `f` is created, `hello` is written into it, and the session is closed.
 const CREATED: [u8; 45] = [
     0x4A, 0x46, 0x46, 0x31, 1, 0, 1, 0, 0, 0, 0, 2, 0, 0, 0, 1, 0, 0, 0, 1, 0, 0, 0, 0, 0, 0, 0, 0,
     0, 0, 0, 0, 0, 1, 0, 1, 0, 0, 0, 1, 0, 0, 0, 0, 0x66,

@@ -38,8 +38,8 @@ fn appended(session: &Session<MemoryFlash>) -> usize {
         .count()
 }
 
-// Run both with each allocation failing in turn. After a cleaning that was given up the tenth write may
-// find room.
+// Run both with each allocation failing in turn. After a cleaning that was given up the tenth write
+// may find room.
 #[test]
 fn a_full_volume_survives_each_refusal(rt: HostRuntime) -> Result<(), Fail> {
     let mut session = Session::erased(rt.alloc(), 6)?;

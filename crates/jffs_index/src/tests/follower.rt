@@ -35,7 +35,8 @@ fn look_until(reader: &mut Reader, count: u64) -> u64
 /// Requests the wishes one after another, and publishes each.
 fn request_all<W: Wait + Drop>(source: Source<W>, wishes: &Vec<Wish>) -> Result<Source<W>, Fail>
     requires { source.tree ≡ (view_of (all_put source.publisher)).tree }
-    ensures { IfOk result (λ after. publisher_index after.publisher ≡ publisher_index source.publisher) }
+    ensures { IfOk result
+        (λ after. publisher_index after.publisher ≡ publisher_index source.publisher) }
 {
     let mut source = source;
     for wish in wishes {
@@ -76,7 +77,8 @@ pub(super) fn follow<R: Threads, W: Wait + Drop + Send>(
         },
         move ||
             requires { source.tree ≡ (view_of (all_put source.publisher)).tree }
-            ensures { IfOk result (λ after. publisher_index after.publisher ≡ publisher_index source.publisher) }
+            ensures { IfOk result
+                (λ after. publisher_index after.publisher ≡ publisher_index source.publisher) }
         { request_all(source, wishes) },
     );
     let source = source?;

@@ -22,7 +22,8 @@ impl<W: Wait + Drop> Source<W> {
     /// Puts a step. Where memory is refused it is put once more.
     fn put(&mut self, step: Step) -> Result<(), Fail>
         requires { self.old.tree ≡ (view_of (all_put self.old.publisher)).tree }
-        ensures tree { IfOk result (λ _. self.new.tree ≡ (view_of (all_put self.new.publisher)).tree) }
+        ensures tree { IfOk result
+            (λ _. self.new.tree ≡ (view_of (all_put self.new.publisher)).tree) }
         ensures index { publisher_index self.new.publisher ≡ publisher_index self.old.publisher }
     {
         if !node_fits(&self.tree, &step.node) {
@@ -40,7 +41,8 @@ impl<W: Wait + Drop> Source<W> {
     /// Decides on a wish of writer 1, and puts the step of its node.
     pub(super) fn request(&mut self, wish: &Wish) -> Result<(), Fail>
         requires { self.old.tree ≡ (view_of (all_put self.old.publisher)).tree }
-        ensures tree { IfOk result (λ _. self.new.tree ≡ (view_of (all_put self.new.publisher)).tree) }
+        ensures tree { IfOk result
+            (λ _. self.new.tree ≡ (view_of (all_put self.new.publisher)).tree) }
         ensures index { publisher_index self.new.publisher ≡ publisher_index self.old.publisher }
     {
         let version = self.next_version;
@@ -67,7 +69,8 @@ impl<W: Wait + Drop> Source<W> {
     /// Puts the step of an Unmount of a clean log.
     pub(super) fn unmount(&mut self) -> Result<(), Fail>
         requires { self.old.tree ≡ (view_of (all_put self.old.publisher)).tree }
-        ensures tree { IfOk result (λ _. self.new.tree ≡ (view_of (all_put self.new.publisher)).tree) }
+        ensures tree { IfOk result
+            (λ _. self.new.tree ≡ (view_of (all_put self.new.publisher)).tree) }
         ensures index { publisher_index self.new.publisher ≡ publisher_index self.old.publisher }
     {
         self.put(Step {

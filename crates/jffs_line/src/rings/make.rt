@@ -1,8 +1,10 @@
 //! The making of a ring for each sender.
-ghost use Rattle.std.specs.Prelude.{◌≡◌, ℕ, ◌+◌, ◌<◌, ◌≤◌, ◌⊎◌, ◌↔◌, [], ◌∷◌, ◌++◌, map, All, IfOk, OnOk, IsErrAnd};
+ghost use Rattle.std.specs.Prelude.{◌≡◌, ℕ, ◌+◌, ◌<◌, ◌≤◌, ◌⊎◌, ◌↔◌, [], ◌∷◌, ◌++◌, map, All, IfOk};
+ghost use Rattle.std.specs.Prelude.{OnOk, IsErrAnd};
 ghost use Rattle.std.specs.List.{range_with_len};
 ghost use Rattle.jffs_line.specs.Line.{senders};
-ghost use Rattle.jffs_line.specs.Rings.{ring_end, ring_hand_end, ring_accepted, ring_capacity, ring_taken, rings_ends, rings_taken, all_ring_hands};
+ghost use Rattle.jffs_line.specs.Rings.{ring_end, ring_hand_end, ring_accepted, ring_capacity};
+ghost use Rattle.jffs_line.specs.Rings.{ring_taken, rings_ends, rings_taken, all_ring_hands};
 ghost use Rattle.jffs_line.specs.declared.request.LineFault.TheVariants.{Capacity, Senders};
 
 use super::bell::Bell;
@@ -21,7 +23,8 @@ fn ring(
     taker: &Unparker,
 ) -> Result<(RingHand, Ring), AllocError>
     ensures ends { IfOk result (λ r. (ring_hand_end r.0 ≡ ring_end r.1) × (r.0.number ≡ number)) }
-    ensures fresh { IfOk result (λ r. (ring_accepted r.0 ≡ []) × (ring_capacity r.0 ≡ capacity) × (ring_taken r.1 ≡ [])) }
+    ensures fresh { IfOk result
+        (λ r. (ring_accepted r.0 ≡ []) × (ring_capacity r.0 ≡ capacity) × (ring_taken r.1 ≡ [])) }
 {
     let (producer, consumer) = RingBuffer::new(alloc, capacity)?;
     let sleeper = Parker::new(alloc)?;
@@ -51,11 +54,14 @@ fn add(
     rings: &mut Vec<Ring>,
 ) -> Result<(), AllocError>
     requires ends { map ring_hand_end hands.old.items ≡ map ring_end rings.old.items }
-    requires fresh { All (λ h. (ring_accepted h ≡ []) × (ring_capacity h ≡ capacity)) hands.old.items }
+    requires fresh { All (λ h. (ring_accepted h ≡ []) × (ring_capacity h ≡ capacity))
+        hands.old.items }
     requires taken { All (λ r. ring_taken r ≡ []) rings.old.items }
     ensures ends { OnOk result (map ring_hand_end hands.new.items ≡ map ring_end rings.new.items) }
-    ensures numbers { OnOk result (map (λ r. r.number) rings.new.items ≡ map (λ r. r.number) rings.old.items ++ number ∷ []) }
-    ensures fresh { OnOk result (All (λ h. (ring_accepted h ≡ []) × (ring_capacity h ≡ capacity)) hands.new.items) }
+    ensures numbers { OnOk result
+        (map (λ r. r.number) rings.new.items ≡ map (λ r. r.number) rings.old.items ++ number ∷ []) }
+    ensures fresh { OnOk result
+        (All (λ h. (ring_accepted h ≡ []) × (ring_capacity h ≡ capacity)) hands.new.items) }
     ensures taken { OnOk result (All (λ r. ring_taken r ≡ []) rings.new.items) }
 {
     let (hand, ring) = ring(alloc, capacity, number, taker)?;
@@ -74,7 +80,8 @@ fn writer_rings(
     requires few { count ≤ 8 }
     ensures ends { IfOk result (λ r. map ring_hand_end r.0.items ≡ map ring_end r.1.items) }
     ensures numbers { IfOk result (λ r. map (λ x. x.number) r.1.items ≡ range_with_len 1 count) }
-    ensures fresh { IfOk result (λ r. All (λ h. (ring_accepted h ≡ []) × (ring_capacity h ≡ capacity)) r.0.items) }
+    ensures fresh { IfOk result
+        (λ r. All (λ h. (ring_accepted h ≡ []) × (ring_capacity h ≡ capacity)) r.0.items) }
     ensures taken { IfOk result (λ r. All (λ x. ring_taken x ≡ []) r.1.items) }
 {
     let mut hands = Vec::new(alloc);
@@ -87,9 +94,13 @@ fn writer_rings(
 
 fn line(alloc: Global, capacity: usize, writers: u16) -> Result<RingLine, AllocError>
     requires few { writers ≤ 8 }
-    ensures ends { IfOk result (λ l. rings_ends l.taker ≡ map ring_hand_end (all_ring_hands l.hands)) }
-    ensures senders { IfOk result (λ l. map (λ h. h.number) (all_ring_hands l.hands) ≡ senders writers) }
-    ensures fresh { IfOk result (λ l. All (λ h. (ring_accepted h ≡ []) × (ring_capacity h ≡ capacity)) (all_ring_hands l.hands)) }
+    ensures ends { IfOk result
+        (λ l. rings_ends l.taker ≡ map ring_hand_end (all_ring_hands l.hands)) }
+    ensures senders { IfOk result
+        (λ l. map (λ h. h.number) (all_ring_hands l.hands) ≡ senders writers) }
+    ensures fresh { IfOk result
+        (λ l. All (λ h. (ring_accepted h ≡ []) × (ring_capacity h ≡ capacity))
+        (all_ring_hands l.hands)) }
     ensures taken { IfOk result (λ l. (w : ℕ) → rings_taken l.taker w ≡ []) }
 {
     let sleeper = Parker::new(alloc)?;
@@ -119,10 +130,15 @@ fn line(alloc: Global, capacity: usize, writers: u16) -> Result<RingLine, AllocE
 /// `Capacity`, `Senders`, tried in this order, or `Memory` if allocation failed.
 pub fn ring_line(alloc: Global, capacity: usize, writers: u16) -> Result<RingLine, LineFault>
     ensures capacity { IsErrAnd result (λ e. e ≡ Capacity) ↔ ((capacity ≡ 0) ⊎ (256 < capacity)) }
-    ensures writers { IsErrAnd result (λ e. e ≡ Senders) ↔ ((0 < capacity) × (capacity ≤ 256) × (8 < writers)) }
-    ensures ends { IfOk result (λ l. rings_ends l.taker ≡ map ring_hand_end (all_ring_hands l.hands)) }
-    ensures senders { IfOk result (λ l. map (λ h. h.number) (all_ring_hands l.hands) ≡ senders writers) }
-    ensures fresh { IfOk result (λ l. All (λ h. (ring_accepted h ≡ []) × (ring_capacity h ≡ capacity)) (all_ring_hands l.hands)) }
+    ensures writers { IsErrAnd result (λ e. e ≡ Senders)
+        ↔ ((0 < capacity) × (capacity ≤ 256) × (8 < writers)) }
+    ensures ends { IfOk result
+        (λ l. rings_ends l.taker ≡ map ring_hand_end (all_ring_hands l.hands)) }
+    ensures senders { IfOk result
+        (λ l. map (λ h. h.number) (all_ring_hands l.hands) ≡ senders writers) }
+    ensures fresh { IfOk result
+        (λ l. All (λ h. (ring_accepted h ≡ []) × (ring_capacity h ≡ capacity))
+        (all_ring_hands l.hands)) }
     ensures taken { IfOk result (λ l. (w : ℕ) → rings_taken l.taker w ≡ []) }
 {
     if capacity == 0 || capacity > MOST_CAPACITY {

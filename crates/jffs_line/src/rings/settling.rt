@@ -1,8 +1,10 @@
 //! The end of all rings: what waits is taken out of each, beside its hand.
-ghost use Rattle.std.specs.Prelude.{◌≡◌, ◌≢◌, ℕ, ◌+◌, [], ◌++◌, map, All, Contains, IfOk, OnOk, List};
+ghost use Rattle.std.specs.Prelude.{◌≡◌, ◌≢◌, ℕ, ◌+◌, [], ◌++◌, map, All, Contains, IfOk, OnOk};
+ghost use Rattle.std.specs.Prelude.{List};
 ghost use Rattle.jffs_line.specs.declared.request.Request.{Request};
 ghost use Rattle.jffs_line.specs.Requests.{of, IsNumbered};
-ghost use Rattle.jffs_line.specs.Rings.{ring_end, ring_hand_end, ring_accepted, ring_taken, rings_ends, rings_taken, taken_in, all_ring_hands, Apart};
+ghost use Rattle.jffs_line.specs.Rings.{ring_end, ring_hand_end, ring_accepted, ring_taken};
+ghost use Rattle.jffs_line.specs.Rings.{rings_ends, rings_taken, taken_in, all_ring_hands, Apart};
 
 use super::{Ring, RingHand, RingTaker};
 use crate::hand::{Hands, Settle};
@@ -13,7 +15,9 @@ use std::sync::Wait;
 // Takes out what waits in a ring.
 fn empty(ring: Ring, hand: RingHand, waiting: &mut Vec<Request>) -> Result<(), AllocError>
     requires { ring_end ring ≡ ring_hand_end hand }
-    ensures { OnOk result ((left : List Request) × (waiting.new.items ≡ waiting.old.items ++ left) × (ring_taken ring ++ left ≡ ring_accepted hand)) }
+    ensures { OnOk result
+        ((left : List Request) × (waiting.new.items ≡ waiting.old.items ++ left)
+        × (ring_taken ring ++ left ≡ ring_accepted hand)) }
 {
     let Ring {
         mut consumer,
@@ -42,8 +46,12 @@ fn empty_all(
 ) -> Result<Vec<Request>, AllocError>
     requires ends { map ring_end rings.items ≡ map ring_hand_end hands.items }
     requires apart { Apart (map (λ h. h.number) hands.items) }
-    ensures settled { IfOk result (λ waiting. All (λ h. taken_in h.number rings.items ++ of h.number waiting.items ≡ ring_accepted h) hands.items) }
-    ensures others { IfOk result (λ waiting. (w : ℕ) → All (λ h. h.number ≢ w) hands.items → of w waiting.items ≡ []) }
+    ensures settled { IfOk result
+        (λ waiting. All (λ h.
+        taken_in h.number rings.items ++ of h.number waiting.items ≡ ring_accepted h)
+        hands.items) }
+    ensures others { IfOk result
+        (λ waiting. (w : ℕ) → All (λ h. h.number ≢ w) hands.items → of w waiting.items ≡ []) }
 {
     let mut waiting = Vec::new(alloc);
     while let Some(hand) = hands.pop() {
@@ -80,9 +88,14 @@ pub fn settle(
     taker: RingTaker,
 ) -> Result<Settled, SettleFault>
     requires ends { rings_ends taker ≡ map ring_hand_end (all_ring_hands hands) }
-    ensures settled { IfOk result (λ s. All (λ h. rings_taken taker h.number ++ of h.number s.waiting.items ≡ ring_accepted h) (all_ring_hands hands)) }
-    ensures numbered { IfOk result (λ _. All (λ h. IsNumbered (ring_accepted h)) (all_ring_hands hands)) }
-    ensures others { IfOk result (λ s. (w : ℕ) → ¬ (Contains (map (λ h. h.number) (all_ring_hands hands)) w) → rings_taken taker w ++ of w s.waiting.items ≡ []) }
+    ensures settled { IfOk result
+        (λ s. All (λ h. rings_taken taker h.number ++ of h.number s.waiting.items ≡ ring_accepted h)
+        (all_ring_hands hands)) }
+    ensures numbered { IfOk result
+        (λ _. All (λ h. IsNumbered (ring_accepted h)) (all_ring_hands hands)) }
+    ensures others { IfOk result
+        (λ s. (w : ℕ) → ¬ (Contains (map (λ h. h.number) (all_ring_hands hands)) w)
+        → rings_taken taker w ++ of w s.waiting.items ≡ []) }
 {
     let RingTaker { rings, .. } = taker;
     let Ok(hands) = all(hands) else {
@@ -104,9 +117,14 @@ impl Settle for RingTaker {
         hands: Hands<RingHand>,
     ) -> Result<Settled, SettleFault>
         requires { rings_ends self ≡ map ring_hand_end (all_ring_hands hands) }
-        ensures settled { IfOk result (λ s. All (λ h. rings_taken self h.number ++ of h.number s.waiting.items ≡ ring_accepted h) (all_ring_hands hands)) }
-        ensures numbered { IfOk result (λ _. All (λ h. IsNumbered (ring_accepted h)) (all_ring_hands hands)) }
-        ensures others { IfOk result (λ s. (w : ℕ) → ¬ (Contains (map (λ h. h.number) (all_ring_hands hands)) w) → rings_taken self w ++ of w s.waiting.items ≡ []) }
+        ensures settled { IfOk result
+            (λ s. All (λ h. rings_taken self h.number ++ of h.number s.waiting.items
+            ≡ ring_accepted h) (all_ring_hands hands)) }
+        ensures numbered { IfOk result
+            (λ _. All (λ h. IsNumbered (ring_accepted h)) (all_ring_hands hands)) }
+        ensures others { IfOk result
+            (λ s. (w : ℕ) → ¬ (Contains (map (λ h. h.number) (all_ring_hands hands)) w)
+            → rings_taken self w ++ of w s.waiting.items ≡ []) }
     {
         settle(alloc, hands, self)
     }

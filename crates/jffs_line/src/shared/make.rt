@@ -1,11 +1,14 @@
-//! The making of a shared line: the first pass speaks for all senders, and each hand gets its own from it.
-ghost use Rattle.std.specs.Prelude.{◌≡◌, ◌≢◌, ℕ, ◌+◌, ◌-◌, ◌<◌, ◌≤◌, ◌⊎◌, ◌↔◌, [], ◌∷◌, true, map, drop, All, OnOk, IfOk, IsErrAnd};
+//! The making of a shared line: the first pass speaks for all senders, and each hand gets its own
+//! from it.
+ghost use Rattle.std.specs.Prelude.{◌≡◌, ◌≢◌, ℕ, ◌+◌, ◌-◌, ◌<◌, ◌≤◌, ◌⊎◌, ◌↔◌, [], ◌∷◌, true, map};
+ghost use Rattle.std.specs.Prelude.{drop, All, OnOk, IfOk, IsErrAnd};
 ghost use Rattle.std.specs.List.{range_with_len};
 ghost use Rattle.crossbeam_channel.specs.Claims.{view, IsSeatAt};
 ghost use Rattle.crossbeam_channel.specs.Ends.{sends_on, ruled_capacity};
 ghost use Rattle.jffs_line.specs.InOrder.{knows, sent_by, silent, without_first};
 ghost use Rattle.jffs_line.specs.Line.{senders};
-ghost use Rattle.jffs_line.specs.Shared.{channel_line, shared_end, shared_accepted, shared_capacity, shared_ends, shared_taken, all_hands};
+ghost use Rattle.jffs_line.specs.Shared.{channel_line, shared_end, shared_accepted};
+ghost use Rattle.jffs_line.specs.Shared.{shared_capacity, shared_ends, shared_taken, all_hands};
 ghost use Rattle.jffs_line.specs.declared.request.LineFault.TheVariants.{Capacity, Senders};
 
 use super::{Each, EachInOrder, Receives, Sends, SharedHand, SharedLine, SharedPass, SharedTaker};
@@ -23,12 +26,17 @@ fn first_hand(
     number: u16,
 ) -> Result<SharedHand, AllocError>
     requires seat { IsSeatAt (sends_on sends.now) pass.old }
-    requires first { view pass.old ≡ knows (view pass.old).takes (view pass.old).taken (sent_by number [] ∷ drop 1 (view pass.old).sent) }
+    requires first { view pass.old
+        ≡ knows (view pass.old).takes (view pass.old).taken
+        (sent_by number [] ∷ drop 1 (view pass.old).sent) }
     requires apart { All (λ s. s.sender ≢ number) (drop 1 (view pass.old).sent) }
     requires number { (0 < number) × (number ≤ 10) }
     ensures seat { IsSeatAt (sends_on sends.now) pass.new }
     ensures rest { OnOk result (view pass.new ≡ without_first (view pass.old)) }
-    ensures hand { IfOk result (λ h. (shared_end h ≡ (number, channel_line (sends_on sends.now))) × (shared_accepted h ≡ []) × (shared_capacity h ≡ ruled_capacity (sends_on sends.now))) }
+    ensures hand { IfOk result
+        (λ h. (shared_end h ≡ (number, channel_line (sends_on sends.now)))
+        × (shared_accepted h ≡ [])
+        × (shared_capacity h ≡ ruled_capacity (sends_on sends.now))) }
 {
     let sends_too = sends.try_clone()?;
     let open = receives.try_clone()?;
@@ -55,8 +63,12 @@ fn writer_hands(
     requires few { count ≤ 8 }
     ensures seat { IsSeatAt (sends_on sends.now) pass.new }
     ensures rest { OnOk result (view pass.new ≡ knows true [] (silent (count + 1) (8 - count))) }
-    ensures ends { IfOk result (λ hands. map shared_end hands.items ≡ map (λ w. (w, channel_line (sends_on sends.now))) (range_with_len 1 count)) }
-    ensures fresh { IfOk result (λ hands. All (λ h. (shared_accepted h ≡ []) × (shared_capacity h ≡ ruled_capacity (sends_on sends.now))) hands.items) }
+    ensures ends { IfOk result
+        (λ hands. map shared_end hands.items
+        ≡ map (λ w. (w, channel_line (sends_on sends.now))) (range_with_len 1 count)) }
+    ensures fresh { IfOk result
+        (λ hands. All (λ h. (shared_accepted h ≡ [])
+        × (shared_capacity h ≡ ruled_capacity (sends_on sends.now))) hands.items) }
 {
     let mut hands = Vec::new(alloc);
     for index in 0..count {
@@ -71,7 +83,9 @@ fn line(alloc: Global, capacity: usize, writers: u16) -> Result<SharedLine, Allo
     requires few { writers ≤ 8 }
     ensures ends { IfOk result (λ l. shared_ends l.taker ≡ map shared_end (all_hands l.hands)) }
     ensures senders { IfOk result (λ l. map (λ h. h.number) (all_hands l.hands) ≡ senders writers) }
-    ensures fresh { IfOk result (λ l. All (λ h. (shared_accepted h ≡ []) × (shared_capacity h ≡ capacity)) (all_hands l.hands)) }
+    ensures fresh { IfOk result
+        (λ l. All (λ h. (shared_accepted h ≡ []) × (shared_capacity h ≡ capacity))
+        (all_hands l.hands)) }
     ensures taken { IfOk result (λ l. (w : ℕ) → shared_taken l.taker w ≡ []) }
 {
     let (sends, receives, mut pass) = bounded_with::<Request, Knows, EachInOrder, Global>(
@@ -105,10 +119,13 @@ pub fn shared_line<R>(
     writers: u16,
 ) -> Result<SharedLine, LineFault>
     ensures capacity { IsErrAnd result (λ e. e ≡ Capacity) ↔ ((capacity ≡ 0) ⊎ (256 < capacity)) }
-    ensures writers { IsErrAnd result (λ e. e ≡ Senders) ↔ ((0 < capacity) × (capacity ≤ 256) × (8 < writers)) }
+    ensures writers { IsErrAnd result (λ e. e ≡ Senders)
+        ↔ ((0 < capacity) × (capacity ≤ 256) × (8 < writers)) }
     ensures ends { IfOk result (λ l. shared_ends l.taker ≡ map shared_end (all_hands l.hands)) }
     ensures senders { IfOk result (λ l. map (λ h. h.number) (all_hands l.hands) ≡ senders writers) }
-    ensures fresh { IfOk result (λ l. All (λ h. (shared_accepted h ≡ []) × (shared_capacity h ≡ capacity)) (all_hands l.hands)) }
+    ensures fresh { IfOk result
+        (λ l. All (λ h. (shared_accepted h ≡ []) × (shared_capacity h ≡ capacity))
+        (all_hands l.hands)) }
     ensures taken { IfOk result (λ l. (w : ℕ) → shared_taken l.taker w ≡ []) }
 {
     if capacity == 0 || capacity > MOST_CAPACITY {

@@ -4,7 +4,8 @@ ghost use Rattle.crossbeam_channel.specs.Claims.{view, IsSeatAt};
 ghost use Rattle.crossbeam_channel.specs.Ends.{sends_on, receives_on};
 ghost use Rattle.jffs_line.specs.InOrder.{Learned, knows, joined};
 ghost use Rattle.jffs_line.specs.Requests.{of, IsNumbered};
-ghost use Rattle.jffs_line.specs.Shared.{channel_line, shared_line, shared_end, shared_accepted, shared_ends, shared_taken, all_hands, hand_sent};
+ghost use Rattle.jffs_line.specs.Shared.{channel_line, shared_line, shared_end, shared_accepted};
+ghost use Rattle.jffs_line.specs.Shared.{shared_ends, shared_taken, all_hands, hand_sent};
 
 use super::{Each, Receives, Sends, SharedHand, SharedPass, SharedTaker, Take};
 use crate::hand::{Hands, Settle};
@@ -17,7 +18,9 @@ fn give_all_back(sends: &Sends, pass: &mut SharedPass, hands: Vec<SharedHand>)
     requires seat { IsSeatAt (sends_on sends.now) pass.old }
     requires line { All (λ h. shared_line h ≡ channel_line (sends_on sends.now)) hands.items }
     ensures seat { IsSeatAt (sends_on sends.now) pass.new }
-    ensures joined { view pass.new ≡ knows (view pass.old).takes (view pass.old).taken ((view pass.old).sent ++ map hand_sent hands.items) }
+    ensures joined { view pass.new
+        ≡ knows (view pass.old).takes (view pass.old).taken
+        ((view pass.old).sent ++ map hand_sent hands.items) }
 {
     for hand in hands {
         let SharedHand { pass: own, .. } = hand;
@@ -34,7 +37,9 @@ fn drain<R: Wait>(
 ) -> Result<Vec<Request>, AllocError>
     requires seat { IsSeatAt (receives_on receives.now) pass.old }
     requires takes { (view pass.old).takes ≡ true }
-    ensures { IfOk result (λ waiting. Learned (knows true ((view pass.old).taken ++ waiting.items) (view pass.old).sent) []) }
+    ensures { IfOk result
+        (λ waiting. Learned (knows true ((view pass.old).taken ++ waiting.items)
+        (view pass.old).sent) []) }
 {
     let mut waiting = Vec::new(alloc);
     for _ in rt.forever() {
@@ -59,9 +64,14 @@ pub fn settle<R: Wait>(
     taker: SharedTaker,
 ) -> Result<Settled, SettleFault>
     requires ends { shared_ends taker ≡ map shared_end (all_hands hands) }
-    ensures settled { IfOk result (λ s. All (λ h. shared_taken taker h.number ++ of h.number s.waiting.items ≡ shared_accepted h) (all_hands hands)) }
-    ensures numbered { IfOk result (λ _. All (λ h. IsNumbered (shared_accepted h)) (all_hands hands)) }
-    ensures others { IfOk result (λ s. (w : ℕ) → ¬ (Contains (map (λ h. h.number) (all_hands hands)) w) → shared_taken taker w ++ of w s.waiting.items ≡ []) }
+    ensures settled { IfOk result
+        (λ s. All (λ h. shared_taken taker h.number ++ of h.number s.waiting.items
+        ≡ shared_accepted h) (all_hands hands)) }
+    ensures numbered { IfOk result
+        (λ _. All (λ h. IsNumbered (shared_accepted h)) (all_hands hands)) }
+    ensures others { IfOk result
+        (λ s. (w : ℕ) → ¬ (Contains (map (λ h. h.number) (all_hands hands)) w)
+        → shared_taken taker w ++ of w s.waiting.items ≡ []) }
 {
     let Hands {
         writers,
@@ -101,9 +111,14 @@ impl Settle for SharedTaker {
         hands: Hands<SharedHand>,
     ) -> Result<Settled, SettleFault>
         requires { shared_ends self ≡ map shared_end (all_hands hands) }
-        ensures settled { IfOk result (λ s. All (λ h. shared_taken self h.number ++ of h.number s.waiting.items ≡ shared_accepted h) (all_hands hands)) }
-        ensures numbered { IfOk result (λ _. All (λ h. IsNumbered (shared_accepted h)) (all_hands hands)) }
-        ensures others { IfOk result (λ s. (w : ℕ) → ¬ (Contains (map (λ h. h.number) (all_hands hands)) w) → shared_taken self w ++ of w s.waiting.items ≡ []) }
+        ensures settled { IfOk result
+            (λ s. All (λ h. shared_taken self h.number ++ of h.number s.waiting.items
+            ≡ shared_accepted h) (all_hands hands)) }
+        ensures numbered { IfOk result
+            (λ _. All (λ h. IsNumbered (shared_accepted h)) (all_hands hands)) }
+        ensures others { IfOk result
+            (λ s. (w : ℕ) → ¬ (Contains (map (λ h. h.number) (all_hands hands)) w)
+            → shared_taken self w ++ of w s.waiting.items ≡ []) }
     {
         settle(rt, alloc, hands, self)
     }

@@ -12,8 +12,8 @@ use std::sync::Wait;
 use std::thread;
 use std::thread::Threads;
 
-/// Offers `count` wishes, each until it is accepted; an Unmount instead of one that has no memory, so that the taker
-/// gets as many as it waits for.
+/// Offers `count` wishes, each until it is accepted; an Unmount instead of one that has no memory,
+/// so that the taker gets as many as it waits for.
 fn hand_in_all<H: Hand, R: Wait>(rt: &R, alloc: Global, hand: H, count: u32) -> H
     ensures { ◌≡◌ {A = End} (H.sender result, H.line result) (H.sender hand, H.line hand) }
 {
@@ -25,7 +25,8 @@ fn hand_in_all<H: Hand, R: Wait>(rt: &R, alloc: Global, hand: H, count: u32) -> 
 }
 
 fn insist<H: Hand, R: Wait>(rt: &R, hand: &mut H, wish: Wish)
-    ensures { ◌≡◌ {A = End} (H.sender hand.new, H.line hand.new) (H.sender hand.old, H.line hand.old) }
+    ensures { ◌≡◌ {A = End} (H.sender hand.new, H.line hand.new)
+        (H.sender hand.old, H.line hand.old) }
 {
     let backoff = Backoff::new();
     let mut wish = wish;
@@ -50,7 +51,9 @@ fn write_all<H: Hand + Send, R: Threads + Wait + Sync>(
     hands: Vec<H>,
     count: u32,
 ) -> Option<Vec<H>>
-    ensures { IfSome result (λ after. map {B = End} (λ h. (H.sender h, H.line h)) after.items ≡ map {B = End} (λ h. (H.sender h, H.line h)) hands.items) }
+    ensures { IfSome result
+        (λ after. map {B = End} (λ h. (H.sender h, H.line h)) after.items
+        ≡ map {B = End} (λ h. (H.sender h, H.line h)) hands.items) }
 {
     let mut hands = hands;
     let Some(last) = hands.pop() else {
@@ -62,7 +65,9 @@ fn write_all<H: Hand + Send, R: Threads + Wait + Sync>(
             ensures { ◌≡◌ {A = End} (H.sender result, H.line result) (H.sender last, H.line last) }
         { hand_in_all(rt, alloc, last, count) },
         move ||
-            ensures { IfSome result (λ after. map {B = End} (λ h. (H.sender h, H.line h)) after.items ≡ map {B = End} (λ h. (H.sender h, H.line h)) hands.items) }
+            ensures { IfSome result
+                (λ after. map {B = End} (λ h. (H.sender h, H.line h)) after.items
+                ≡ map {B = End} (λ h. (H.sender h, H.line h)) hands.items) }
         { write_all(rt, alloc, hands, count) },
     );
     let mut rest = rest?;
@@ -77,7 +82,8 @@ struct Took<T: Taker> {
     requests: Vec<Request>,
 }
 
-/// Takes `count` requests, also where there is no memory to keep them, since writers wait to be rid of theirs.
+/// Takes `count` requests, also where there is no memory to keep them, since writers wait to be rid
+/// of theirs.
 fn take_all<T: Taker, R: Wait>(rt: &R, alloc: Global, taker: T, count: usize) -> Took<T>
     ensures { T.ends result.taker ≡ T.ends taker }
 {
@@ -107,7 +113,9 @@ pub(super) fn run_session<H: Hand + Send, T: Settle<Of = H> + Send, R: Threads +
     wishes: u32,
     takes: usize,
 ) -> Option<Session>
-    requires { T.ends line.taker ≡ map (λ h. (H.sender h, H.line h)) (line.hands.writers.items ++ line.hands.cleaner ∷ line.hands.control.hand ∷ []) }
+    requires { T.ends line.taker
+        ≡ map (λ h. (H.sender h, H.line h))
+        (line.hands.writers.items ++ line.hands.cleaner ∷ line.hands.control.hand ∷ []) }
 {
     let Ends { hands, taker } = line;
     let Hands {

@@ -44,7 +44,8 @@ pub(super) fn take_asleep<H: Hand + Send, T: Taker + Send, R: Threads + Wait + S
     taken
 }
 
-/// The numbers of two unmounts on a line of capacity 1, of which the second slept until the first was taken.
+/// The numbers of two unmounts on a line of capacity 1, of which the second slept until the first
+/// was taken.
 pub(super) fn unmount_asleep<H: Hand + Send, T: Taker + Send, R: Threads + Wait + Sync + Clock>(
     rt: &R,
     line: Ends<H, T>,

@@ -13,8 +13,8 @@ const SCRIPT: &str = "volume 6 1024\nwriter\ncreate /f\n";
 
 const PRINTED: &str = "1.1 appended\nclosed\nscan clean\nd /\nf /f 0 -\n";
 
-/// The words after the program's name, what standard input gives, the status, and what is written to
-/// standard output and to standard error.
+/// The words after the program's name, what standard input gives, the status, and what is written
+/// to standard output and to standard error.
 type Row<'a> = (&'a str, &'a str, u8, &'a str, &'a str);
 
 fn plays<Rt: Abort + AllocGlobal + Files<File: Send> + Threads + Wait + Sync>(

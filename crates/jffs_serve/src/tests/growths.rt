@@ -18,7 +18,8 @@ use std::process::Abort;
 use std::sync::Wait;
 use std::test::Fail;
 
-/// The taker of a line on which a writer wants `/f` with five bytes, and then the control to unmount.
+/// The taker of a line on which a writer wants `/f` with five bytes, and then the control to
+/// unmount.
 fn write_and_unmount<R: Wait>(rt: &R, alloc: Global) -> Result<SharedTaker, Fail> {
     let Ends { mut hands, taker } = shared_line(rt, alloc, 4, 1)?;
     let mut writer = hands.writers.pop().ok_or("one writer")?;

@@ -24,7 +24,8 @@ pub(super) fn index<R: Wait + Drop>(
     alloc: Global,
     tree: Tree,
 ) -> Result<(Publisher<R>, Reader), Fail>
-    ensures { IfOk result (λ index. (published index.0 ≡ opening_of tree) × (pending index.0 ≡ [])) }
+    ensures { IfOk result
+        (λ index. (published index.0 ≡ opening_of tree) × (pending index.0 ≡ [])) }
 {
     let (publisher, mut readers) = publish_index(rt, alloc, tree, 1)?;
     match readers.pop() {
@@ -33,7 +34,8 @@ pub(super) fn index<R: Wait + Drop>(
     }
 }
 
-/// The taker of a line on which a writer wants `/f` to have 1,728 bytes, and then the control to unmount.
+/// The taker of a line on which a writer wants `/f` to have 1,728 bytes, and then the control to
+/// unmount.
 fn cut_and_unmount<R: Wait>(rt: &R, alloc: Global) -> Result<SharedTaker, Fail> {
     let Ends { mut hands, taker } = shared_line(rt, alloc, 4, 1)?;
     let mut writer = hands.writers.pop().ok_or("one writer")?;
@@ -70,7 +72,8 @@ pub(super) fn served<R: Wait>(
     Ok((last_two(session.core())?, end))
 }
 
-/// One round of the cleaner over a published tree, on a line with room for `capacity` requests; gives what it handed in.
+/// One round of the cleaner over a published tree, on a line with room for `capacity` requests;
+/// gives what it handed in.
 pub(super) fn cleaned_by<R: Wait>(
     rt: &R,
     alloc: Global,

@@ -342,8 +342,8 @@ fn what_is_too_many_is_told_of(rt: HostRuntime) -> Result<(), Fail> {
     Ok(())
 }
 
-/// What a program with the option `--on` and two plain words does of a call: the status of one that is
-/// over with what it wrote, or the words of one for its work.
+/// What a program with the option `--on` and two plain words does of a call: the status of one that
+/// is over with what it wrote, or the words of one for its work.
 fn called(alloc: Global, words: &[&str]) -> Result<String, Fail> {
     let usage = Usage {
         program: "tool",

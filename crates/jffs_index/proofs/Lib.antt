@@ -3,3 +3,4 @@ pub mod Blocks
 pub mod Entered
 pub mod Fronts
 pub mod Kept
+pub mod Seen

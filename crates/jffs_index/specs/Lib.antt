@@ -4,6 +4,7 @@ pub mod Ends
 pub mod Histories
 pub mod Outcomes
 pub mod Pages
+pub mod Seen
 pub mod Shown
 pub mod Sights
 pub mod Writing

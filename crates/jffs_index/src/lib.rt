@@ -17,7 +17,7 @@ mod step;
 mod tests;
 mod view;
 
-pub use laws::latest_outcomes_count;
+pub use laws::{latest_outcomes_count, views_show_answers};
 pub use open::{IndexFault, READERS_MAX, publish_index};
 pub use publisher::Publisher;
 pub use reader::{Reader, Told};

@@ -5,6 +5,7 @@ pub mod Headlines
 pub mod Seeing
 pub mod Crews
 pub mod Runs
+pub mod Faults
 pub mod Scanning
 pub mod Unmounting
 pub mod Turns

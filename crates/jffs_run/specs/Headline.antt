@@ -34,12 +34,13 @@ numbers_of sender (answer ∷ answers) =
 -- Some order of the accepted requests was answered, each once, and what each sender has waiting is
 -- what it had accepted beyond that, so that its answers are numbered 1, 2, 3, ..
 -- Of each writer the first of its commands were accepted, and every one if an Unmount was; of the
--- control one Unmount at most, of the cleaner copies alone, and no others From whatever history the
--- core represented at the start, these requests were answered in a chain of turns, to the core at
--- the end, which left the device as it is, of the same sizes, with so many erases at most What was
--- served is determined by the answers There is an end for each reader's statement: it saw what its
--- path reads after a beginning of the answers, from the tree at the start on, or counts as one that
--- saw nothing
+-- control one Unmount at most, of the cleaner copies alone, and no others.
+-- From whatever history the core represented at the start, these requests were answered in a chain
+-- of turns, to the core at the end, which left the device as it is, of the same sizes, with so many
+-- erases at most.
+-- What was served is determined by the answers.
+-- There is an end for each reader's statement: it saw what its path reads after a beginning of the
+-- answers, from the tree at the start on, or counts as one that saw nothing.
 pub record IsRun (start : CoreState) (account : Account) : Type 0 where
   pub replies : List Reply
   pub each_replies : AllReply replies

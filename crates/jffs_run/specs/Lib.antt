@@ -6,6 +6,7 @@ pub mod Serving
 pub mod Looking
 pub mod Account
 pub mod Headline
+pub mod Faults
 pub mod Accepted
 pub mod Scanned
 pub mod Unmounted

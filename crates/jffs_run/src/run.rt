@@ -2,12 +2,14 @@
 
 ghost use Rattle.std.specs.Prelude.{◌≡◌, ◌⊎◌, ◌∷◌, [], IfOk, IfErr, None, false, length};
 ghost use Rattle.jffs_index.specs.declared.rule.History.{History};
-ghost use Rattle.jffs_index.specs.Ends.{published, publisher_index};
+ghost use Rattle.jffs_index.specs.Ends.{published, publisher_index, all_put};
 ghost use Rattle.jffs_serve.specs.Showing.{CanServe};
 ghost use Rattle.jffs_tree.specs.declared.wish.Wish.TheVariants.{Unmount};
 ghost use Rattle.jffs_line.specs.Requests.{request};
 ghost use Rattle.jffs_run.specs.Crew.{IsFit, HasHandedIn};
 ghost use Rattle.jffs_run.specs.Serving.{HasServed};
+ghost use Rattle.jffs_run.specs.Faults.{GivesBack, LeftByServing};
+ghost use Rattle.jffs_core.specs.Past.{IsLeftBy};
 ghost use Rattle.jffs_run.specs.Looking.{HaveSeen, IsWhole};
 
 use crate::cleaner::{join_cleaner, start_cleaner};
@@ -79,7 +81,8 @@ fn run_in<
 ) -> Result<Finished<H, F, T, W>, RunFault<F>>
     requires crew { IsFit H.Hand script.now crew (publisher_index side.publisher) }
     requires ready { CanServe side.session side.publisher }
-    ensures fault { IfErr result (λ fault. fault.flash ≡ None → fault.why ≡ RunWhy.Spawn) }
+    ensures fault { IfErr result (GivesBack F.device
+        (LeftByServing side.session (all_put side.publisher).steps (T.taken side.taker))) }
     ensures hands { IfOk result
         (λ finished. HasHandedIn H.Hand script.entry.now.writers.items crew finished.hands) }
     ensures readers { IfOk result
@@ -181,7 +184,9 @@ fn ask_unmount<R: Wait, H: Hand>(
     control
 }
 
-fn flash_of<F: Flash + Drop, T: Taker, W: Wait + Drop>(side: LogSide<F, T, W>) -> F {
+fn flash_of<F: Flash + Drop, T: Taker, W: Wait + Drop>(side: LogSide<F, T, W>) -> F
+    ensures { IsLeftBy side.session.core (F.device result) }
+{
     side.session.into_core().into_flash()
 }
 
@@ -203,7 +208,8 @@ pub(crate) fn run_all<
 ) -> Result<Finished<H, F, T, W>, RunFault<F>>
     requires crew { IsFit H.Hand script.now crew (publisher_index side.publisher) }
     requires ready { CanServe side.session side.publisher }
-    ensures fault { IfErr result (λ fault. fault.flash ≡ None → fault.why ≡ RunWhy.Spawn) }
+    ensures fault { IfErr result (GivesBack F.device
+        (LeftByServing side.session (all_put side.publisher).steps (T.taken side.taker))) }
     ensures hands { IfOk result
         (λ finished. HasHandedIn H.Hand script.now.writers.items crew finished.hands) }
     ensures readers { IfOk result

@@ -12,6 +12,7 @@ ghost use Rattle.jffs_core.specs.CoreState.{CoreState};
 ghost use Rattle.jffs_core.specs.Past.{IsFresh, IsLeftBy};
 ghost use Rattle.jffs_run.specs.Account.{account_of};
 ghost use Rattle.jffs_run.specs.Headline.{IsRun};
+ghost use Rattle.jffs_run.specs.Faults.{GivesBack, IsGivenUp, LeftByTurns};
 ghost use Rattle.jffs_run.specs.Accepted.{accepted_of};
 
 use crate::crew::{Crew, Finished};
@@ -94,7 +95,7 @@ where
     requires line { IsNewLine T.Of.Hand (T.ends line.taker) (T.taken line.taker) line.hands
         (vec_len script.now.writers) }
     requires core { (core.answers ≡ []) × (core.closed ≡ false) }
-    ensures fault { IfErr result (λ fault. fault.flash ≡ None → fault.why ≡ RunWhy.Spawn) }
+    ensures fault { IfErr result (GivesBack F.device (LeftByTurns core)) }
     ensures run { IfOk result
         (λ r. IsRun core (account_of F.Flash script.now
         (λ sender. accepted_by T.Of.Hand sender (all_hands T.Of.Hand r.0.value)) r.1)) }
@@ -140,7 +141,7 @@ fn settle_all<R: Wait, F: Flash + Drop, T: Settle, W: Wait + Drop>(
 ) -> Result<Run<F, ()>, RunFault<F>>
     requires ends { T.ends finished.log.side.taker
         ≡ map (end_of T.Of.Hand) (all_hands T.Of.Hand finished.hands) }
-    ensures fault { IfErr result (λ fault. fault.flash ≡ None → fault.why ≡ RunWhy.Spawn) }
+    ensures fault { IfErr result (GivesBack F.device (IsLeftBy finished.log.side.session.core)) }
     ensures rest { IfOk result
         (λ run. (run.answers.items ≡ finished.log.side.session.core.answers)
         × (run.readers ≡ finished.readers) × (run.served ≡ finished.log.served)) }
@@ -180,7 +181,8 @@ fn settle_all<R: Wait, F: Flash + Drop, T: Settle, W: Wait + Drop>(
 /// cleaner where the script asks for it; and joins them all. `gate` is called for each wish in its
 /// writer's thread. The device may hold a volume already: the script's own sizes are not looked at.
 ///
-/// A fault has its reason, and hands the device back unless a thread could not be started.
+/// A fault has its reason, and hands the device back unless a thread could not be started: one that
+/// doesn't mount as scanning left it, any other as the mounted core left it after its last turn.
 pub fn run_threads<R: Threads + Wait + Sync, F: Flash + Send + Drop, G: Gate + Sync>(
     rt: &R,
     alloc: Global,
@@ -188,7 +190,7 @@ pub fn run_threads<R: Threads + Wait + Sync, F: Flash + Send + Drop, G: Gate + S
     flash: F,
     gate: &G,
 ) -> Result<Run<F>, RunFault<F>>
-    ensures fault { IfErr result (λ fault. fault.flash ≡ None → fault.why ≡ RunWhy.Spawn) }
+    ensures fault { IfErr result (GivesBack F.device (IsGivenUp (F.device flash))) }
     ensures run { IfOk result
         (λ run. (start : CoreState) × IsFresh (F.device flash) start
         × IsRun start (account_of F.Flash script.now (accepted_of run.accepted) run)) }
@@ -211,7 +213,7 @@ fn run_mounted<R: Threads + Wait + Sync, F: Flash + Send + Drop, G: Gate + Sync>
     gate: &G,
 ) -> Result<Run<F>, RunFault<F>>
     requires core { (core.answers ≡ []) × (core.closed ≡ false) }
-    ensures fault { IfErr result (λ fault. fault.flash ≡ None → fault.why ≡ RunWhy.Spawn) }
+    ensures fault { IfErr result (GivesBack F.device (LeftByTurns core)) }
     ensures run { IfOk result
         (λ run. IsRun core (account_of F.Flash script.now (accepted_of run.accepted) run)) }
 {

@@ -1,5 +1,5 @@
 -- What a chain of turns tells.
-use Rattle.std.proofs.Common.{◌≡◌, ◌⊎◌, ◌<◌, ◌≤◌, ℕ, inl, inr, ⊎_elim, Bool, true, false, ◌&&◌, ◌||◌, List, [], ◌∷◌, ◌++◌, length, map, refl, sym, ap, subst, ◌∙◌, append_assoc, append-nil, arith, Ok, suc, zero}
+use Rattle.std.proofs.Common.{◌≡◌, ◌⊎◌, ◌<◌, ◌≤◌, ℕ, inl, inr, ⊎_elim, Bool, true, false, ◌&&◌, ◌||◌, List, [], ◌∷◌, ◌++◌, length, map, refl, sym, ap, subst, ◌∙◌, append_assoc, append-nil, arith, suc, zero}
 use Rattle.std.specs.List.{Contains}
 use Rattle.std.proofs.Math.Bool.{and-true, or-false}
 use Rattle.std.proofs.lemmas.List.{map-append}
@@ -9,18 +9,16 @@ use Rattle.std.proofs.lemmas.Bool.{and_parts, both_ways, cases_Bool, false_from_
 use Rattle.jffs_node.specs.declared.node.Node.{Node}
 use Rattle.jffs_node.specs.Record.{is_fresh}
 use Rattle.jffs_tree.specs.declared.wish.Cause.TheVariants as causes
-use Rattle.jffs_tree.specs.declared.wish.NewNode.{NewNode}
 use Rattle.jffs_tree.specs.declared.wish.Outcome.{Outcome}
-use Rattle.jffs_tree.specs.declared.wish.Outcome.TheVariants.{Closed, Refused}
+use Rattle.jffs_tree.specs.declared.wish.Outcome.TheVariants.{Refused}
 use Rattle.jffs_tree.specs.Decide.{with, is_unmount_wish}
-use Rattle.jffs_line.specs.declared.request.Request.{Request}
 use Rattle.jffs_log.specs.LogIndex.{HasSizes}
 use Rattle.jffs_log.specs.Room.{heavy, weight}
 use Rattle.jffs_core.specs.CoreState.{CoreState}
 use Rattle.jffs_core.specs.History.{IsOwnCopy}
-use Rattle.jffs_core.specs.Step.{Volume, Turn, IsStep, OutcomeIs, IsInHand, HadNoRoom, decision}
+use Rattle.jffs_core.specs.Step.{Volume, Turn, IsStep, OutcomeIs, IsInHand}
 use Rattle.jffs_core.specs.Past.{Represents, RepresentsWorking, HasFailed}
-use Rattle.jffs_core.specs.Run.{OnlyCopies, IsAnswered, AreAnswered, IsInOrder, is_failure}
+use Rattle.jffs_core.specs.Run.{OnlyCopies, AreAnswered, IsInOrder, is_failure}
 use Rattle.jffs_core.specs.Answering.{turn_of, keeps_two, is_closed}
 use Rattle.jffs_core.specs.declared.answer.Answer.{Answer}
 use Rattle.jffs_core.proofs.Lawful.{none_made}

@@ -14,7 +14,7 @@ use Rattle.jffs_core.specs.Erases.{ErasesAtMost}
 use Rattle.jffs_core.specs.Jobs.{wants_cleaning, ReadRefused}
 use Rattle.jffs_core.proofs.Contents.{no_growth}
 use Rattle.jffs_core.proofs.Mounting.{clean_ends}
-use Rattle.jffs_core.proofs.Refusing.{works_past, fails_past}
+use Rattle.jffs_core.proofs.Refusing.{works_past}
 use Rattle.jffs_serve.specs.Chain.{KeepsHistory}
 
 -- a core that had failed has failed still
@@ -103,9 +103,11 @@ unchanged : (old new : CoreState) → new ≡ old → KeepsHistory old new
 unchanged old new same = subst (KeepsHistory old) (sym same) (same_but_capacity old old refl)
 
 -- a read failed of a core that had worked
-read_failed : (old new : CoreState) → old.failed ≡ false → new ≡ record old { failed = new.failed; faults = new.faults } → new.failed ≡ true → old.faults < new.faults → KeepsHistory old new
-read_failed old new works same now risen =
-    let left : (past : List Node) → RepresentsWorking past old → (More : Node → Type 0) → HasFailed More past new = λ past k More. subst (HasFailed More past) (sym same) (record {
+read_failed :
+    (old new : CoreState) → old.failed ≡ false → new ≡ record old { failed = new.failed; faults = new.faults } → new.failed ≡ true → old.faults < new.faults
+    → ((mounted past : List Node) → Represents mounted past old → Represents mounted past new) → KeepsHistory old new
+read_failed old new works same now risen stands =
+    let left : (past : List Node) → RepresentsWorking past old → HasFailed (IsOwnCopy past) past new = λ past k. subst (HasFailed (IsOwnCopy past) past) (sym same) (record {
       clean = λ is. clean_ends past old.image old.index old.tree old.limits old.clean k is;
       tree = inl k.tree_is;
       left = λ e. inl k.history;
@@ -116,23 +118,21 @@ read_failed old new works same now risen =
       failed = λ f. absurd (both_ways old.failed works f);
       faults = λ w past k. absurd (both_ways new.failed w now);
       two = λ w past k. absurd (both_ways new.failed w now);
-      fails = λ w f past k. record { fails = now; faults = risen; left = left past k (IsOwnCopy past) };
-      stands = λ mounted past s. record {
-        grown = s.grown;
-        stands = fails_past past new now (left past (s.stands.working works) (MayFollow past));
-      };
+      fails = λ w f past k. record { fails = now; faults = risen; left = left past k };
+      stands = stands;
     }
 
 -- the oldest sector was read, or not
 pub read_kept :
     {A : Type 0} (old new : CoreState) (result : Result A Cause) → old.failed ≡ false → new ≡ record old { failed = new.failed; faults = new.faults }
-    → OnOk result ((new.failed ≡ false) × (new ≡ old)) → IfErr result (λ cause. ReadRefused cause old new) → KeepsHistory old new
-read_kept old new (Ok bytes) works same ok refused = unchanged old new ok.1
-read_kept old new (Err cause) works same ok refused = by_cause cause refused
+    → OnOk result ((new.failed ≡ false) × (new ≡ old)) → IfErr result (λ cause. ReadRefused cause old new)
+    → ((mounted past : List Node) → Represents mounted past old → Represents mounted past new) → KeepsHistory old new
+read_kept old new (Ok bytes) works same ok refused stands = unchanged old new ok.1
+read_kept old new (Err cause) works same ok refused stands = by_cause cause refused
   where
     by_cause : (cause : Cause) → ReadRefused cause old new → KeepsHistory old new
     by_cause causes.Memory why = unchanged old new why.1
-    by_cause causes.Device why = read_failed old new works same why.1 why.2
+    by_cause causes.Device why = read_failed old new works same why.1 why.2 stands
     by_cause causes.Failed why = unchanged old new why.1
     by_cause _ why = absurd why
 

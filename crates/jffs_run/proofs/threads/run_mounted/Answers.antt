@@ -1,3 +1,4 @@
+use Rattle.jffs_run.proofs.Faults.{gives_back, left_at_once}
 use Rattle.jffs_run.proofs.threads.run_mounted.Goals as goal
 
 pub returns-in_ok-accepted-in-Shared-clause-run : goal.returns-in_ok-accepted-in-Shared-clause-run

@@ -21,7 +21,7 @@ same_replies g c =
       ap (λ (s : CoreState). s.answers) read.same,
       ap (λ (s : CoreState). s.closed) read.same,
       refl,
-      read_kept old c.oldest_image.new.self c.oldest_image.result (worked g c) read.same read.works read.refused,
+      read_kept old c.oldest_image.new.self c.oldest_image.result (worked g c) read.same read.works read.refused read.stands,
     )
 
 same_tree : (g : _) (c : After-oldest_image g) → KeepsTree c.args.self.now.core c.oldest_image.new.self

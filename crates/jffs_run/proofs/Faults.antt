@@ -1,5 +1,5 @@
 -- Lemmas on what a fault hands back.
-use Rattle.std.proofs.Common.{◌≡◌, ℕ, List, [], sym, subst, refl, absurd, Some, None, ap, ◌∙◌}
+use Rattle.std.proofs.Common.{◌≡◌, ℕ, List, [], sym, subst, refl, Option, Some, None, ap, ◌∙◌}
 use Rattle.std.proofs.lemmas.Option.{same_Some, none-some}
 use Rattle.jffs_flash.specs.Device.{Device}
 use Rattle.jffs_line.specs.declared.request.Request.{Request}
@@ -7,6 +7,10 @@ use Rattle.jffs_core.specs.CoreState.{CoreState}
 use Rattle.jffs_core.specs.Past.{IsLeftBy}
 use Rattle.jffs_index.specs.declared.step.Step.{Step}
 use Rattle.jffs_serve.specs.declared.session.Session.{Session}
+use Rattle.jffs_serve.specs.declared.session.PendingStep.{PendingStep}
+use Rattle.jffs_serve.specs.declared.session.Served.{Served}
+use Rattle.jffs_index.specs.declared.publisher.Publisher.{Publisher}
+use Rattle.jffs_index.specs.Ends.{all_put}
 use Rattle.jffs_serve.specs.Replies.{Reply, any_closed}
 use Rattle.jffs_serve.specs.Answered.{Start, HasReplied}
 use Rattle.jffs_serve.proofs.Replying.{nothing_replied, nothing_more}
@@ -14,6 +18,7 @@ use Rattle.jffs_serve.proofs.Chains.{runs_from}
 use Rattle.jffs_serve.proofs.Erasing.{since_start}
 use Rattle.jffs_run.specs.declared.fault.RunFault.{RunFault}
 use Rattle.jffs_run.specs.declared.fault.RunWhy.{RunWhy}
+use Rattle.jffs_run.specs.Serving.{HasServed}
 use Rattle.jffs_run.specs.Faults.{GivesBack, LeftByServing, LeftByTurns}
 
 module _ {F : Type 0} (device : F → Device) where
@@ -28,10 +33,10 @@ module _ {F : Type 0} (device : F → Device) where
       }
 
   -- what the device is may be said otherwise
-  pub gives_back_as :
+  pub gives_back_so :
       (IsSo IsThus : Device → Type 0) (fault : RunFault F) → ((d : Device) → IsSo d → IsThus d)
       → GivesBack device IsSo fault → GivesBack device IsThus fault
-  gives_back_as IsSo IsThus fault as given = record { lost = given.lost; so = λ f same. as (device f) (given.so f same) }
+  gives_back_so IsSo IsThus fault weaken given = record { lost = given.lost; so = λ f same. weaken (device f) (given.so f same) }
 
 module _ {F : Type 0} where
   -- no request was answered
@@ -45,6 +50,20 @@ module _ {F : Type 0} where
     left = left;
   }
 
+  -- the log thread served it
+  pub left_serving :
+      {W : Type 0} (old : Session F) (publisher : Publisher W) (taken : ℕ → List Request) (new : Session F) (publisher' : Publisher W) (taken' : ℕ → List Request) (served : Served) (device : Device)
+      → HasServed old publisher taken new publisher' taken' served → IsLeftBy new.core device
+      → LeftByServing old (all_put publisher).steps taken device
+  left_serving old publisher taken new publisher' taken' served device has left = record {
+    new = new;
+    put_now = (all_put publisher').steps;
+    taken_now = taken';
+    ending = Some served;
+    more = has.replies;
+    left = left;
+  }
+
   -- a session over a core that had answered nothing
   pub served_turns :
       (session : Session F) (core : CoreState) (put : List Step) (taken : ℕ → List Request) (device : Device)
@@ -52,7 +71,9 @@ module _ {F : Type 0} where
       → LeftByServing session put taken device → LeftByTurns core device
   served_turns session core put taken device same unsent closed left =
       let start : Start = record { taken = taken; core = core; put = put } in
-      let beginning : HasReplied start session.core session.unsent put taken [] = rw same, unsent (nothing_replied core put taken closed) in
+      let beginning : HasReplied start session.core session.unsent put taken [] = 
+      subst (λ (k : Option PendingStep). HasReplied start session.core k put taken []) (sym unsent)
+      (subst (λ (c : CoreState). HasReplied start c None put taken []) (sym same) (nothing_replied core put taken closed)) in
       let more = left.more start [] beginning in record {
         replies = more.0;
         core = left.new.core;
@@ -70,5 +91,5 @@ left_at_once core device left = record {
   left = left;
   sizes = (refl, refl);
   erases = since_start core;
-  lawful = runs_from core;
+  lawful = λ mounted past stands. runs_from core mounted past;
 }

@@ -11,4 +11,5 @@ pub mod Accepted
 pub mod Scanned
 pub mod Unmounted
 pub mod Turns
+pub mod Seen
 pub mod Heavy

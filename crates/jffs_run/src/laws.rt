@@ -2,6 +2,7 @@
 
 ghost use Rattle.jffs_run.specs.Heavy.{RunsHaveRoom, SpaceIsSure};
 ghost use Rattle.jffs_run.specs.Turns.{AnswersAreDurable, FailedStaysFailed, NoSpaceMeansNoRoom};
+ghost use Rattle.jffs_run.specs.Seen.{ReadersSeeAnswers};
 ghost use Rattle.jffs_run.specs.Scanned.{RunsLeaveContents, FailedRunsLeaveHistory};
 ghost use Rattle.jffs_run.specs.Scanned.{RunsWithoutFaults};
 ghost use Rattle.jffs_run.specs.Unmounted.{RunsEndUnmounted};
@@ -59,4 +60,10 @@ pub fn failed_stays_failed()
 /// what the fresh nodes up to there make: a loss of power after it loses nothing that was answered.
 pub fn answers_are_durable()
     ensures { AnswersAreDurable }
+{}
+
+/// What a reader of a run read is what its path had once the request that it waited for was
+/// answered, with all that was answered before, and perhaps with some answers after it.
+pub fn readers_see_answers()
+    ensures { ReadersSeeAnswers }
 {}

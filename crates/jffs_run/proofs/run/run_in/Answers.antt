@@ -4,12 +4,13 @@ use Rattle.jffs_text.specs.declared.script.ReaderStatement.{ReaderStatement}
 use Rattle.jffs_core.specs.declared.answer.Answer.{Answer}
 use Rattle.jffs_core.specs.CoreState.{CoreState}
 use Rattle.jffs_index.specs.declared.rule.Index.{Index}
-use Rattle.jffs_index.specs.Ends.{publisher_index}
+use Rattle.jffs_index.specs.Ends.{all_put, publisher_index}
 use Rattle.jffs_tree.specs.declared.wish.Wish.TheVariants.{Unmount}
 use Rattle.jffs_line.specs.Requests.{request}
 use Rattle.jffs_run.specs.Ends.{EachFrom}
 use Rattle.jffs_run.specs.Started.{IsStarted, IsLooking}
 use Rattle.jffs_run.proofs.Crews.{same_end, same_ends}
+use Rattle.jffs_run.proofs.Faults.{gives_back, unserved, left_serving}
 use Rattle.jffs_run.proofs.run.run_in.Goals as goal
 
 pub join_readers-ends-requires-clause-started : goal.join_readers-ends-requires-clause-started
@@ -66,3 +67,25 @@ returns-clause-hands g c =
         | inr did ↦ inr (did.1 ∙ ap (λ (w : ℕ). request w 1 Unmount ∷ []) (sym control.end.0))
       ];
     }
+
+pub returns-in_default-clause-fault : goal.returns-in_default-clause-fault
+returns-in_default-clause-fault g c =
+    gives_back g.F.Flash.device _ _ _ _ c.with_flash.ensures (unserved c.args.side.session _ _ _ c.flash_of.ensures)
+
+pub returns-in_default-join_cleaner-clause-fault : goal.returns-in_default-join_cleaner-clause-fault
+returns-in_default-join_cleaner-clause-fault g c =
+    let served = rw c.in-Some.ensures.promise at c.join-log.ensures in
+    gives_back g.F.Flash.device _ _ _ _ c.with_flash-in_default-join_cleaner.ensures
+    (left_serving c.args.side.session c.args.side.publisher _ _ _ _ _ _ served.1 c.flash_of-in_default-join_cleaner.ensures)
+
+pub returns-then-not-looking-clause-fault : goal.returns-then-not-looking-clause-fault
+returns-then-not-looking-clause-fault g c =
+    let served = rw c.in-Some.ensures.promise at c.join-log.ensures in
+    gives_back g.F.Flash.device _ _ _ _ c.with_flash-then-not-looking.ensures
+    (left_serving c.args.side.session c.args.side.publisher _ _ _ _ _ _ served.1 c.flash_of-then-not-looking.ensures)
+
+pub returns-in-Some-fault-clause-fault : goal.returns-in-Some-fault-clause-fault
+returns-in-Some-fault-clause-fault g c =
+    let served = rw c.in-Some.ensures.promise at c.join-log.ensures in
+    gives_back g.F.Flash.device _ _ _ _ c.with_flash-in-Some-fault.ensures
+    (left_serving c.args.side.session c.args.side.publisher _ _ _ _ _ _ served.1 c.flash_of-in-Some-fault.ensures)

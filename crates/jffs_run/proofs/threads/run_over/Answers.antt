@@ -11,6 +11,7 @@ use Rattle.jffs_serve.specs.Answered.{Start, HasReplied}
 use Rattle.jffs_serve.proofs.Replying.{nothing_replied}
 use Rattle.jffs_serve.proofs.Showing.{can_begin}
 use Rattle.jffs_run.proofs.Runs.{whole_run, new_hands, count_writers}
+use Rattle.jffs_run.proofs.Faults.{gives_back, gives_back_so, left_at_once, left_serving, served_turns}
 use Rattle.jffs_run.proofs.threads.run_over.Goals as goal
 
 pub run_all-requires-clause-crew : goal.run_all-requires-clause-crew
@@ -60,3 +61,21 @@ returns-clause-run g c =
     (ran.served.opening ∙ (ap (λ (h : History). h.opening) opened.0 ∙ sym (ap (λ (s : CoreState). s.tree) c.new.ensures.core)))
     more.1 settled.settled settled.numbered settled.others ran.readers settled.left more.2 in
     rw (← c.new.ensures.core, c.of-accepted.ensures, settled.rest.0, settled.rest.1, settled.rest.2) run
+
+pub returns-in-Err-clause-fault : goal.returns-in-Err-clause-fault
+returns-in-Err-clause-fault g c = gives_back g.F.Flash.device _ _ _ _ c.with_flash.ensures (left_at_once c.args.core _ c.into_flash.ensures)
+
+pub returns-in_err-finished-clause-fault : goal.returns-in_err-finished-clause-fault
+returns-in_err-finished-clause-fault g c =
+    let closed = c.requires.core.1 ∙ sym (ap any_closed c.requires.core.0) in
+    let turned = gives_back_so g.F.Flash.device _ _ _ (λ d. served_turns c.new.result c.args.core _ _ d c.new.ensures.core c.new.ensures.unsent closed) c.in_err-finished.ensures.fault in
+    search (rules, turned)
+
+pub returns-in_err-run-clause-fault : goal.returns-in_err-run-clause-fault
+returns-in_err-run-clause-fault g c =
+    let closed = c.requires.core.1 ∙ sym (ap any_closed c.requires.core.0) in
+    let served = c.in_ok-finished.ensures.served in
+    let turned = gives_back_so g.F.Flash.device _ _ _
+    (λ d left. served_turns c.new.result c.args.core _ _ d c.new.ensures.core c.new.ensures.unsent closed (left_serving c.new.result c.in-Ok.opened.publisher _ _ _ _ _ d served left))
+    c.in_err-run.ensures.fault in
+    search (rules, turned)

@@ -1,0 +1,5 @@
+use Rattle.jffs_run.proofs.Seeing.{readers_see_answers}
+use Rattle.jffs_run.proofs.laws.readers_see_answers.Goals as goal
+
+pub returns : goal.returns
+returns c = readers_see_answers

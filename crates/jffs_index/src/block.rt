@@ -1,13 +1,12 @@
 //! The outcomes of requests whose numbers follow one another.
-ghost use Rattle.std.specs.Prelude.{◌≡◌, ◌<◌, ◌==◌, ℕ, IfOk, Some, None, if◌then◌else◌};
+ghost use Rattle.std.specs.Prelude.{◌≡◌, ◌<◌, ◌==◌, ℕ, Some, None, if◌then◌else◌};
 ghost use Rattle.jffs_index.specs.Blocks.{slot};
 
 use jffs_tree::Outcome;
-use std::alloc::{AllocError, Global};
 use std::marker::Model;
 
 /// How many requests a block has a slot for.
-pub(crate) const SLOTS: usize = 64;
+pub(crate) const SLOTS: usize = 16;
 
 /// Which slots hold an outcome, and the outcomes. In one list of `Option`s each would take three
 /// bytes more.
@@ -17,10 +16,10 @@ pub(crate) struct Slots {
     pub(crate) outcomes: [Outcome; SLOTS],
 }
 
-/// A slot for each of 64 requests whose numbers follow one another.
+/// A slot for each of 16 requests whose numbers follow one another, 13 bytes each.
 #[derive(Drop)]
 pub(crate) struct Block {
-    slots: Box<Slots>,
+    slots: Slots,
 }
 
 impl Model for Block {
@@ -30,23 +29,22 @@ impl Model for Block {
 
     ghost use Rattle.jffs_index.specs.Blocks.{IsWhole};
 
-    ghost view = { λ b. b.slots.value };
+    ghost view = { λ b. b.slots };
 
-    ghost invariant = { λ b. IsWhole b.slots.value };
+    ghost invariant = { λ b. IsWhole b.slots };
 }
 
 impl Block {
-    /// A block without an outcome. Takes the memory of all its slots, 13 bytes each.
-    pub(crate) fn empty(alloc: Global) -> Result<Block, AllocError>
-        ensures { IfOk result (λ block. (at : ℕ) → slot block at ≡ None) }
+    /// A block without an outcome.
+    pub(crate) fn empty() -> Block
+        ensures { (at : ℕ) → slot result at ≡ None }
     {
-        let slots = Slots {
-            filled: [false; SLOTS],
-            outcomes: [Outcome::Closed; SLOTS],
-        };
-        Ok(Block {
-            slots: Box::new(alloc, slots)?,
-        })
+        Block {
+            slots: Slots {
+                filled: [false; SLOTS],
+                outcomes: [Outcome::Closed; SLOTS],
+            },
+        }
     }
 
     /// What a slot holds.
@@ -66,9 +64,8 @@ impl Block {
         requires { at < SLOTS }
         ensures { (k : ℕ) → slot self.new k ≡ (if k == at then Some outcome else slot self.old k) }
     {
-        let slots: &mut Slots = &mut self.slots;
-        slots.filled[at] = true;
-        slots.outcomes[at] = outcome;
+        self.slots.filled[at] = true;
+        self.slots.outcomes[at] = outcome;
     }
 
     /// Takes the outcome out of a slot, if it holds one.
@@ -76,7 +73,6 @@ impl Block {
         requires { at < SLOTS }
         ensures { (k : ℕ) → slot self.new k ≡ (if k == at then None else slot self.old k) }
     {
-        let slots: &mut Slots = &mut self.slots;
-        slots.filled[at] = false;
+        self.slots.filled[at] = false;
     }
 }

@@ -11,12 +11,13 @@ use std::marker::Model;
 /// For each sender and number the latest outcome, found in logarithmic time.
 ///
 /// The numbers of a sender follow one another, so all its blocks but the last are full, and an
-/// outcome takes about 14 bytes. A number without neighbours takes a block of its own.
+/// outcome takes about 25 bytes. A number without neighbours takes a block of its own. Blocks stand
+/// in the nodes of the map, which so are few and large: small nodes, of which each thread that frees
+/// memory keeps some for itself, would hold on to all memory below them.
 #[derive(Drop)]
 pub(crate) struct Outcomes {
     // By the sender, and the block's number among those of the sender.
     by_block: BTreeMap<(u16, u32), Block>,
-    alloc: Global,
 }
 
 impl Model for Outcomes {
@@ -35,7 +36,6 @@ impl Outcomes {
     {
         Outcomes {
             by_block: BTreeMap::new(alloc),
-            alloc,
         }
     }
 
@@ -65,7 +65,7 @@ impl Outcomes {
             block.put(slot_of(seq), outcome);
             return Ok(());
         }
-        let mut block = Block::empty(self.alloc)?;
+        let mut block = Block::empty();
         block.put(slot_of(seq), outcome);
         self.by_block.insert(key, block)?;
         Ok(())

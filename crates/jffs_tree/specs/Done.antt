@@ -1,0 +1,75 @@
+-- What a granted request does, said of files and directories alone.
+use Rattle.std.specs.Prelude.{◌≡◌, ℕ, ◌+◌, ◌-◌, not, ◌==◌, List, [], ◌++◌, length, take, drop}
+use Rattle.std.specs.Prelude.{replicate, Ok, if◌then◌else◌}
+use Rattle.std.specs.Option.{option_map_or}
+use Rattle.std.specs.Ordering.{nat_cmp}
+use Rattle.std.specs.FinMap.Entries as entries
+use Rattle.jffs_node.specs.declared.node.Node.{Node}
+use Rattle.jffs_node.specs.declared.node.Kind.{Kind}
+use Rattle.jffs_node.specs.declared.node.Kind.TheVariants.{File, Directory}
+use Rattle.jffs_tree.specs.declared.wish.Limits.{Limits}
+use Rattle.jffs_tree.specs.declared.wish.NewNode.{NewNode}
+use Rattle.jffs_tree.specs.declared.wish.Wish.{Wish}
+use Rattle.jffs_tree.specs.declared.wish.Wish.TheVariants.{MakeDir, Create, Write, Truncate, Rename}
+use Rattle.jffs_tree.specs.declared.wish.Wish.TheVariants.{Remove, Copy, Unmount}
+use Rattle.jffs_tree.specs.State.{Entry, State, at, apply, resolve, state_of_past}
+use Rattle.jffs_tree.specs.Decide.{last_name, parent_in, decide, with}
+use Rattle.jffs_tree.specs.Deciding.{AreLimitsOf}
+
+-- a file's first bytes, up to a size, and zeros where it is shorter
+abbrev pub resized : ℕ → List ℕ → List ℕ
+resized size old = take size old ++ replicate (size - length old) 0
+
+-- These bytes from an offset on, and after them what stood there. Without bytes nothing changes.
+abbrev pub overwritten : ℕ → List ℕ → List ℕ → List ℕ
+overwritten offset bytes old =
+    if length bytes == 0 then old
+    else (resized offset old ++ bytes ++ drop (offset + length bytes) old)
+
+-- with a new entry, without bytes, at a path whose directory is there
+abbrev pub with_new : ℕ → Kind → State → List (List ℕ) → State
+with_new inode kind s path =
+    option_map_or
+    (λ parent.
+    entries.put nat_cmp inode
+    (record { kind = kind; parent = parent; name = last_name path; bytes = [] }) s)
+    (parent_in s path) s
+
+-- with another entry for an inode, made of the one that it has, if it has one
+abbrev pub with_changed : (Entry → Entry) → State → ℕ → State
+with_changed change s i = option_map_or (λ e. entries.put nat_cmp i (change e) s) (at s i) s
+
+-- without the entry of an inode
+abbrev pub without : State → ℕ → State
+without s i = entries.where_key nat_cmp (λ j. not (i == j)) s
+
+-- what is so done to the inode at a path; where none is there, nothing
+abbrev pub done_at : List (List ℕ) → State → (ℕ → State) → State
+done_at path s change = option_map_or change (resolve s path) s
+
+-- The state after a granted wish. A new entry gets the inode that the answer names.
+abbrev pub done : ℕ → State → Wish → State
+done inode s (MakeDir path) = with_new inode Directory s path
+done inode s (Create path) = with_new inode File s path
+done inode s (Write path offset bytes) =
+    done_at path s
+    (with_changed (λ e. record e { bytes = overwritten offset bytes e.bytes }) s)
+done inode s (Truncate path size) =
+    done_at path s (with_changed (λ e. record e { bytes = resized size e.bytes }) s)
+done inode s (Rename source target) =
+    option_map_or
+    (λ parent.
+    done_at source s
+    (with_changed (λ e. record e { parent = parent; name = last_name target }) s))
+    (parent_in s target) s
+done inode s (Remove path) = done_at path s (without s)
+done inode s (Copy source parent name offset bytes) = s
+done inode s Unmount = s
+
+-- The node that is decided on makes of the state what the wish asks for.
+abbrev pub DecidedIsDone : Type 0
+DecidedIsDone =
+    (past : List Node) (limits : Limits) (wish : Wish) (n : NewNode) (version writer seq : ℕ)
+    → AreLimitsOf past limits → decide past limits wish ≡ Ok n
+    → apply (state_of_past past) (with n version writer seq)
+    ≡ done n.inode (state_of_past past) wish

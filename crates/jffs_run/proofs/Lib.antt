@@ -9,3 +9,4 @@ pub mod Scanning
 pub mod Unmounting
 pub mod Turns
 pub mod Heavy
+pub mod Done

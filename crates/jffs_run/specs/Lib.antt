@@ -11,3 +11,4 @@ pub mod Scanned
 pub mod Unmounted
 pub mod Turns
 pub mod Heavy
+pub mod Done

@@ -1,5 +1,6 @@
 //! Laws over the definitions. The functions do nothing: their contracts are the laws.
 
+ghost use Rattle.jffs_run.specs.Done.{GrantedIsDone, EachIsDone, FailedIsDoneOrNot};
 ghost use Rattle.jffs_run.specs.Heavy.{RunsHaveRoom, SpaceIsSure};
 ghost use Rattle.jffs_run.specs.Turns.{AnswersAreDurable, FailedStaysFailed, NoSpaceMeansNoRoom};
 ghost use Rattle.jffs_run.specs.Scanned.{RunsLeaveContents, FailedRunsLeaveHistory};
@@ -59,4 +60,14 @@ pub fn failed_stays_failed()
 /// what the fresh nodes up to there make: a loss of power after it loses nothing that was answered.
 pub fn answers_are_durable()
     ensures { AnswersAreDurable }
+{}
+
+/// A scan after `run_threads` finds what a scan before it found, with the granted requests done, in
+/// the order of their answers and in words of files and directories, and nothing else; and so does
+/// a scan of the device as it is with any one answer, of those up to there. Where the device
+/// failed, but not in an erase, the request that was answered Device may be done besides.
+pub fn granted_is_done()
+    ensures works { GrantedIsDone }
+    ensures each { EachIsDone }
+    ensures failed { FailedIsDoneOrNot }
 {}

@@ -17,9 +17,9 @@ use Rattle.jffs_tree.specs.State.{Entry, State, at, apply, sized, written, resol
 use Rattle.jffs_tree.specs.Origin.{stated_size}
 use Rattle.jffs_tree.specs.Decide.{is_root, last_name, parent_in, has_parent, is_there, inode_at, is_empty, entry_of, plain, write_node, truncate_node, unmount_node, decide_new, decide, with}
 use Rattle.jffs_tree.specs.Deciding.{AreLimitsOf}
-use Rattle.jffs_tree.specs.Done.{resized, overwritten, with_new, with_changed, without, done_at, done, DecidedIsDone}
+use Rattle.jffs_tree.specs.Done.{resized, with_new, with_changed, without, done_at, done, DecidedIsDone, NewInodesAreFree}
 use Rattle.jffs_tree.proofs.Pointwise.{at-state}
-use Rattle.jffs_tree.proofs.Offsets.{spliced, length-spliced, read_before, read_written, read_after, length-sized, read_sized}
+use Rattle.jffs_tree.proofs.Offsets.{spliced, read_before, read_written, read_after, length-sized, read_sized}
 use Rattle.jffs_tree.proofs.TrueCopy.{same_put, stated, true_copy_keeps_state}
 use Rattle.jffs_tree.proofs.Copies.{never_unmount, accepted_copies_are_true}
 use Rattle.jffs_tree.proofs.Resolving.{value_of, the_parent, the_inode}
@@ -263,25 +263,37 @@ module _ (past : List Node) (limits : Limits) (version writer seq : ℕ) where
     abbrev new_entry : ℕ → Entry
     new_entry parent = record { kind = kind; parent = parent; name = last_name path; bytes = [] }
 
-    done_new : (n : NewNode) → decide_new s limits kind path ≡ Ok n → apply s (with n version writer seq) ≡ with_new n.inode kind s path
-    done_new n is =
+    new_passed : (n : NewNode) → decide_new s limits kind path ≡ Ok n
+        → ((1 < unwrap_or limits.next_inode 0) × (at s (unwrap_or limits.next_inode 0) ≡ None)) × (parent_in s path ≡ Some (unwrap_or (parent_in s path) 0))
+        × (plain (unwrap_or limits.next_inode 0) (new_entry (unwrap_or (parent_in s path) 0)) ≡ n)
+    new_passed n is =
         let k = unwrap_or limits.next_inode 0 in
-        let e = new_entry (unwrap_or (parent_in s path) 0) in
         let passed = all_passed (
         (is_root path, RootFixed)
         ∷ (not (has_parent s path), NoParent)
         ∷ (is_there s path, NameTaken)
         ∷ (is_none limits.next_inode, InodesSpent)
         ∷ (is_none limits.next_version, VersionsSpent)
-        ∷ []) (plain k e) n is in
-        let new = fresh k (value_of limits.next_inode 0 (not-false (is_some limits.next_inode) passed.0.1.1.1.0)) in
-        let free : at s k ≡ None = nothing_at (at s k) (λ f was. let l = below_new past k k f new.above (sym (at-state past k) ∙ was) in omega arith) in
-        let home = (the_parent s path (not-false (has_parent s path) passed.0.1.0)).0 in
-        subst (λ (m : NewNode). apply s (with m version writer seq) ≡ with_new m.inode kind s path) passed.1
+        ∷ []) (plain k (new_entry (unwrap_or (parent_in s path) 0))) n is in
+        let new = fresh k (value_of limits.next_inode 0 (not-false (is_some limits.next_inode) passed.0.1.1.1.0)) in (
+          (let l = new.low in omega arith, nothing_at (at s k) (λ f was. let l = below_new past k k f new.above (sym (at-state past k) ∙ was) in omega arith)),
+          (the_parent s path (not-false (has_parent s path) passed.0.1.0)).0,
+          passed.1,
+        )
+
+    new_free : (n : NewNode) → decide_new s limits kind path ≡ Ok n → (1 < n.inode) × (at s n.inode ≡ None)
+    new_free n is = let new = new_passed n is in subst (λ (m : NewNode). (1 < m.inode) × (at s m.inode ≡ None)) new.2 new.0
+
+    done_new : (n : NewNode) → decide_new s limits kind path ≡ Ok n → apply s (with n version writer seq) ≡ with_new n.inode kind s path
+    done_new n is =
+        let k = unwrap_or limits.next_inode 0 in
+        let e = new_entry (unwrap_or (parent_in s path) 0) in
+        let new = new_passed n is in
+        subst (λ (m : NewNode). apply s (with m version writer seq) ≡ with_new m.inode kind s path) new.2
         (put_by s (with (plain k e) version writer seq) stands refl e
-        (ap (λ o. written (with (plain k e) version writer seq) o) free
+        (ap (λ o. written (with (plain k e) version writer seq) o) new.0.1
         ∙ (λ j. record { kind = e.kind; parent = e.parent; name = e.name; bytes = left_bytes e 0 (omega arith) j }))
-        ∙ sym (ap (λ o. option_map_or (λ p. entries.put nat_cmp k (new_entry p) s) o s) home))
+        ∙ sym (ap (λ o. option_map_or (λ p. entries.put nat_cmp k (new_entry p) s) o s) new.1))
 
   done_copy : (source parent : ℕ) (name : List ℕ) (offset : ℕ) (bytes : List ℕ) (n : NewNode) → decide past limits (Copy source parent name offset bytes) ≡ Ok n
       → Does (Copy source parent name offset bytes) n
@@ -306,3 +318,8 @@ module _ (past : List Node) (limits : Limits) (version writer seq : ℕ) where
 
 pub decided_is_done : DecidedIsDone
 decided_is_done past limits wish n version writer seq fresh is = by_wish past limits version writer seq fresh wish n is
+
+pub new_inodes_are_free : NewInodesAreFree
+new_inodes_are_free past limits (MakeDir path) n fresh is = λ new. new_free past limits 0 0 0 fresh Directory refl path n is
+new_inodes_are_free past limits (Create path) n fresh is = λ new. new_free past limits 0 0 0 fresh File refl path n is
+new_inodes_are_free past limits _ n fresh is = λ new. cc

@@ -1,6 +1,6 @@
 -- What a granted request does, said of files and directories alone.
-use Rattle.std.specs.Prelude.{◌≡◌, ℕ, ◌+◌, ◌-◌, not, ◌==◌, List, [], ◌++◌, length, take, drop}
-use Rattle.std.specs.Prelude.{replicate, Ok, if◌then◌else◌}
+use Rattle.std.specs.Prelude.{◌≡◌, ℕ, ◌+◌, ◌-◌, ◌<◌, Bool, true, false, not, ◌==◌, List, []}
+use Rattle.std.specs.Prelude.{◌++◌, length, take, drop, replicate, None, Ok, if◌then◌else◌}
 use Rattle.std.specs.Option.{option_map_or}
 use Rattle.std.specs.Ordering.{nat_cmp}
 use Rattle.std.specs.FinMap.Entries as entries
@@ -12,7 +12,7 @@ use Rattle.jffs_tree.specs.declared.wish.NewNode.{NewNode}
 use Rattle.jffs_tree.specs.declared.wish.Wish.{Wish}
 use Rattle.jffs_tree.specs.declared.wish.Wish.TheVariants.{MakeDir, Create, Write, Truncate, Rename}
 use Rattle.jffs_tree.specs.declared.wish.Wish.TheVariants.{Remove, Copy, Unmount}
-use Rattle.jffs_tree.specs.State.{Entry, State, at, apply, resolve, state_of_past}
+use Rattle.jffs_tree.specs.State.{Entry, State, root, at, apply, resolve, state_of_past}
 use Rattle.jffs_tree.specs.Decide.{last_name, parent_in, decide, with}
 use Rattle.jffs_tree.specs.Deciding.{AreLimitsOf}
 
@@ -66,6 +66,16 @@ done inode s (Remove path) = done_at path s (without s)
 done inode s (Copy source parent name offset bytes) = s
 done inode s Unmount = s
 
+-- whether a wish makes an entry
+abbrev pub makes_entry : Wish → Bool
+makes_entry (MakeDir path) = true
+makes_entry (Create path) = true
+makes_entry _ = false
+
+-- If a wish makes an entry, it gets a number above the root's that no entry has.
+abbrev pub IsFreeFor : Wish → State → ℕ → Type 0
+IsFreeFor wish s inode = makes_entry wish ≡ true → (root < inode) × (at s inode ≡ None)
+
 -- The node that is decided on makes of the state what the wish asks for.
 abbrev pub DecidedIsDone : Type 0
 DecidedIsDone =
@@ -73,3 +83,9 @@ DecidedIsDone =
     → AreLimitsOf past limits → decide past limits wish ≡ Ok n
     → apply (state_of_past past) (with n version writer seq)
     ≡ done n.inode (state_of_past past) wish
+
+-- A new entry never takes the place of another.
+abbrev pub NewInodesAreFree : Type 0
+NewInodesAreFree = (past : List Node) (limits : Limits) (wish : Wish) (n : NewNode)
+    → AreLimitsOf past limits → decide past limits wish ≡ Ok n
+    → IsFreeFor wish (state_of_past past) n.inode

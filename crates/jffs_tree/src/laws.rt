@@ -6,7 +6,7 @@ ghost use Rattle.jffs_tree.specs.Laws.{TrueCopiesKeepState, ErasingKeepsState, E
 ghost use Rattle.jffs_tree.specs.Laws.{ErasingKeepsOrigins, RulesGiveOrigins, ErasingKeepsRules};
 ghost use Rattle.jffs_tree.specs.Laws.{BytesComeFromOrigins, TreesStepByNodes, TreesTestAsNodes};
 ghost use Rattle.jffs_tree.specs.Laws.{DecidesByTree, AcceptedCopiesAreTrue, CleaningCopiesAreTrue};
-ghost use Rattle.jffs_tree.specs.Done.{DecidedIsDone};
+ghost use Rattle.jffs_tree.specs.Done.{DecidedIsDone, NewInodesAreFree};
 ghost use Rattle.jffs_tree.specs.Examples.{Overwriting, Truncating, Copying, Doing};
 
 /// Without nodes the tree is empty.
@@ -59,7 +59,8 @@ pub fn decisions_hold()
 {}
 
 /// The node of a granted wish does to files and directories what the wish asks for, and nothing
-/// else.
+/// else; and a new entry has a number that no entry had.
 pub fn decided_is_done()
-    ensures { DecidedIsDone }
+    ensures done { DecidedIsDone }
+    ensures free { NewInodesAreFree }
 {}

@@ -3,7 +3,7 @@ use Rattle.std.specs.Prelude.{◌≡◌, ◌⊎◌, ℕ, false, List, Ok}
 use Rattle.jffs_node.specs.declared.node.Node.{Node}
 use Rattle.jffs_tree.specs.State.{State}
 use Rattle.jffs_tree.specs.Origin.{state_in}
-use Rattle.jffs_tree.specs.Done.{done}
+use Rattle.jffs_tree.specs.Done.{done, IsFreeFor}
 use Rattle.jffs_tree.specs.declared.wish.Wish.{Wish}
 use Rattle.jffs_tree.specs.declared.wish.Outcome.{Outcome}
 use Rattle.jffs_tree.specs.declared.wish.Outcome.TheVariants.{Appended, Refused}
@@ -22,6 +22,11 @@ abbrev pub done_by : State → Wish → Outcome → State
 done_by s wish (Appended inode version) = done inode s wish
 done_by s wish _ = s
 
+-- the inode that an answer gives a new entry has none
+abbrev pub IsFreeBy : Outcome → Wish → State → Type 0
+IsFreeBy (Appended inode version) wish s = IsFreeFor wish s inode
+IsFreeBy _ wish s = Unit {0}
+
 -- An answer leaves the contents as it says, whatever room was made for it.
 abbrev pub AnswersAreDone : Type 0
 AnswersAreDone =
@@ -30,7 +35,14 @@ AnswersAreDone =
     → contents mounted answer.stands.grown.added
     ≡ done_by (contents mounted before.grown.added) q.wish o
 
--- And so the tree of a core that works.
+-- A new entry never takes the place of another.
+abbrev pub AnswersAreFree : Type 0
+AnswersAreFree =
+    (mounted past : List Node) (old new : CoreState) (q : Request) (o : Outcome)
+    (before : Represents mounted past old) → Answers mounted past old new q o
+    → IsFreeBy o q.wish (contents mounted before.grown.added)
+
+-- The tree of a core that works is as its answer says.
 abbrev pub TreesAreDone : Type 0
 TreesAreDone =
     (mounted past : List Node) (old new : CoreState) (q : Request) (o : Outcome)
@@ -46,7 +58,8 @@ pub record ScanFinds (Is : State → Type 0) (count len : ℕ) (image : List ℕ
 
 -- the state before a wish, or that with the wish done
 abbrev pub IsDoneOrNot : State → Wish → State → Type 0
-IsDoneOrNot before wish s = (s ≡ before) ⊎ ((inode : ℕ) × (s ≡ done inode before wish))
+IsDoneOrNot before wish s = (s ≡ before)
+    ⊎ ((inode : ℕ) × IsFreeFor wish before inode × (s ≡ done inode before wish))
 
 -- After the answer Device, but for a failed erase, a scan finds the contents, or them with what was
 -- asked for done.

@@ -6,7 +6,8 @@ ghost use Rattle.jffs_core.specs.RoomSteps.{CleaningOnlyCopies, StoppedOnlyCopie
 ghost use Rattle.jffs_core.specs.RoomSteps.{MakingRoomOnlyCopies, NoSpaceIsAStep, UnmountsHaveRoom};
 ghost use Rattle.jffs_core.specs.Past.{ScansFindContents, FailedScansFind};
 ghost use Rattle.jffs_core.specs.Finding.{DeviceScansFind, StoppedScansFind};
-ghost use Rattle.jffs_core.specs.Done.{AnswersAreDone, TreesAreDone, DeviceIsDoneOrNot};
+ghost use Rattle.jffs_core.specs.Done.{AnswersAreDone, AnswersAreFree, TreesAreDone};
+ghost use Rattle.jffs_core.specs.Done.{DeviceIsDoneOrNot};
 ghost use Rattle.jffs_core.specs.Run.{RunsGoOn, LawfulRunsGrow};
 
 /// A run that nothing has closed may go on by one request and its answer.
@@ -47,10 +48,11 @@ pub fn one_sector_is_erased()
 {}
 
 /// What is answered Appended is done, in words of files and directories, and no other answer
-/// changes any; after the answer Device, but for a failed erase, a scan finds what was asked for
-/// done, or nothing changed.
+/// changes any; a new entry never takes the place of another. After the answer Device, but for a
+/// failed erase, a scan finds what was asked for done, or nothing changed.
 pub fn answers_are_done()
     ensures contents { AnswersAreDone }
+    ensures free { AnswersAreFree }
     ensures trees { TreesAreDone }
     ensures device { DeviceIsDoneOrNot }
 {}

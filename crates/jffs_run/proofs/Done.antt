@@ -4,7 +4,7 @@ use Rattle.jffs_node.specs.declared.node.Node.{Node}
 use Rattle.jffs_node.proofs.Rules.{ok_same}
 use Rattle.jffs_tree.specs.State.{State, apply, state_of_past}
 use Rattle.jffs_tree.specs.Origin.{state_in}
-use Rattle.jffs_tree.specs.Done.{done}
+use Rattle.jffs_tree.specs.Done.{done, IsFreeFor}
 use Rattle.jffs_flash.specs.Device.{Device}
 use Rattle.jffs_log.specs.Image.{past_of}
 use Rattle.jffs_log.specs.Scan.{Scanned}
@@ -13,12 +13,12 @@ use Rattle.jffs_core.specs.Past.{IsFresh}
 use Rattle.jffs_core.specs.Answering.{turn_of}
 use Rattle.jffs_core.specs.Done.{done_by}
 use Rattle.jffs_core.proofs.Deciding.{copies_state}
-use Rattle.jffs_core.proofs.Done.{node_done, step_done, state_known}
+use Rattle.jffs_core.proofs.Done.{node_done, node_free, step_done, step_free, state_known}
 use Rattle.jffs_core.proofs.Scanning.{scans_find, failed_found}
 use Rattle.jffs_serve.specs.Replies.{Reply}
 use Rattle.jffs_serve.specs.Chain.{IsReplied, Chain, after_reply}
 use Rattle.jffs_serve.specs.ChainLaws.{volume_of, IsRequested}
-use Rattle.jffs_run.specs.Done.{done_by_all, IsDoneToo, GrantedIsDone, EachIsDone, FailedIsDoneOrNot}
+use Rattle.jffs_run.specs.Done.{done_by_all, AllFree, IsDoneToo, RunsAreFree, GrantedIsDone, EachIsDone, FailedIsDoneOrNot}
 use Rattle.jffs_run.proofs.Scanning.{ends_so, same_scan}
 use Rattle.jffs_run.proofs.Turns.{turn_in, works_then}
 
@@ -36,6 +36,15 @@ chain_done mounted past after start core (r ∷ replies) chain =
     chain_done mounted (after_reply chain.0.replied) after chain.0.now core replies chain.1
     ∙ ap (λ s. done_by_all s replies) (reply_done mounted past chain.0.was chain.0.now r chain.0.replied)
 
+chain_free : (mounted past after : List Node) (start core : CoreState) (replies : List Reply) → Chain mounted past start replies core after → AllFree (state_of_past past) replies
+chain_free mounted past after start core [] chain = tt
+chain_free mounted past after start core (r ∷ replies) chain =
+    let replied = chain.0.replied in (
+      step_free (turn_of past chain.0.was chain.0.now) r.request r.step.outcome (after_reply replied) replied.answer.answers.step,
+      subst (λ (s : State). AllFree s replies) (reply_done mounted past chain.0.was chain.0.now r replied)
+          (chain_free mounted (after_reply replied) after chain.0.now core replies chain.1),
+    )
+
 done_last : (s : State) (first : List Reply) (r : Reply) → done_by_all s (first ++ r ∷ []) ≡ done_by (done_by_all s first) r.request.wish r.step.outcome
 done_last s [] r = refl
 done_last s (q ∷ first) r = done_last (done_by s q.request.wish q.step.outcome) first r
@@ -48,6 +57,12 @@ state_mounted before start fresh =
     let finds = scans_find mounted mounted start s fresh.works in
     let same : fresh.scanned ≡ finds.scanned = ok_same fresh.scanned finds.scanned (sym fresh.found ∙ same_scan start before fresh.device_is ∙ finds.found) in
     sym (ap (λ (x : Scanned). state_in x.tree) same ∙ ap state_in finds.tree_is ∙ state_known mounted start (s.stands.working fresh.works))
+
+pub runs_are_free : RunsAreFree
+runs_are_free before start account fresh run =
+    let mounted = past_of fresh.scanned.log in
+    let ran = run.lawful mounted mounted fresh.stands in
+    subst (λ (s : State). AllFree s run.replies) (state_mounted before start fresh) (chain_free mounted mounted ran.after start run.core run.replies ran.chain)
 
 pub granted_is_done : GrantedIsDone
 granted_is_done before start account fresh run works =
@@ -95,6 +110,7 @@ done_too start replies after n h s is =
       among = h.among;
       device = h.device;
       inode = n.inode;
+      free = subst (λ (x : State). IsFreeFor h.reply.request.wish x n.inode) (sym same) (node_free h.turn h.reply.request after n h.node);
       is = is ∙ ap (λ x. apply x n) same ∙ node_done h.turn h.reply.request after n h.node ∙ ap (λ x. done n.inode x h.reply.request.wish) (sym same);
     }
 

@@ -2,14 +2,14 @@
 use Rattle.std.specs.Prelude.{◌≡◌, ◌⊎◌, ℕ, true, false, List, [], ◌∷◌, ◌++◌, Contains}
 use Rattle.jffs_tree.specs.State.{State}
 use Rattle.jffs_tree.specs.Origin.{state_in}
-use Rattle.jffs_tree.specs.Done.{done}
+use Rattle.jffs_tree.specs.Done.{done, IsFreeFor}
 use Rattle.jffs_tree.specs.declared.wish.Cause.TheVariants.{Device as DeviceFailed}
 use Rattle.jffs_tree.specs.declared.wish.Outcome.TheVariants.{Refused}
 use Rattle.jffs_flash.specs.Device.{Device}
 use Rattle.jffs_log.specs.Image.{past_of}
 use Rattle.jffs_core.specs.CoreState.{CoreState}
 use Rattle.jffs_core.specs.Past.{IsFresh}
-use Rattle.jffs_core.specs.Done.{done_by, ScanFinds}
+use Rattle.jffs_core.specs.Done.{done_by, IsFreeBy, ScanFinds}
 use Rattle.jffs_serve.specs.Replies.{Reply}
 use Rattle.jffs_run.specs.Account.{Account}
 use Rattle.jffs_run.specs.Headline.{IsRun}
@@ -20,6 +20,13 @@ use Rattle.jffs_run.specs.Turns.{InRun}
 abbrev pub done_by_all : State → List Reply → State
 done_by_all s [] = s
 done_by_all s (r ∷ replies) = done_by_all (done_by s r.request.wish r.step.outcome) replies
+
+-- the inode that each of them gives a new entry has none at its turn
+abbrev pub AllFree : State → List Reply → Type 0
+AllFree s [] = Unit {0}
+AllFree s (r ∷ replies) =
+    IsFreeBy r.step.outcome r.request.wish s
+    × AllFree (done_by s r.request.wish r.step.outcome) replies
 
 -- the state that a scan found before the run, with what was granted of these requests done
 abbrev pub granted_done : {before : Device} {start : CoreState} → IsFresh before start → List Reply
@@ -35,7 +42,14 @@ GrantedIsDone =
     → ScanFinds (λ s. s ≡ granted_done fresh run.replies) account.device.sectors
     account.device.sector_size account.device.image
 
--- And a scan of the image as it is with any one answer finds it with those up to there done.
+-- In any run no new entry takes the place of another.
+abbrev pub RunsAreFree : Type 0
+RunsAreFree =
+    (before : Device) (start : CoreState) (account : Account) (fresh : IsFresh before start)
+    (run : IsRun start account) → AllFree (state_in fresh.scanned.tree) run.replies
+
+-- In a run whose device works to the end, a scan of the image as it is with any one answer finds
+-- what a scan found before the run, with the granted requests up to there done.
 abbrev pub EachIsDone : Type 0
 EachIsDone =
     (before : Device) (start : CoreState) (account : Account) (fresh : IsFresh before start)
@@ -51,6 +65,7 @@ pub record IsDoneToo (replies : List Reply) (before s : State) : Type 0 where
   pub among : Contains replies reply
   pub device : reply.step.outcome ≡ Refused DeviceFailed
   pub inode : ℕ
+  pub free : IsFreeFor reply.request.wish before inode
   pub is : s ≡ done inode before reply.request.wish
 
 -- Over a device that failed, but not in an erase, a scan finds the granted requests done, and at

@@ -22,7 +22,7 @@ abbrev pub done_by : State → Wish → Outcome → State
 done_by s wish (Appended inode version) = done inode s wish
 done_by s wish _ = s
 
--- the inode that an answer gives a new entry has none
+-- the inode that an answer names for a new entry is free
 abbrev pub IsFreeBy : Outcome → Wish → State → Type 0
 IsFreeBy (Appended inode version) wish s = IsFreeFor wish s inode
 IsFreeBy _ wish s = Unit {0}

@@ -21,7 +21,7 @@ abbrev pub done_by_all : State → List Reply → State
 done_by_all s [] = s
 done_by_all s (r ∷ replies) = done_by_all (done_by s r.request.wish r.step.outcome) replies
 
--- the inode that each of them gives a new entry has none at its turn
+-- the inode that each answer names for a new entry is free at its turn
 abbrev pub AllFree : State → List Reply → Type 0
 AllFree s [] = Unit {0}
 AllFree s (r ∷ replies) =

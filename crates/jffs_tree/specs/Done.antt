@@ -26,7 +26,7 @@ overwritten offset bytes old =
     if length bytes == 0 then old
     else (resized offset old ++ bytes ++ drop (offset + length bytes) old)
 
--- with a new entry, without bytes, at a path whose directory is there
+-- the state with a new entry, without bytes, at a path, if the directory of the path is there
 abbrev pub with_new : ℕ → Kind → State → List (List ℕ) → State
 with_new inode kind s path =
     option_map_or
@@ -35,15 +35,15 @@ with_new inode kind s path =
     (record { kind = kind; parent = parent; name = last_name path; bytes = [] }) s)
     (parent_in s path) s
 
--- with another entry for an inode, made of the one that it has, if it has one
+-- the state with the entry of an inode changed so, if it has one
 abbrev pub with_changed : (Entry → Entry) → State → ℕ → State
 with_changed change s i = option_map_or (λ e. entries.put nat_cmp i (change e) s) (at s i) s
 
--- without the entry of an inode
+-- the state without the entry of an inode
 abbrev pub without : State → ℕ → State
 without s i = entries.where_key nat_cmp (λ j. not (i == j)) s
 
--- what is so done to the inode at a path; where none is there, nothing
+-- the state with the inode that a path leads to changed so; unchanged, if it leads to none
 abbrev pub done_at : List (List ℕ) → State → (ℕ → State) → State
 done_at path s change = option_map_or change (resolve s path) s
 

@@ -17,3 +17,4 @@ pub mod Turning
 pub mod Called
 pub mod Scanning
 pub mod Handed
+pub mod Done

@@ -47,7 +47,7 @@ failed_scans_find mounted past c h fails intact =
     ]
 
 -- After a failure, by the node in hand.
-failed_found : (One : Node → Type 0) (past : List Node) (c : CoreState) → HasFailed (λ n. IsOwnCopy past n ⊎ One n) past c → c.erase_failed ≡ false
+pub failed_found : (One : Node → Type 0) (past : List Node) (c : CoreState) → HasFailed (λ n. IsOwnCopy past n ⊎ One n) past c → c.erase_failed ≡ false
     → (scanned : Scanned) × (scan c.index.sector_size (split c.index.sectors c.index.sector_size c.image) ≡ Ok scanned)
     × ((state_in scanned.tree ≡ state_of_past past) ⊎ ((n : Node) × One n × (state_in scanned.tree ≡ apply (state_of_past past) n)))
 failed_found One past c h intact = elim (h.left intact) [

@@ -14,3 +14,4 @@ pub mod Rows
 pub mod Nodes
 pub mod Trees
 pub mod Jobs
+pub mod Done

@@ -6,6 +6,8 @@ ghost use Rattle.jffs_core.specs.RoomSteps.{CleaningOnlyCopies, StoppedOnlyCopie
 ghost use Rattle.jffs_core.specs.RoomSteps.{MakingRoomOnlyCopies, NoSpaceIsAStep, UnmountsHaveRoom};
 ghost use Rattle.jffs_core.specs.Past.{ScansFindContents, FailedScansFind};
 ghost use Rattle.jffs_core.specs.Finding.{DeviceScansFind, StoppedScansFind};
+ghost use Rattle.jffs_core.specs.Done.{AnswersAreDone, AnswersAreFree, TreesAreDone};
+ghost use Rattle.jffs_core.specs.Done.{DeviceIsDoneOrNot};
 ghost use Rattle.jffs_core.specs.Run.{RunsGoOn, LawfulRunsGrow};
 
 /// A run that nothing has closed may go on by one request and its answer.
@@ -43,4 +45,14 @@ pub fn scans_find_contents()
 /// While a core works, and so after each of its appends and erases, at least one sector is erased.
 pub fn one_sector_is_erased()
     ensures { OneIsErased }
+{}
+
+/// What is answered Appended is done, in words of files and directories, and no other answer
+/// changes any; a new entry never takes the place of another. After the answer Device, but for a
+/// failed erase, a scan finds what was asked for done, or nothing changed.
+pub fn answers_are_done()
+    ensures contents { AnswersAreDone }
+    ensures free { AnswersAreFree }
+    ensures trees { TreesAreDone }
+    ensures device { DeviceIsDoneOrNot }
 {}

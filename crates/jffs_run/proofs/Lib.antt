@@ -10,3 +10,4 @@ pub mod Scanning
 pub mod Unmounting
 pub mod Turns
 pub mod Heavy
+pub mod Done

@@ -28,11 +28,11 @@ lawful_answers start core mounted replies answers all are ran =
     subst (λ (given : List Answer). IsLawful (volume_of start) mounted (requests_in replies) given ran.after) (sym are) (replies_are_lawful start core mounted mounted replies all ran)
 
 -- what the chain of a run from a mount on tells of its end
-ends_so : (start core : CoreState) (mounted : List Node) (replies : List Reply) → Represents mounted mounted start → (ran : RunsTo start core mounted mounted replies) → EndsSo mounted start core replies ran.after
+pub ends_so : (start core : CoreState) (mounted : List Node) (replies : List Reply) → Represents mounted mounted start → (ran : RunsTo start core mounted mounted replies) → EndsSo mounted start core replies ran.after
 ends_so start core mounted replies stands ran = chains_end_so mounted mounted ran.after start core replies stands ran.chain
 
 -- a scan of the device is one of the core's image
-same_scan : (core : CoreState) (device : Device) → IsLeftBy core device → scan_of device ≡ scan core.index.sector_size (split core.index.sectors core.index.sector_size core.image)
+pub same_scan : (core : CoreState) (device : Device) → IsLeftBy core device → scan_of device ≡ scan core.index.sector_size (split core.index.sectors core.index.sector_size core.image)
 same_scan core device left = λ i. scan (left.sizes.1 i) (split (left.sizes.0 i) (left.sizes.1 i) (left.image_is i))
 
 pub runs_leave_contents : RunsLeaveContents

@@ -42,11 +42,18 @@ failed_stays_failed before start account fresh run first later r are tells =
     let so : EndsSo mounted start at.was first at.taken = chains_end_so mounted mounted at.taken start at.was first fresh.stands at.so_far in
     says_failed at.replied (so.failed tells)
 
+-- a core that works at the end works with each answer
+pub works_then :
+    {start : CoreState} {account : Account} (run : IsRun start account) (mounted : List Node) (first : List Reply) (r : Reply) (later : List Reply)
+    (turn : InRun run mounted first r later) → run.core.failed ≡ false → turn.within.now.failed ≡ false
+works_then run mounted first r later turn works =
+    let at = turn.within in
+    false_from_ne_true at.now.failed
+    (λ had. both_ways run.core.failed works (still_failed mounted (after_reply at.replied) turn.after at.now run.core later had at.rest))
+
 pub answers_are_durable : AnswersAreDurable
 answers_are_durable before start account fresh run works first later r are =
     let mounted = past_of fresh.scanned.log in
     let turn = turn_in run mounted first r later fresh.stands are in
     let at = turn.within in
-    let now_works : at.now.failed ≡ false = false_from_ne_true at.now.failed
-    (λ had. both_ways run.core.failed works (still_failed mounted (after_reply at.replied) turn.after at.now run.core later had at.rest)) in
-    (turn, scans_find mounted (after_reply at.replied) at.now at.replied.answer.answers.stands now_works)
+    (turn, scans_find mounted (after_reply at.replied) at.now at.replied.answer.answers.stands (works_then run mounted first r later turn works))

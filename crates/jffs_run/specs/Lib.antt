@@ -13,3 +13,4 @@ pub mod Unmounted
 pub mod Turns
 pub mod Seen
 pub mod Heavy
+pub mod Done

@@ -1,5 +1,6 @@
 //! Laws over the definitions. The functions do nothing: their contracts are the laws.
 
+ghost use Rattle.jffs_run.specs.Done.{GrantedIsDone, RunsAreFree, EachIsDone, FailedIsDoneOrNot};
 ghost use Rattle.jffs_run.specs.Heavy.{RunsHaveRoom, SpaceIsSure};
 ghost use Rattle.jffs_run.specs.Turns.{AnswersAreDurable, FailedStaysFailed, NoSpaceMeansNoRoom};
 ghost use Rattle.jffs_run.specs.Seen.{ReadersSeeAnswers};
@@ -66,4 +67,16 @@ pub fn answers_are_durable()
 /// answered, with all that was answered before, and perhaps with some answers after it.
 pub fn readers_see_answers()
     ensures { ReadersSeeAnswers }
+{}
+
+/// A scan after `run_threads` finds what a scan before it found, with the granted requests done, in
+/// the order of their answers and in words of files and directories, and nothing else; and so does
+/// a scan of the device as it is with any one answer, of those up to there. Where the device
+/// failed, but not in an erase, the request that was answered Device may be done besides. A new
+/// entry never takes the place of another.
+pub fn granted_is_done()
+    ensures works { GrantedIsDone }
+    ensures each { EachIsDone }
+    ensures free { RunsAreFree }
+    ensures failed { FailedIsDoneOrNot }
 {}

@@ -25,7 +25,7 @@ use Rattle.jffs_tree.proofs.Ruled.{check_parts}
 use Rattle.jffs_tree.proofs.Putting.{IsFileNode, IsDirectoryNode, put_keeps_past, gone_keeps_past}
 
 -- what is present has an inode below each that is above those of all nodes
-below_new : (past : List Node) (k i : ℕ) (e : Entry) → AllByRecursion (λ n. n.inode < k) past → entry past i ≡ Some e → i < k
+pub below_new : (past : List Node) (k i : ℕ) (e : Entry) → AllByRecursion (λ n. n.inode < k) past → entry past i ≡ Some e → i < k
 below_new [] k i e above is = cc
 below_new (n ∷ past) k i e above is = ⊎_elim
     (λ c. let same = its_inode i n c in let first = above.0 in omega arith)

@@ -15,7 +15,7 @@ use Rattle.jffs_tree.specs.declared.wish.Limits.{Limits}
 use Rattle.jffs_tree.specs.declared.wish.NewNode.{NewNode}
 use Rattle.jffs_tree.specs.declared.wish.Wish.{Wish}
 use Rattle.jffs_tree.specs.declared.wish.Wish.TheVariants.{MakeDir, Create, Write, Truncate, Rename, Remove, Copy, Unmount}
-use Rattle.jffs_tree.specs.State.{Entry, at, resolve, is_directory_in, state_of_past}
+use Rattle.jffs_tree.specs.State.{Entry, State, at, resolve, is_directory_in, state_of_past}
 use Rattle.jffs_tree.specs.Origin.{Held, entry, holder, tree_of}
 use Rattle.jffs_tree.specs.Check.{each_fits, check}
 use Rattle.jffs_tree.specs.Decide.{unless, is_root, last_name, parent_in, has_parent, is_there, inode_at, is_empty, nobody, entry_of, plain, write_node, truncate_node, copy_node, unmount_node, is_current, held_entry, held_inode, decide_copy, decide_new, decide, with}
@@ -53,6 +53,21 @@ written_data i e offset bytes l = either (eqb (length bytes) 0) (record (plain i
     either true a b f g = f
     either false a b f g = g
 
+-- what a path leads to, in a state
+module _ (s : State) where
+  -- a path to what is no root leads to an entry
+  an_entry : (path : List (List ℕ)) (i : ℕ) → resolve s path ≡ Some i → ((length path ≡ 0) × (1 ≡ i) → ⊥) → at s i ≡ Some (entry_of s i)
+  an_entry path i is low = ⊎_elim
+      (λ root. absurd (low root))
+      (λ there. value_of (at s i) nobody there)
+      (resolved_there s 1 i path is)
+
+  pub no_directory : (path : List (List ℕ)) → is_there s path ≡ true → is_directory_in s (inode_at s path) ≡ false → at s (inode_at s path) ≡ Some (entry_of s (inode_at s path))
+  no_directory path there file = an_entry path (inode_at s path) (the_inode s path there) (λ top. not_root s (inode_at s path) top.1 file)
+
+  pub below_root : (path : List (List ℕ)) → is_there s path ≡ true → is_root path ≡ false → at s (inode_at s path) ≡ Some (entry_of s (inode_at s path))
+  below_root path there root = an_entry path (inode_at s path) (the_inode s path there) (λ top. eqb-false (length path) 0 root top.0)
+
 unmount_keeps : (past : List Node) (before : IsLawfulPast past) (version writer seq : ℕ) → AreNumbers version writer seq → IsLawfulPast (with unmount_node version writer seq ∷ past)
 unmount_keeps past before version writer seq v =
     let n = with unmount_node version writer seq in
@@ -84,22 +99,6 @@ module _ (past : List Node) (limits : Limits) (version writer seq : ℕ) (before
   abbrev Good : NewNode → Type 0
   Good n = Keeps past before version writer seq v n × (length n.bytes ≤ limits.data_max)
 
-  -- a path to what is no root leads to an entry
-  an_entry : (path : List (List ℕ)) (i : ℕ) → resolve (state_of_past past) path ≡ Some i → ((length path ≡ 0) × (1 ≡ i) → ⊥) → at (state_of_past past) i ≡ Some (entry_of (state_of_past past) i)
-  an_entry path i is low = ⊎_elim
-      (λ root. absurd (low root))
-      (λ there. value_of (at (state_of_past past) i) nobody there)
-      (resolved_there (state_of_past past) 1 i path is)
-
-  no_directory : (path : List (List ℕ)) → is_there (state_of_past past) path ≡ true → is_directory_in (state_of_past past) (inode_at (state_of_past past) path) ≡ false
-      → at (state_of_past past) (inode_at (state_of_past past) path) ≡ Some (entry_of (state_of_past past) (inode_at (state_of_past past) path))
-  no_directory path there file = an_entry path (inode_at (state_of_past past) path) (the_inode (state_of_past past) path there)
-      (λ top. not_root (state_of_past past) (inode_at (state_of_past past) path) top.1 file)
-
-  below_root : (path : List (List ℕ)) → is_there (state_of_past past) path ≡ true → is_root path ≡ false
-      → at (state_of_past past) (inode_at (state_of_past past) path) ≡ Some (entry_of (state_of_past past) (inode_at (state_of_past past) path))
-  below_root path there root = an_entry path (inode_at (state_of_past past) path) (the_inode (state_of_past past) path there) (λ top. eqb-false (length path) 0 root top.0)
-
   -- a new path has a home
   a_home : (path : List (List ℕ)) → IsPath path → is_root path ≡ false → has_parent (state_of_past past) path ≡ true → is_there (state_of_past past) path ≡ false
       → IsHome past before version writer seq v (unwrap_or (parent_in (state_of_past past) path) 0) (last_name path)
@@ -126,7 +125,7 @@ module _ (past : List Node) (limits : Limits) (version writer seq : ℕ) (before
       ∷ (ltb file_max (offset + length bytes), FileLong)
       ∷ (is_none limits.next_version, VersionsSpent)
       ∷ []) (write_node i (entry_of s i) offset bytes) n is in
-      let there = no_directory path (not-false _ passed.0.0) passed.0.1.0 in
+      let there = no_directory s path (not-false _ passed.0.0) passed.0.1.0 in
       let file = its_file past before version writer seq v i (entry_of s i) there passed.0.1.0 in
       let data_fits = ltb-false limits.data_max (length bytes) passed.0.1.1.0 in
       subst Good passed.1 (
@@ -144,7 +143,7 @@ module _ (past : List Node) (limits : Limits) (version writer seq : ℕ) (before
       ∷ (ltb file_max size, FileLong)
       ∷ (is_none limits.next_version, VersionsSpent)
       ∷ []) (truncate_node i (entry_of s i) size) n is in
-      let there = no_directory path (not-false _ passed.0.0) passed.0.1.0 in
+      let there = no_directory s path (not-false _ passed.0.0) passed.0.1.0 in
       let file = its_file past before version writer seq v i (entry_of s i) there passed.0.1.0 in
       subst Good passed.1 (truncate_keeps past before version writer seq v i (entry_of s i) there file size (ltb-false file_max size passed.0.1.1.0), omega arith)
 
@@ -164,7 +163,7 @@ module _ (past : List Node) (limits : Limits) (version writer seq : ℕ) (before
       ∷ []) (plain i (record e { parent = parent; name = last_name target })) n is in
       let roots = or_parts (is_root source) (is_root target) passed.0.0 in
       let home = a_home target names roots.1 (not-false _ passed.0.1.0) passed.0.1.1.0 in
-      let there = below_root source (not-false _ passed.0.1.1.1.0) roots.0 in
+      let there = below_root s source (not-false _ passed.0.1.1.1.0) roots.0 in
       subst Good passed.1 (rename_keeps past before version writer seq v parent (last_name target) home i e there passed.0.1.1.1.1.0, omega arith)
 
   decided_remove : (path : List (List ℕ)) (n : NewNode) → decide past limits (Remove path) ≡ Ok n → Good n
@@ -177,7 +176,7 @@ module _ (past : List Node) (limits : Limits) (version writer seq : ℕ) (before
       ∷ (not (is_empty s i), NotEmpty)
       ∷ (is_none limits.next_version, VersionsSpent)
       ∷ []) (record (plain i (entry_of s i)) { deleted = true; size = None }) n is in
-      let there = below_root path (not-false _ passed.0.1.0) passed.0.0 in
+      let there = below_root s path (not-false _ passed.0.1.0) passed.0.0 in
       subst Good passed.1 (remove_keeps past before version writer seq v i (entry_of s i) there (not-false _ passed.0.1.1.0), omega arith)
 
   -- MakeDir and Create

@@ -48,3 +48,4 @@ pub mod FileWritten
 pub mod Counted
 pub mod InodeWritten
 pub mod Appending
+pub mod Done

@@ -12,3 +12,4 @@ pub mod Laws
 pub mod Examples
 pub mod Deciding
 pub mod Fragments
+pub mod Done

@@ -6,7 +6,8 @@ ghost use Rattle.jffs_tree.specs.Laws.{TrueCopiesKeepState, ErasingKeepsState, E
 ghost use Rattle.jffs_tree.specs.Laws.{ErasingKeepsOrigins, RulesGiveOrigins, ErasingKeepsRules};
 ghost use Rattle.jffs_tree.specs.Laws.{BytesComeFromOrigins, TreesStepByNodes, TreesTestAsNodes};
 ghost use Rattle.jffs_tree.specs.Laws.{DecidesByTree, AcceptedCopiesAreTrue, CleaningCopiesAreTrue};
-ghost use Rattle.jffs_tree.specs.Examples.{Overwriting, Truncating, Copying};
+ghost use Rattle.jffs_tree.specs.Done.{DecidedIsDone, NewInodesAreFree};
+ghost use Rattle.jffs_tree.specs.Examples.{Overwriting, Truncating, Copying, Doing};
 
 /// Without nodes the tree is empty.
 pub fn tree_of_none()
@@ -18,6 +19,7 @@ pub fn examples_are_decided()
     ensures overwriting { Overwriting }
     ensures truncating { Truncating }
     ensures copying { Copying }
+    ensures doing { Doing }
 {}
 
 /// A copy that says what is so changes nothing.
@@ -54,4 +56,11 @@ pub fn decisions_hold()
     ensures by_tree { DecidesByTree }
     ensures copies { AcceptedCopiesAreTrue }
     ensures cleaning { CleaningCopiesAreTrue }
+{}
+
+/// The node of a granted wish does to files and directories what the wish asks for, and nothing
+/// else; and a new entry has a number that no entry had.
+pub fn decided_is_done()
+    ensures done { DecidedIsDone }
+    ensures free { NewInodesAreFree }
 {}

@@ -1,5 +1,5 @@
 -- What a run did.
-use Rattle.std.proofs.Common.{◌≡◌, inl, inr, ⊎_elim, List, [], ◌∷◌, ◌++◌, refl, sym, ap, subst, ◌∙◌}
+use Rattle.std.proofs.Common.{◌≡◌, ◌⊎◌, inl, inr, ⊎_elim, true, false, List, [], ◌∷◌, ◌++◌, refl, sym, ap, subst, ◌∙◌}
 use Rattle.jffs_node.specs.declared.node.Node.{Node}
 use Rattle.jffs_node.proofs.Rules.{ok_same}
 use Rattle.jffs_tree.specs.State.{State, apply, state_of_past}
@@ -11,14 +11,17 @@ use Rattle.jffs_log.specs.Scan.{Scanned}
 use Rattle.jffs_core.specs.CoreState.{CoreState}
 use Rattle.jffs_core.specs.Past.{IsFresh}
 use Rattle.jffs_core.specs.Answering.{turn_of}
-use Rattle.jffs_core.specs.Done.{done_by}
+use Rattle.jffs_core.specs.Done.{done_by, ScanFinds}
 use Rattle.jffs_core.proofs.Deciding.{copies_state}
 use Rattle.jffs_core.proofs.Done.{node_done, node_free, step_done, step_free, state_known}
 use Rattle.jffs_core.proofs.Scanning.{scans_find, failed_found}
 use Rattle.jffs_serve.specs.Replies.{Reply}
 use Rattle.jffs_serve.specs.Chain.{IsReplied, Chain, after_reply}
 use Rattle.jffs_serve.specs.ChainLaws.{volume_of, IsRequested}
-use Rattle.jffs_run.specs.Done.{done_by_all, AllFree, IsDoneToo, RunsAreFree, GrantedIsDone, EachIsDone, FailedIsDoneOrNot}
+use Rattle.jffs_run.specs.Account.{Account}
+use Rattle.jffs_run.specs.Headline.{IsRun}
+use Rattle.jffs_run.specs.Faults.{LeftByTurns}
+use Rattle.jffs_run.specs.Done.{done_by_all, granted_done, AllFree, IsDoneToo, RunsAreFree, GrantedIsDone, EachIsDone, FailedIsDoneOrNot}
 use Rattle.jffs_run.proofs.Scanning.{ends_so, same_scan}
 use Rattle.jffs_run.proofs.Turns.{turn_in, works_then}
 
@@ -64,20 +67,37 @@ runs_are_free before start account fresh run =
     let ran = run.lawful mounted mounted fresh.stands in
     subst (λ (s : State). AllFree s run.replies) (state_mounted before start fresh) (chain_free mounted mounted ran.after start run.core run.replies ran.chain)
 
-pub granted_is_done : GrantedIsDone
-granted_is_done before start account fresh run works =
+-- a run's turns
+abbrev pub turns_of : (start : CoreState) (account : Account) → IsRun start account → LeftByTurns start account.device
+turns_of start account run = record {
+  replies = run.replies;
+  core = run.core;
+  left = run.left;
+  sizes = run.sizes;
+  erases = run.erases;
+  lawful = run.lawful;
+}
+
+-- what is left by turns of a core that works on has the granted requests done
+pub turned_done :
+    (before after : Device) (start : CoreState) (fresh : IsFresh before start) (turns : LeftByTurns start after) → turns.core.failed ≡ false
+    → ScanFinds (λ s. s ≡ granted_done fresh turns.replies) after.sectors after.sector_size after.image
+turned_done before after start fresh turns works =
     let mounted = past_of fresh.scanned.log in
-    let ran = run.lawful mounted mounted fresh.stands in
-    let ends = ends_so start run.core mounted run.replies fresh.stands ran in
+    let ran = turns.lawful mounted mounted fresh.stands in
+    let ends = ends_so start turns.core mounted turns.replies fresh.stands ran in
     let s = ends.stands in
-    let finds = scans_find mounted ran.after run.core s works in
+    let finds = scans_find mounted ran.after turns.core s works in
     record {
       scanned = finds.scanned;
-      found = same_scan run.core account.device run.left ∙ finds.found;
-      state_is = ap state_in finds.tree_is ∙ state_known ran.after run.core (s.stands.working works)
-          ∙ chain_done mounted mounted ran.after start run.core run.replies ran.chain
-          ∙ ap (λ x. done_by_all x run.replies) (state_mounted before start fresh);
+      found = same_scan turns.core after turns.left ∙ finds.found;
+      state_is = ap state_in finds.tree_is ∙ state_known ran.after turns.core (s.stands.working works)
+          ∙ chain_done mounted mounted ran.after start turns.core turns.replies ran.chain
+          ∙ ap (λ x. done_by_all x turns.replies) (state_mounted before start fresh);
     }
+
+pub granted_is_done : GrantedIsDone
+granted_is_done before start account fresh run works = turned_done before account.device start fresh (turns_of start account run) works
 
 pub each_is_done : EachIsDone
 each_is_done before start account fresh run works first later r are =
@@ -114,20 +134,27 @@ done_too start replies after n h s is =
       is = is ∙ ap (λ x. apply x n) same ∙ node_done h.turn h.reply.request after n h.node ∙ ap (λ x. done n.inode x h.reply.request.wish) (sym same);
     }
 
-pub failed_is_done_or_not : FailedIsDoneOrNot
-failed_is_done_or_not before start account fresh run fails intact =
+-- where the core failed, but not in an erase, they are done, and at most one that was answered Device besides
+pub turned_failed :
+    (before after : Device) (start : CoreState) (fresh : IsFresh before start) (turns : LeftByTurns start after)
+    → turns.core.failed ≡ true → after.erase_failed ≡ false
+    → ScanFinds (λ s. (s ≡ granted_done fresh turns.replies) ⊎ IsDoneToo turns.replies (granted_done fresh turns.replies) s) after.sectors after.sector_size after.image
+turned_failed before after start fresh turns fails intact =
     let mounted = past_of fresh.scanned.log in
-    let ran = run.lawful mounted mounted fresh.stands in
-    let left = run.left in
-    let ends = ends_so start run.core mounted run.replies fresh.stands ran in
-    let f = failed_found (IsRequested (volume_of start) run.replies ran.after) ran.after run.core (ends.in_hand fresh.works fails) (sym left.erases_are ∙ intact) in
-    let done_all = chain_done mounted mounted ran.after start run.core run.replies ran.chain ∙ ap (λ x. done_by_all x run.replies) (state_mounted before start fresh) in
+    let ran = turns.lawful mounted mounted fresh.stands in
+    let left = turns.left in
+    let ends = ends_so start turns.core mounted turns.replies fresh.stands ran in
+    let f = failed_found (IsRequested (volume_of start) turns.replies ran.after) ran.after turns.core (ends.in_hand fresh.works fails) (sym left.erases_are ∙ intact) in
+    let done_all = chain_done mounted mounted ran.after start turns.core turns.replies ran.chain ∙ ap (λ x. done_by_all x turns.replies) (state_mounted before start fresh) in
     record {
       scanned = f.0;
-      found = same_scan run.core account.device run.left ∙ f.1;
+      found = same_scan turns.core after turns.left ∙ f.1;
       state_is = ⊎_elim
           (λ same. inl (same ∙ done_all))
-          (λ more. inr (subst (λ (x : State). IsDoneToo run.replies x (state_in f.0.tree)) done_all
-          (done_too start run.replies ran.after more.0 more.1 (state_in f.0.tree) more.2)))
+          (λ more. inr (subst (λ (x : State). IsDoneToo turns.replies x (state_in f.0.tree)) done_all
+          (done_too start turns.replies ran.after more.0 more.1 (state_in f.0.tree) more.2)))
           f.2;
     }
+
+pub failed_is_done_or_not : FailedIsDoneOrNot
+failed_is_done_or_not before start account fresh run fails intact = turned_failed before account.device start fresh (turns_of start account run) fails intact

@@ -11,3 +11,4 @@ pub mod Unmounting
 pub mod Turns
 pub mod Heavy
 pub mod Done
+pub mod Sessions

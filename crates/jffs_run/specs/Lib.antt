@@ -14,3 +14,4 @@ pub mod Turns
 pub mod Seen
 pub mod Heavy
 pub mod Done
+pub mod Sessions

@@ -4,6 +4,7 @@ ghost use Rattle.jffs_run.specs.Done.{GrantedIsDone, RunsAreFree, EachIsDone, Fa
 ghost use Rattle.jffs_run.specs.Heavy.{RunsHaveRoom, SpaceIsSure};
 ghost use Rattle.jffs_run.specs.Turns.{AnswersAreDurable, FailedStaysFailed, NoSpaceMeansNoRoom};
 ghost use Rattle.jffs_run.specs.Seen.{ReadersSeeAnswers};
+ghost use Rattle.jffs_run.specs.Sessions.{FaultsEndSessions, RunsAreSessions, SessionsAreDone};
 ghost use Rattle.jffs_run.specs.Scanned.{RunsLeaveContents, FailedRunsLeaveHistory};
 ghost use Rattle.jffs_run.specs.Scanned.{RunsWithoutFaults};
 ghost use Rattle.jffs_run.specs.Unmounted.{RunsEndUnmounted};
@@ -79,4 +80,14 @@ pub fn granted_is_done()
     ensures each { EachIsDone }
     ensures free { RunsAreFree }
     ensures failed { FailedIsDoneOrNot }
+{}
+
+/// After any number of sessions on one device, each of which ended in order, for want of memory, or
+/// by a fault of the device that was no failed erase, a scan finds what the granted requests of all
+/// of them make of what a scan found at first; of each that a fault ended perhaps the request in
+/// hand besides. Each call of `run_threads` that mounted the device is a session.
+pub fn sessions_are_done()
+    ensures done { SessionsAreDone }
+    ensures runs { RunsAreSessions }
+    ensures faults { FaultsEndSessions }
 {}

@@ -1,0 +1,75 @@
+-- Sessions that follow one another on one device.
+use Rattle.std.specs.Prelude.{◌≡◌, ◌⊎◌, true, false, List, [], ◌∷◌, Ok}
+use Rattle.jffs_tree.specs.State.{State}
+use Rattle.jffs_tree.specs.Origin.{state_in}
+use Rattle.jffs_flash.specs.Device.{Device}
+use Rattle.jffs_log.specs.Scan.{Scanned}
+use Rattle.jffs_log.specs.ScanFound.{scan_of}
+use Rattle.jffs_core.specs.CoreState.{CoreState}
+use Rattle.jffs_core.specs.Past.{IsFresh}
+use Rattle.jffs_core.specs.Done.{ScanFinds}
+use Rattle.jffs_run.specs.Account.{Account}
+use Rattle.jffs_run.specs.Headline.{IsRun}
+use Rattle.jffs_run.specs.Faults.{IsGivenUp, LeftByTurns}
+use Rattle.jffs_run.specs.Done.{done_by_all, IsDoneToo}
+
+-- The device was mounted, and is left as a core left it after some turns.
+pub record HadSession (given left : Device) : Type 0 where
+  pub start : CoreState
+  pub fresh : IsFresh given start
+  pub turns : LeftByTurns start left
+
+-- What a session makes of a state: the granted requests are done, in the order of their answers;
+-- and where the device failed, perhaps the one that was answered Device.
+abbrev pub Makes : {given left : Device} → HadSession given left → State → State → Type 0
+Makes session s t = (t ≡ done_by_all s session.turns.replies)
+    ⊎ (session.turns.core.failed ≡ true
+    × IsDoneToo session.turns.replies (done_by_all s session.turns.replies) t)
+
+-- the devices have the same sizes and the same bytes
+pub record HoldSame (a b : Device) : Type 0 where
+  pub sectors_are : b.sectors ≡ a.sectors
+  pub sizes_are : b.sector_size ≡ a.sector_size
+  pub images_are : b.image ≡ a.image
+
+-- a device as a session was given it, and as it left it
+pub record Stretch : Type 0 where
+  pub given : Device
+  pub left : Device
+
+-- One session after another, each on what the one before it left, and in none an erase failed.
+abbrev pub Sessions : Device → List Stretch → Type 0
+Sessions device [] = Unit {0}
+Sessions device (s ∷ later) = HoldSame device s.given × HadSession s.given s.left
+    × (s.left.erase_failed ≡ false) × Sessions s.left later
+
+-- the device as the last of them left it
+abbrev pub left_last : Device → List Stretch → Device
+left_last device [] = device
+left_last device (s ∷ later) = left_last s.left later
+
+-- what all of them make of a state, one after another
+abbrev pub MakeAll : (device : Device) (stretches : List Stretch) → Sessions device stretches
+    → State → State → Type 0
+MakeAll device [] sessions s t = t ≡ s
+MakeAll device (stretch ∷ later) sessions s t = (between : State)
+    × Makes sessions.1 s between × MakeAll stretch.left later sessions.3 between t
+
+-- After any number of sessions a scan finds what they made of the state that a scan found at first.
+abbrev pub SessionsAreDone : Type 0
+SessionsAreDone =
+    (device : Device) (stretches : List Stretch) (sessions : Sessions device stretches)
+    (first : Scanned) → scan_of device ≡ Ok first
+    → ScanFinds (MakeAll device stretches sessions (state_in first.tree))
+    (left_last device stretches).sectors (left_last device stretches).sector_size
+    (left_last device stretches).image
+
+-- A run over a device that was mounted is a session.
+abbrev pub RunsAreSessions : Type 0
+RunsAreSessions = (before : Device) (start : CoreState) (account : Account) → IsFresh before start
+    → IsRun start account → HadSession before account.device
+
+-- So is a run that was given up, unless the device didn't mount: then it holds what it held.
+abbrev pub FaultsEndSessions : Type 0
+FaultsEndSessions = (before after : Device) → IsGivenUp before after
+    → HoldSame before after ⊎ HadSession before after

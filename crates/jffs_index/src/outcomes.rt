@@ -11,7 +11,7 @@ use std::marker::Model;
 /// For each sender and number the latest outcome, found in logarithmic time.
 ///
 /// The numbers of a sender follow one another, so all its blocks but the last are full, and an
-/// outcome takes about 25 bytes. A number without neighbours takes a block of its own. Blocks stand
+/// outcome takes about 28 bytes. A number without neighbours takes a block of its own. Blocks stand
 /// in the nodes of the map, which so are few and large: small nodes, of which each thread that frees
 /// memory keeps some for itself, would hold on to all memory below them.
 #[derive(Drop)]

@@ -11,7 +11,7 @@ use Rattle.jffs_serve.specs.declared.session.PendingStep.{PendingStep}
 use Rattle.jffs_serve.specs.declared.session.Served.{Served}
 use Rattle.jffs_index.specs.declared.publisher.Publisher.{Publisher}
 use Rattle.jffs_index.specs.Ends.{all_put}
-use Rattle.jffs_serve.specs.Replies.{Reply, any_closed}
+use Rattle.jffs_serve.specs.Replies.{any_closed}
 use Rattle.jffs_serve.specs.Answered.{Start, HasReplied}
 use Rattle.jffs_serve.proofs.Replying.{nothing_replied, nothing_more}
 use Rattle.jffs_serve.proofs.Chains.{runs_from}
@@ -71,7 +71,7 @@ module _ {F : Type 0} where
       → LeftByServing session put taken device → LeftByTurns core device
   served_turns session core put taken device same unsent closed left =
       let start : Start = record { taken = taken; core = core; put = put } in
-      let beginning : HasReplied start session.core session.unsent put taken [] = 
+      let beginning : HasReplied start session.core session.unsent put taken [] =
       subst (λ (k : Option PendingStep). HasReplied start session.core k put taken []) (sym unsent)
       (subst (λ (c : CoreState). HasReplied start c None put taken []) (sym same) (nothing_replied core put taken closed)) in
       let more = left.more start [] beginning in record {

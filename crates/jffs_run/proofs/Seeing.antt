@@ -77,7 +77,7 @@ steps_cut opening replies first statement end outcome begins shows fits =
     let one = cut_first step parts.1 shows.step shows.after parts.4 in
     let seen : all.0 ≡ parts.0 ++ one.0 ∷ one.1 = parts.2 ∙ ap (λ (l : List Reply). parts.0 ++ l) one.2 in
     let same : first ≡ history_of opening (parts.0 ++ one.0 ∷ one.1) =
-        ap₂ (λ (t : Tree) (l : List Step). let h : History = record { opening = t; steps = l } in h) (sym (ap (λ (h : History). h.opening) begins.1)) (sym all.3 ∙ ap (map step) seen) in
+    ap₂ (λ (t : Tree) (l : List Step). let h : History = record { opening = t; steps = l } in h) (sym (ap (λ (h : History). h.opening) begins.1)) (sym all.3 ∙ ap (map step) seen) in
     record {
       before = parts.0;
       reply = one.0;

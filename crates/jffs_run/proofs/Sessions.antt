@@ -1,5 +1,5 @@
 -- What sessions made, one after another.
-use Rattle.std.proofs.Common.{◌≡◌, ◌⊎◌, inl, inr, ⊎_elim, true, false, List, [], ◌∷◌, refl, sym, ap, subst, ◌∙◌, Ok}
+use Rattle.std.proofs.Common.{◌≡◌, inl, inr, ⊎_elim, true, false, [], ◌∷◌, refl, sym, ap, subst, ◌∙◌}
 use Rattle.std.proofs.lemmas.Bool.{cases_Bool}
 use Rattle.jffs_node.proofs.Rules.{ok_same}
 use Rattle.jffs_tree.specs.State.{State}
@@ -9,7 +9,7 @@ use Rattle.jffs_log.specs.Volume.{split}
 use Rattle.jffs_log.specs.Scan.{Scanned, scan}
 use Rattle.jffs_log.specs.ScanFound.{scan_of}
 use Rattle.jffs_core.specs.Done.{ScanFinds}
-use Rattle.jffs_run.specs.Sessions.{HadSession, Makes, HoldSame, Stretch, Sessions, MakeAll, left_last, SessionsAreDone, RunsAreSessions, FaultsEndSessions}
+use Rattle.jffs_run.specs.Sessions.{HadSession, Makes, HoldSame, SessionsAreDone, RunsAreSessions, FaultsEndSessions}
 use Rattle.jffs_run.proofs.Done.{turns_of, turned_done, turned_failed}
 
 -- devices that hold the same give the same scan

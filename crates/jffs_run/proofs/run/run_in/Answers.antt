@@ -4,7 +4,7 @@ use Rattle.jffs_text.specs.declared.script.ReaderStatement.{ReaderStatement}
 use Rattle.jffs_core.specs.declared.answer.Answer.{Answer}
 use Rattle.jffs_core.specs.CoreState.{CoreState}
 use Rattle.jffs_index.specs.declared.rule.Index.{Index}
-use Rattle.jffs_index.specs.Ends.{all_put, publisher_index}
+use Rattle.jffs_index.specs.Ends.{publisher_index}
 use Rattle.jffs_tree.specs.declared.wish.Wish.TheVariants.{Unmount}
 use Rattle.jffs_line.specs.Requests.{request}
 use Rattle.jffs_run.specs.Ends.{EachFrom}

@@ -9,6 +9,7 @@ pub mod Copied
 pub mod Parts
 pub mod MountedLog
 pub mod Loop
+pub mod Work
 pub mod Ring
 pub mod Volume
 pub mod Open

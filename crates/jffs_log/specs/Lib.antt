@@ -11,6 +11,7 @@ pub mod Room
 pub mod Cleaning
 pub mod Laws
 pub mod RoomLaws
+pub mod Work
 pub mod Rows
 pub mod RoomRows
 pub mod History

@@ -10,6 +10,7 @@ ghost use Rattle.jffs_log.specs.RoomLaws.{OldestStays, MakingRoomKeepsSound, Cle
 ghost use Rattle.jffs_log.specs.RoomLaws.{FullLogsAreHeavy, FullLogsFill, LogsWeighLess};
 ghost use Rattle.jffs_log.specs.RoomLaws.{PutsAreNewest, ErasedAreOldest, VersionsFollow};
 ghost use Rattle.jffs_log.specs.RoomLaws.{MountsAreSound};
+ghost use Rattle.jffs_log.specs.Work.{CleaningsCopyTheLive, CleaningsFitASector};
 ghost use Rattle.jffs_log.specs.History.{MountsAreHistories, HistoriesAreScanned};
 ghost use Rattle.jffs_log.specs.History.{AppendsKeepHistory, CutsKeepHistory, ErasingKeepsHistory};
 
@@ -70,4 +71,11 @@ pub fn histories_stay_lawful()
     ensures appended { AppendsKeepHistory }
     ensures cut { CutsKeepHistory }
     ensures erased { ErasingKeepsHistory }
+{}
+
+/// A cleaning copies no more bytes than the live records of the oldest sector take, and no more
+/// records than are live there; so it copies less than a sector holds.
+pub fn cleanings_copy_little()
+    ensures copies { CleaningsCopyTheLive }
+    ensures fits { CleaningsFitASector }
 {}

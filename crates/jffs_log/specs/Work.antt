@@ -1,0 +1,39 @@
+-- How much work cleaning is: what it copies.
+use Rattle.std.specs.Prelude.{◌≡◌, ℕ, ◌+◌, ◌-◌, ◌≤◌, List, ◌++◌, length, take, filter}
+use Rattle.jffs_node.specs.declared.node.Node.{Node}
+use Rattle.jffs_tree.specs.Origin.{is_live}
+use Rattle.jffs_log.specs.Cleaning.{GcState, used, live_used, oldest_records, cleaned}
+use Rattle.jffs_log.specs.RoomLaws.{IsSound}
+
+-- The copies that were made between two states: the nodes newer than those that were there.
+abbrev pub copies : GcState → GcState → List Node
+copies before after = take (length after.past - length before.past) after.past
+
+-- the bytes that their records take
+abbrev pub copied_bytes : GcState → GcState → ℕ
+copied_bytes before after = used (copies before after)
+
+-- how many of these records are live
+abbrev pub live_count : List Node → List Node → ℕ
+live_count past nodes = length (filter (λ n. is_live past n.version) nodes)
+
+-- A cleaning copies no more bytes than the live records of the oldest sector take, and no more
+-- records than are live there.
+pub record CopiesTheLive (before after : GcState) : Type 0 where
+  pub past : after.past ≡ copies before after ++ before.past
+  pub bytes : copied_bytes before after
+      ≤ live_used before.past (oldest_records before.log.sectors)
+  pub count : length (copies before after)
+      ≤ live_count before.past (oldest_records before.log.sectors)
+
+-- So does every cleaning of a lawful log.
+abbrev pub CleaningsCopyTheLive : Type 0
+CleaningsCopyTheLive =
+    (sectors sector_size : ℕ) (s : GcState) → IsSound sectors sector_size s
+    → CopiesTheLive s (cleaned sector_size s)
+
+-- It copies 64 bytes less than a sector at most.
+abbrev pub CleaningsFitASector : Type 0
+CleaningsFitASector =
+    (sectors sector_size : ℕ) (s : GcState) → 64 ≤ sector_size → IsSound sectors sector_size s
+    → copied_bytes s (cleaned sector_size s) + 64 ≤ sector_size

@@ -42,3 +42,4 @@ pub mod Seen
 pub mod TailPut
 pub mod NextPut
 pub mod Putting
+pub mod Wear

@@ -16,3 +16,4 @@ pub mod RoomRows
 pub mod History
 pub mod ScanRead
 pub mod ScanFound
+pub mod Wear

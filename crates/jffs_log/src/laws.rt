@@ -12,6 +12,7 @@ ghost use Rattle.jffs_log.specs.RoomLaws.{PutsAreNewest, ErasedAreOldest, Versio
 ghost use Rattle.jffs_log.specs.RoomLaws.{MountsAreSound};
 ghost use Rattle.jffs_log.specs.History.{MountsAreHistories, HistoriesAreScanned};
 ghost use Rattle.jffs_log.specs.History.{AppendsKeepHistory, CutsKeepHistory, ErasingKeepsHistory};
+ghost use Rattle.jffs_log.specs.Wear.{WearIsEven, TurnsGoOn};
 
 /// What is erased without live nodes weighed nothing.
 pub fn weight_is_kept()
@@ -70,4 +71,11 @@ pub fn histories_stay_lawful()
     ensures appended { AppendsKeepHistory }
     ensures cut { CutsKeepHistory }
     ensures erased { ErasingKeepsHistory }
+{}
+
+/// Erased one after another around the ring, no sector is erased more than once more often than
+/// another.
+pub fn wear_is_even()
+    ensures even { WearIsEven }
+    ensures on { TurnsGoOn }
 {}

@@ -43,3 +43,4 @@ pub mod Seen
 pub mod TailPut
 pub mod NextPut
 pub mod Putting
+pub mod Wear

@@ -17,3 +17,4 @@ pub mod RoomRows
 pub mod History
 pub mod ScanRead
 pub mod ScanFound
+pub mod Wear

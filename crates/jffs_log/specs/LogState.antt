@@ -19,6 +19,7 @@ use Rattle.jffs_log.specs.History.{IsHistory, KeepsRules}
 use Rattle.jffs_log.specs.Image.{Placed, is_clean}
 use Rattle.jffs_log.specs.Room.{has_room_in}
 use Rattle.jffs_log.specs.Volume.{sectors_in}
+use Rattle.jffs_log.specs.Wear.{sector_after}
 
 -- its device, what is known of it in memory, and whether a call of the device failed
 pub record LogState : Type 0 where
@@ -71,6 +72,7 @@ pub record IsSameLog (old new : LogState) : Type 0 where
 -- the numbers that an append leaves
 pub record KeepsNumbers (old new : LogIndex) : Type 0 where
   pub sizes : HasSizes old.sectors old.sector_size new
+  pub first : new.first ≡ old.first
   pub erases : new.erases ≡ old.erases
 
 -- A log that still works, of which the device has another image.
@@ -129,6 +131,7 @@ pub record ErasedOldest (tree : Tree) (old new : LogState) : Type 0 where
   pub image : new.device.image ≡ erased old.index.sector_size old.index.first old.device.image
   pub sizes : HasSizes old.index.sectors old.index.sector_size new.index
   pub erases : new.index.erases ≡ one_erase_more old.index
+  pub first : new.index.first ≡ sector_after old.index.sectors old.index.first
   pub gone : log_records old ≡ oldest_in old.device.image old.index ++ log_records new
   pub layout_is : log_layout new ≡ erase_oldest (log_layout old)
   pub clean : is_clean_log new ≡ is_clean_log old

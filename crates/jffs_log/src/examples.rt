@@ -2,6 +2,7 @@
 
 ghost use Rattle.jffs_log.specs.Rows.{Refusals, MixedForms, FirstScan, Turning};
 ghost use Rattle.jffs_log.specs.RoomRows.{FullVolume};
+ghost use Rattle.jffs_log.specs.Wear.{FiveErases};
 
 /// Images are refused, or read, as on these examples.
 pub fn examples_are_scanned()
@@ -14,4 +15,9 @@ pub fn examples_are_scanned()
 /// A full volume is cleaned as on this example.
 pub fn example_is_cleaned()
     ensures { FullVolume }
+{}
+
+/// Sectors are erased in turn as on this example.
+pub fn example_is_erased_in_turn()
+    ensures { FiveErases }
 {}

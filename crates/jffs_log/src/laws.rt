@@ -13,6 +13,7 @@ ghost use Rattle.jffs_log.specs.RoomLaws.{MountsAreSound};
 ghost use Rattle.jffs_log.specs.Work.{CleaningsCopyTheLive, CleaningsFitASector};
 ghost use Rattle.jffs_log.specs.History.{MountsAreHistories, HistoriesAreScanned};
 ghost use Rattle.jffs_log.specs.History.{AppendsKeepHistory, CutsKeepHistory, ErasingKeepsHistory};
+ghost use Rattle.jffs_log.specs.Wear.{WearIsEven, TurnsGoOn};
 
 /// What is erased without live nodes weighed nothing.
 pub fn weight_is_kept()
@@ -78,4 +79,11 @@ pub fn histories_stay_lawful()
 pub fn cleanings_copy_little()
     ensures copies { CleaningsCopyTheLive }
     ensures fits { CleaningsFitASector }
+{}
+
+/// Erased one after another around the ring, no sector is erased more than once more often than
+/// another.
+pub fn wear_is_even()
+    ensures even { WearIsEven }
+    ensures on { TurnsGoOn }
 {}

@@ -76,7 +76,7 @@ returns-in-Ok-clause-done g c =
           told = next_index b old h n may.0 may.1 next at _ written c.record_len-len.result _ c.record_len-len.ensures c.push_back_reserved.ensures.items;
           device = only_image old _ _ written;
         };
-        numbers = record { sizes = (refl, refl); erases = refl };
+        numbers = record { sizes = (refl, refl); first = refl; erases = refl };
         tail = (refl, omega (arith, is));
         added = next_added b old h n may.0 may.1 next at _ written;
         layout_is = next_layout b old h n may.0 may.1 next at _ written;
@@ -97,6 +97,6 @@ returns-in-Err-clause-failed g c =
         cause_is = c.failure.ensures.cause;
         failed = c.failure.ensures.kept;
         device = next_fails b (g.F.Flash.device c.self.inside.flash) h n may.0 may.1 next c.sector_at-next.ensures _ c.in-Err.ensures;
-        numbers = record { sizes = (refl, refl); erases = refl };
+        numbers = record { sizes = (refl, refl); first = refl; erases = refl };
       },
     )

@@ -68,7 +68,7 @@ returns-in-Ok-clause-done g c =
         told = tail_index b old h n fits _ written c.record_len-len.result _ c.record_len-len.ensures c.push_back_reserved.ensures.items;
         device = only_image old _ _ written;
       };
-      numbers = record { sizes = (refl, refl); erases = refl };
+      numbers = record { sizes = (refl, refl); first = refl; erases = refl };
       tail = (refl, ap (λ k. b.used + k) c.record_len-len.ensures);
       added = tail_added b old h n fits _ written;
       layout_is = tail_layout b old h n fits _ written;
@@ -86,5 +86,5 @@ returns-in-Err-clause-failed g c =
       cause_is = c.failure.ensures.cause;
       failed = c.failure.ensures.kept;
       device = tail_fails b (g.F.Flash.device c.self.inside.flash) h n fits _ c.in-Err.ensures;
-      numbers = record { sizes = (refl, refl); erases = refl };
+      numbers = record { sizes = (refl, refl); first = refl; erases = refl };
     })

@@ -10,6 +10,7 @@ use Rattle.jffs_log.proofs.Histories.{erasing_keeps_history}
 use Rattle.jffs_log.proofs.ErasedIndex.{index_erased}
 use Rattle.jffs_log.proofs.Seen.{told, only_image, same_sizes}
 use Rattle.jffs_log.proofs.Weighed.{records_few}
+use Rattle.jffs_log.proofs.Wear.{next_after}
 use Rattle.jffs_log.proofs.log.Log.erase_oldest.Goals as goal
 
 -- what is said of the log inside is said of it by its other name
@@ -69,6 +70,8 @@ returns-in-Ok-clause-done g c =
       image = image;
       sizes = (refl, refl);
       erases = c.saturating_add-index.ensures;
+      first = next_after _ _ _ c.sector_at-index.ensures
+          (described_inside _ _ _ _ _ _ _ _ _ (told _ _ c.self.view_is c.self.invariant c.requires.working)).0;
       gone = after.gone;
       layout_is = after.layout;
       clean = after.clean;

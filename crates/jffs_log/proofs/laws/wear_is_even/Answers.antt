@@ -1,0 +1,5 @@
+use Rattle.jffs_log.proofs.Wear.{wear_even, turns_go_on}
+use Rattle.jffs_log.proofs.laws.wear_is_even.Goals as goal
+
+pub returns : goal.returns
+returns c = record { even = wear_even; on = turns_go_on }

@@ -1,17 +1,12 @@
--- The texts that `ls` and `df` write.
-use Rattle.std.specs.Prelude.{ℕ, ◌-◌, Bool, true, false, List, [], ◌∷◌, ◌++◌, Option, Some, None}
-use Rattle.std.specs.Prelude.{codes, decimal, flat_map, unwrap_or, if◌then◌else◌}
-use Rattle.jffs_tree.specs.State.{is_directory_in}
-use Rattle.jffs_tree.specs.Origin.{Tree, state_in}
-use Rattle.jffs_tree.specs.Look.{children, size_of, parent_name_in}
-use Rattle.jffs_text.specs.Dump.{by_name, line_end}
-use Rattle.jffs_log.specs.declared.log_index.RecordRef.{RecordRef}
+-- The texts of a line of `ls` and of what `df` writes.
+use Rattle.std.specs.Prelude.{ℕ, ◌-◌, Bool, List, ◌++◌}
+use Rattle.std.specs.Prelude.{codes, decimal, if◌then◌else◌}
+use Rattle.jffs_text.specs.Dump.{line_end}
 use Rattle.jffs_log.specs.LogIndex.{weight_in, log_in}
 use Rattle.jffs_log.specs.Room.{heavy}
 use Rattle.jffs_core.specs.CoreState.{CoreState}
 use Rattle.jffs_manage.specs.declared.looking.Sight.{Sight}
 use Rattle.jffs_manage.specs.declared.looking.Usage.{Usage}
-use Rattle.jffs_manage.specs.Weights.{live_bytes_in}
 
 abbrev pub letter_text : Bool → List ℕ
 letter_text directory = if directory then codes "d" else codes "f"
@@ -20,42 +15,13 @@ letter_text directory = if directory then codes "d" else codes "f"
 abbrev pub sight_text : Bool → Sight → List ℕ
 sight_text long sight =
     if long then letter_text sight.directory ++
-        (codes " " ++ (decimal sight.size ++ (codes " " ++ (decimal sight.live ++ codes " "))))
+    (codes " " ++ (decimal sight.size ++ (codes " " ++ (decimal sight.live ++ codes " "))))
     else if sight.directory then codes "d "
     else codes "f " ++ (decimal sight.size ++ codes " ")
 
 -- the line of a name
 abbrev pub entry_text : Bool → Sight → List ℕ → List ℕ
 entry_text long sight name = sight_text long sight ++ (name ++ line_end)
-
--- what a tree and the records of a log have of an inode
-abbrev pub sight_in : Tree → List RecordRef → ℕ → Sight
-sight_in tree records i = record {
-  directory = is_directory_in (state_in tree) i;
-  size = unwrap_or (size_of tree i) 0;
-  live = live_bytes_in tree i records;
-}
-
--- the line of a name and its inode
-abbrev pub name_line : Bool → Tree → List RecordRef → (List ℕ × ℕ) → List ℕ
-name_line long tree records a = entry_text long (sight_in tree records a.1) a.0
-
--- the lines of a directory's names, by their bytes
-abbrev pub directory_lines : Bool → Tree → List RecordRef → ℕ → List ℕ
-directory_lines long tree records i =
-    flat_map (name_line long tree records) (by_name (children i (state_in tree)))
-
--- the line of an inode whose directory and name those are; the root has none
-abbrev pub own_line : Bool → Tree → List RecordRef → ℕ → Option (ℕ × List ℕ) → List ℕ
-own_line long tree records i (Some p) = name_line long tree records (p.1, i)
-own_line long tree records i None = []
-
--- what `ls` writes of the inode at a path
-abbrev pub list_text : Bool → Tree → List RecordRef → Option ℕ → List ℕ
-list_text long tree records (Some i) =
-    if is_directory_in (state_in tree) i then directory_lines long tree records i
-    else own_line long tree records i (parent_name_in tree i)
-list_text long tree records None = []
 
 abbrev pub sectors_line : Usage → List ℕ
 sectors_line u =

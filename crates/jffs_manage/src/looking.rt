@@ -9,6 +9,7 @@ ghost use Rattle.jffs_tree.specs.Look.{bytes_in, size_of};
 ghost use Rattle.jffs_log.specs.LogIndex.{weight_in, log_in};
 ghost use Rattle.jffs_log.specs.Room.{heavy};
 ghost use Rattle.jffs_manage.specs.Weights.{live_bytes_in};
+ghost use Rattle.jffs_manage.specs.Looks.{entry_text, usage_text, usage_in};
 
 use crate::fault::VolumeFault;
 use jffs_core::Core;
@@ -101,7 +102,10 @@ fn sum_of_live(records: &VecDeque<RecordRef>, tree: &Tree, inode: u32) -> u64
         .sum()
 }
 
-fn write_entry<W: Write>(sight: Sight, long: bool, name: &Name, out: &mut W) -> io::Result<()> {
+fn write_entry<W: Write>(sight: Sight, long: bool, name: &Name, out: &mut W) -> io::Result<()>
+    ensures { OnOk result
+        (Appends (W.contents out.old) (W.contents out.new) (entry_text long sight name.now)) }
+{
     let Sight {
         directory,
         size,
@@ -161,7 +165,7 @@ fn too_long() -> io::Error {
 
 /// How full a volume is.
 #[derive(Clone, Copy)]
-struct Fullness {
+struct Usage {
     sectors: u32,
     /// How many bytes a sector has.
     sector_size: u32,
@@ -174,7 +178,7 @@ struct Fullness {
     sure: u64,
 }
 
-fn fullness_of<F: Flash>(core: &Core<F>) -> Fullness
+fn usage_of<F: Flash>(core: &Core<F>) -> Usage
     ensures sizes { (result.sectors ≡ core.now.index.sectors)
         × (result.sector_size ≡ core.now.index.sector_size) }
     ensures erased { result.erased ≡ core.now.index.sectors - core.now.index.held }
@@ -186,7 +190,7 @@ fn fullness_of<F: Flash>(core: &Core<F>) -> Fullness
     let sectors = log.sectors();
     let sector_size = log.sector_size();
     let of_each = (u64::from(sector_size) * 3 / 4).saturating_sub(HEADER_LEN as u64);
-    Fullness {
+    Usage {
         sectors,
         sector_size,
         erased: log.erased(),
@@ -198,14 +202,24 @@ fn fullness_of<F: Flash>(core: &Core<F>) -> Fullness
 /// Writes how full a volume is: its sectors and their size in bytes, how many are erased, what its
 /// live records weigh, and the weight below which no operation is refused for want of room while
 /// two sectors are erased.
-pub(crate) fn usage<F: Flash, W: Write>(core: &Core<F>, out: &mut W) -> io::Result<()> {
-    let Fullness {
+pub(crate) fn write_usage<F: Flash, W: Write>(core: &Core<F>, out: &mut W) -> io::Result<()>
+    ensures { core.now.failed ≡ false → OnOk result
+        (Appends (W.contents out.old) (W.contents out.new) (usage_text (usage_in core.now))) }
+{
+    write_lines(usage_of(core), out)
+}
+
+fn write_lines<W: Write>(usage: Usage, out: &mut W) -> io::Result<()>
+    ensures { OnOk result
+        (Appends (W.contents out.old) (W.contents out.new) (usage_text usage)) }
+{
+    let Usage {
         sectors,
         sector_size,
         erased,
         weight,
         sure,
-    } = fullness_of(core);
+    } = usage;
     writeln!(
         out,
         "sectors {sectors} of {sector_size} bytes, {erased} erased"

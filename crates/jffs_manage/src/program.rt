@@ -6,7 +6,7 @@ use crate::drawing::{draw, draw_svg};
 use crate::fault::{BROKEN, DONE, MISUSED, VolumeFault};
 use crate::help::{HELP, VERSION};
 use crate::hosting::{load, save};
-use crate::looking::{check, file_at, list, show, usage};
+use crate::looking::{check, file_at, list, show, write_usage};
 use crate::mapping::{Map, map_of};
 use crate::mounting::mount;
 use crate::session::Session;
@@ -124,7 +124,7 @@ fn look<Rt: Files + AllocGlobal, W: Write>(
     match asked {
         Look::List { path, long } => list_at(alloc, &core, path, long, out),
         Look::Show(path) => show_at(alloc, core.tree(), path, out),
-        Look::Usage => Ok(usage(&core, out)?),
+        Look::Usage => Ok(write_usage(&core, out)?),
         Look::Check => Ok(check(&core, out)?),
         Look::Map { svg } => {
             let map = map_of(alloc, &core, core.log().flash().bytes())?;

@@ -2,12 +2,14 @@
 
 mod cleaned;
 mod copies;
+mod durable;
 mod examples;
 mod faults;
 mod images;
 mod refusals;
 mod session;
 mod sweeps;
+mod wear;
 mod wishes;
 
 use crate::answer::Answer;

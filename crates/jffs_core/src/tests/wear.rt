@@ -1,0 +1,94 @@
+//! How often each sector is erased, counted from the bytes of the device.
+
+use crate::tests::session::{SECTOR_SIZE, Session, is_blank, part};
+use jffs_flash::MemoryFlash;
+use std::process::Abort;
+use std::test::Fail;
+
+const SECTORS: usize = 6;
+
+/// How often each sector was erased, and which were blank at the last look.
+#[derive(Drop)]
+struct Wear {
+    counts: [u32; SECTORS],
+    blank: [bool; SECTORS],
+}
+
+impl Wear {
+    /// Of a device on which nothing was written yet.
+    fn new() -> Wear {
+        Wear {
+            counts: [0; SECTORS],
+            blank: [true; SECTORS],
+        }
+    }
+
+    /// Counts the sectors that are blank and weren't at the last look.
+    fn look(&mut self, session: &Session<MemoryFlash>) -> Result<(), Fail> {
+        let image = session.image_now()?;
+        for sector in 0..SECTORS {
+            let at = sector * SECTOR_SIZE as usize;
+            let blank = is_blank(part(&image, at, at + SECTOR_SIZE as usize));
+            if blank && !self.blank[sector] {
+                self.counts[sector] = self.counts[sector].saturating_add(1);
+            }
+            self.blank[sector] = blank;
+        }
+        Ok(())
+    }
+
+    /// Each sector was erased so often at least, and none more than once more often than another.
+    fn even(&self, rt: &impl Abort, at_least: u32) {
+        let mut least = u32::MAX;
+        let mut most = 0;
+        for count in self.counts {
+            least = least.min(count);
+            most = most.max(count);
+        }
+        assert!(rt;
+            at_least <= least && most <= least.saturating_add(1),
+            "{least} to {most}"
+        );
+    }
+}
+
+/// The file is written over so often, and what is dead is erased each time.
+fn overwrite(
+    session: &mut Session<MemoryFlash>,
+    wear: &mut Wear,
+    times: usize,
+) -> Result<(), Fail> {
+    for _ in 0..times {
+        session.ask("write /f 0 192*a")?;
+        wear.look(session)?;
+        session.core.erase_dead()?;
+        wear.look(session)?;
+    }
+    Ok(())
+}
+
+#[test]
+fn sectors_wear_evenly(rt: HostRuntime) -> Result<(), Fail> {
+    let mut session = Session::erased(rt.alloc(), SECTORS as u32)?;
+    session.play(&rt, "create /f : appended 2 1")?;
+    let mut wear = Wear::new();
+    overwrite(&mut session, &mut wear, 2000)?;
+    wear.even(&rt, 110);
+    Ok(())
+}
+
+#[test]
+fn sectors_wear_evenly_over_sessions(rt: HostRuntime) -> Result<(), Fail> {
+    let mut session = Session::erased(rt.alloc(), SECTORS as u32)?;
+    session.play(&rt, "create /f : appended 2 1")?;
+    let mut wear = Wear::new();
+    for _ in 0..40 {
+        overwrite(&mut session, &mut wear, 10)?;
+        session.play(&rt, "unmount : closed")?;
+        wear.look(&session)?;
+        session = session.remounted()?;
+        wear.even(&rt, 0);
+    }
+    wear.even(&rt, 20);
+    Ok(())
+}

@@ -3,6 +3,7 @@
 ghost use Rattle.std.specs.Prelude.{◌+◌, ◌≤◌, ◌↔◌, length, IsTrue};
 
 use super::*;
+use std::alloc::Global;
 use std::process::Abort;
 use std::test::Fail as TestFail;
 
@@ -79,65 +80,49 @@ fn memory_flash_clears_bits_and_erases_sectors(rt: HostRuntime) -> Result<(), Te
     Ok(())
 }
 
+/// With a fuse of two calls: what the read, the program and the erase after them leave, and how
+/// many of them fail.
+fn fuse_leaves(
+    rt: &impl Abort,
+    alloc: Global,
+    fused: Fused,
+    fail: Fail,
+    (seen, programmed, erased): ([u8; 3], [u8; 3], [u8; 2]),
+    faults: u64,
+) -> Result<(), TestFail> {
+    let inner = MemoryFlash::new(alloc, 6, 1024)?;
+    let mut flash = FuseFlash::new(inner, 2, fused, fail);
+    program(rt, &mut flash, 511, &[0x00])?;
+    program(rt, &mut flash, 512, &[0x00])?;
+    assert_eq!(rt; flash.faults(), 0);
+
+    let mut buffer = [0x55; 3];
+    let answer = read(rt, &mut flash, 100, &mut buffer);
+    assert_eq!(rt; answer.is_err(), fused == Fused::All);
+    assert_eq!(rt; buffer, seen, "{fused:?} {fail:?}");
+    assert!(rt; program(rt, &mut flash, 700, &[0x00; 3]).is_err());
+    assert!(rt; erase(rt, &mut flash, 0).is_err());
+    assert_eq!(rt; flash.faults(), faults);
+
+    let mut inner = flash.into_inner();
+    read(rt, &mut inner, 700, &mut buffer)?;
+    assert_eq!(rt; buffer, programmed, "{fused:?} {fail:?}");
+    let mut middle = [0; 2];
+    read(rt, &mut inner, 511, &mut middle)?;
+    assert_eq!(rt; middle, erased, "{fused:?} {fail:?}");
+    Ok(())
+}
+
 #[test]
 fn a_fuse_fails_each_fused_call_after_the_last(rt: HostRuntime) -> Result<(), TestFail> {
-    // What the read, the program and the erase leave, and how many calls fail.
-    let rows = [
-        (
-            Fused::Writes,
-            Fail::Nothing,
-            [0xff; 3],
-            [0xff; 3],
-            [0x00; 2],
-            2,
-        ),
-        (
-            Fused::Writes,
-            Fail::Half,
-            [0xff; 3],
-            [0x00, 0xff, 0xff],
-            [0xff, 0x00],
-            2,
-        ),
-        (
-            Fused::All,
-            Fail::Nothing,
-            [0x55; 3],
-            [0xff; 3],
-            [0x00; 2],
-            3,
-        ),
-        (
-            Fused::All,
-            Fail::Half,
-            [0xff, 0x55, 0x55],
-            [0x00, 0xff, 0xff],
-            [0xff, 0x00],
-            3,
-        ),
-    ];
-    for (fused, fail, seen, programmed, erased, faults) in rows {
-        let inner = MemoryFlash::new(rt.alloc(), 6, 1024)?;
-        let mut flash = FuseFlash::new(inner, 2, fused, fail);
-        program(&rt, &mut flash, 511, &[0x00])?;
-        program(&rt, &mut flash, 512, &[0x00])?;
-        assert_eq!(rt; flash.faults(), 0);
-
-        let mut buffer = [0x55; 3];
-        let answer = read(&rt, &mut flash, 100, &mut buffer);
-        assert_eq!(rt; answer.is_err(), fused == Fused::All);
-        assert_eq!(rt; buffer, seen, "{fused:?} {fail:?}");
-        assert!(rt; program(&rt, &mut flash, 700, &[0x00; 3]).is_err());
-        assert!(rt; erase(&rt, &mut flash, 0).is_err());
-        assert_eq!(rt; flash.faults(), faults);
-
-        let mut inner = flash.into_inner();
-        read(&rt, &mut inner, 700, &mut buffer)?;
-        assert_eq!(rt; buffer, programmed, "{fused:?} {fail:?}");
-        let mut middle = [0; 2];
-        read(&rt, &mut inner, 511, &mut middle)?;
-        assert_eq!(rt; middle, erased, "{fused:?} {fail:?}");
-    }
+    let whole = ([0xff; 3], [0xff; 3], [0x00; 2]);
+    let halves = ([0xff; 3], [0x00, 0xff, 0xff], [0xff, 0x00]);
+    fuse_leaves(&rt, rt.alloc(), Fused::Writes, Fail::Nothing, whole, 2)?;
+    fuse_leaves(&rt, rt.alloc(), Fused::Writes, Fail::Half, halves, 2)?;
+    let unread = ([0x55; 3], [0xff; 3], [0x00; 2]);
+    let half_read = ([0xff, 0x55, 0x55], [0x00, 0xff, 0xff], [0xff, 0x00]);
+    fuse_leaves(&rt, rt.alloc(), Fused::All, Fail::Nothing, unread, 3)?;
+    fuse_leaves(&rt, rt.alloc(), Fused::All, Fail::Half, half_read, 3)?;
     Ok(())
 }
 

@@ -21,31 +21,29 @@ use Rattle.jffs_log.proofs.Histories.{dead_as}
 use Rattle.jffs_log.proofs.Copied.{copies_take_over, unmounts_are_dead}
 use Rattle.jffs_log.proofs.Loop.{handled_in_parts, oldest_stays}
 use Rattle.jffs_log.proofs.Bound.{cleaning_has_room, handled_are_dead}
-use Rattle.jffs_core.specs.CoreState.{CoreState, SameAnswers}
+use Rattle.jffs_core.specs.CoreState.{CoreState}
 use Rattle.jffs_core.specs.History.{IsOwnCopy}
 use Rattle.jffs_core.specs.Past.{RepresentsWorking, gc_state}
 use Rattle.jffs_core.specs.Cleaning.{HasHandled, CopyStopped, HasCopied, HasCleaned, HasErased, SectorStopped, copies_would_fit}
 use Rattle.jffs_core.proofs.Lawful.{copies_along}
 use Rattle.jffs_core.proofs.RoomMade.{oldest_known}
 use Rattle.jffs_core.proofs.Refusing.{refused_along}
+use Rattle.jffs_core.specs.Erases.{Leaves}
+use Rattle.jffs_core.proofs.Erasing.{leaves_all}
 use Rattle.jffs_core.proofs.Full.{sizes_low}
 use Rattle.jffs_core.proofs.Sweeping.{oldest_is}
 
 -- The first k of the oldest sector's records were handled.
 pub record IsCopying (nodes : List Node) (k copies : ℕ) (old now : CoreState) : Type 0 where
   pub works : now.failed ≡ false
-  pub same : SameAnswers old now
-  pub sizes : HasSizes old.index.sectors old.index.sector_size now.index
-  pub erases : now.index.erases ≡ old.index.erases
+  pub leaves : Leaves 0 old now
   pub few : copies ≤ k
   pub done : (past : List Node) → RepresentsWorking past old → (after : List Node) × HasCopied (take k nodes) past after copies old now
 
 pub copying_begins : (nodes : List Node) (c : CoreState) → c.failed ≡ false → IsCopying nodes 0 0 c c
 copying_begins nodes c works = record {
   works = works;
-  same = record { answers = refl; capacity = refl; closed = refl };
-  sizes = (refl, refl);
-  erases = refl;
+  leaves = leaves_all 0 c;
   few = omega arith;
   done = λ past known. (
     past,

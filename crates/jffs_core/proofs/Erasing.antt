@@ -8,7 +8,8 @@ use Rattle.jffs_tree.specs.Origin.{Tree}
 use Rattle.jffs_tree.specs.Laws.{NoneLive}
 use Rattle.jffs_tree.specs.declared.wish.Limits.{Limits}
 use Rattle.jffs_log.specs.declared.log_index.LogIndex.{LogIndex}
-use Rattle.jffs_log.specs.LogIndex.{IsLogIndex, HasSizes, layout_in, lives_in, oldest_in}
+use Rattle.jffs_log.specs.LogIndex.{IsLogIndex, HasSizes, IsSameLogIndex, layout_in, lives_in, oldest_in}
+use Rattle.jffs_log.specs.LogState.{KeepsNumbers}
 use Rattle.jffs_log.specs.Cleaning.{Layout, without_oldest, oldest_records, erase_oldest}
 use Rattle.jffs_log.specs.RoomLaws.{Among}
 use Rattle.jffs_node.proofs.Each.{each_append}
@@ -17,7 +18,9 @@ use Rattle.jffs_core.specs.CoreState.{CoreState, SameAnswers}
 use Rattle.jffs_core.specs.Past.{IsPast, RepresentsWorking}
 use Rattle.jffs_core.specs.Calls.{WorksOn}
 use Rattle.jffs_core.specs.Cleaning.{HasErased, IsDeadOldest, AreDead, erased_times}
-use Rattle.jffs_core.specs.Erases.{ErasesAtMost}
+use Rattle.jffs_log.specs.Wear.{ErasedInTurn}
+use Rattle.jffs_log.proofs.Wear.{in_turn_none, turns_go_on}
+use Rattle.jffs_core.specs.Erases.{ErasesAtMost, Leaves}
 use Rattle.jffs_core.proofs.RoomMade.{oldest_known}
 use Rattle.jffs_core.proofs.Sweeping.{held_is, oldest_is}
 
@@ -25,21 +28,73 @@ use Rattle.jffs_core.proofs.Sweeping.{held_is, oldest_is}
 pub held_most : (past : List Node) (image : List ℕ) (b : LogIndex) (tree : Tree) (limits : Limits) (clean : Bool) → IsLogIndex image b → IsPast past image b tree limits clean → b.held ≤ b.sectors
 held_most past image b tree limits clean index h = let many = held_is image b index in let all = h.sound.counted in omega arith
 
+-- A call that leaves the index as it was.
+pub erased_same : (more : ℕ) (old new : CoreState) → new.index ≡ old.index → ErasesAtMost more old new
+erased_same more old new same =
+    let erases = ap (λ (b : LogIndex). b.erases) same in
+    let held = ap (λ (b : LogIndex). b.held) same in
+    record {
+      erases = omega arith;
+      held = λ w. omega arith;
+      turned = λ w. in_turn_none old.index new.index (ap (λ (b : LogIndex). b.sectors) same) (ap (λ (b : LogIndex). b.first) same) erases;
+    }
+
 -- Nothing was erased.
 pub erased_none : (c : CoreState) → ErasesAtMost 0 c c
-erased_none c = record { erases = omega arith; held = λ w. omega arith }
+erased_none c = erased_same 0 c c refl
 
 -- One sector was erased.
-pub erased_one : (old new : CoreState) → new.index.erases ≤ old.index.erases + 1 → new.index.held + 1 ≡ old.index.held → ErasesAtMost 0 old new
-erased_one old new erases held = record { erases = omega arith; held = λ w. omega arith }
+pub erased_one : (old new : CoreState) → new.index.erases ≤ old.index.erases + 1 → new.index.held + 1 ≡ old.index.held → ErasedInTurn old.index new.index → ErasesAtMost 0 old new
+erased_one old new erases held turned = record { erases = omega arith; held = λ w. omega arith; turned = λ w. turned }
 
 -- An erase failed.
 pub erase_failed : (old new : CoreState) → new.failed ≡ true → new.index.erases ≤ old.index.erases + 1 → 2 ≤ old.index.held → ErasesAtMost 0 old new
-erase_failed old new fails erases several = record { erases = omega arith; held = λ w. absurd (both_ways new.failed w fails) }
+erase_failed old new fails erases several = record {
+  erases = omega arith;
+  held = λ w. absurd (both_ways new.failed w fails);
+  turned = λ w. absurd (both_ways new.failed w fails);
+}
 
 -- Several were, and what came then.
-pub erased_along : (old middle new : CoreState) → middle.index.erases + middle.index.held ≤ old.index.erases + old.index.held → ErasesAtMost 0 middle new → ErasesAtMost 0 old new
-erased_along old middle new so_far h = record { erases = let e = h.erases in omega arith; held = λ w. let e = h.held w in omega arith }
+pub erased_along : (old middle new : CoreState) → middle.index.erases + middle.index.held ≤ old.index.erases + old.index.held → ErasedInTurn old.index middle.index → ErasesAtMost 0 middle new → ErasesAtMost 0 old new
+erased_along old middle new so_far turned h = record {
+  erases = let e = h.erases in omega arith;
+  held = λ w. let e = h.held w in omega arith;
+  turned = λ w. turns_go_on old.index middle.index new.index turned (h.turned w);
+}
+
+-- Nothing was changed.
+pub leaves_all : (most : ℕ) (c : CoreState) → Leaves most c c
+leaves_all most c = record {
+  same = record { answers = refl; capacity = refl; closed = refl };
+  sizes = (refl, refl);
+  erases = omega arith;
+  turned = λ w. in_turn_none c.index c.index refl refl refl;
+}
+
+pub leaves_more : (few most : ℕ) (old new : CoreState) → few ≤ most → Leaves few old new → Leaves most old new
+leaves_more few most old new more h = record { same = h.same; sizes = h.sizes; erases = let e = h.erases in omega arith; turned = h.turned }
+
+-- Two calls, of which the first didn't fail.
+pub leaves_along : (first second most : ℕ) (old middle new : CoreState) → first + second ≤ most → middle.failed ≡ false → Leaves first old middle → Leaves second middle new → Leaves most old new
+leaves_along first second most old middle new more works a b = record {
+  same = record { answers = b.same.answers ∙ a.same.answers; capacity = b.same.capacity ∙ a.same.capacity; closed = b.same.closed ∙ a.same.closed };
+  sizes = (a.sizes.0 ∙ b.sizes.0, a.sizes.1 ∙ b.sizes.1);
+  erases = let x = a.erases in let y = b.erases in omega arith;
+  turned = λ w. turns_go_on old.index middle.index new.index (a.turned works) (b.turned w);
+}
+
+-- Memory was reserved for the log of a core, and perhaps a record was appended.
+pub leaves_kept : (old seen new : CoreState) (middle : LogIndex) → old ≡ seen → SameAnswers old new → IsSameLogIndex old.index middle → KeepsNumbers middle new.index → Leaves 0 seen new
+leaves_kept old seen new middle is same s k = subst (λ (c : CoreState). Leaves 0 c new) is (record {
+  same = same;
+  sizes = (sym s.sectors ∙ k.sizes.0, sym s.sector_size ∙ k.sizes.1);
+  erases = let e = s.erases in let f = k.erases in omega arith;
+  turned = λ w. in_turn_none old.index new.index (sym k.sizes.0 ∙ s.sectors) (k.first ∙ s.first) (k.erases ∙ s.erases);
+})
+
+pub leaves_reserved : (old seen new : CoreState) → old ≡ seen → SameAnswers old new → IsSameLogIndex old.index new.index → Leaves 0 seen new
+leaves_reserved old seen new is same s = leaves_kept old seen new new.index is same s (record { sizes = (refl, refl); first = refl; erases = refl })
 
 -- Dead sectors are erased one after another.
 pub record IsErasing (count : ℕ) (old now : CoreState) : Type 0 where
@@ -49,6 +104,7 @@ pub record IsErasing (count : ℕ) (old now : CoreState) : Type 0 where
   pub log : layout_in now.image now.index ≡ erased_times count (layout_in old.image old.index)
   pub left : count + length (layout_in now.image now.index).sectors ≡ length (layout_in old.image old.index).sectors
   pub erases : now.index.erases + now.index.held ≤ old.index.erases + old.index.held
+  pub turned : ErasedInTurn old.index now.index
   pub done : (past : List Node) → RepresentsWorking past old → WorksOn past old now
   pub dead : (past : List Node) → RepresentsWorking past old → AreDead past (take count (layout_in old.image old.index).sectors)
 
@@ -95,6 +151,7 @@ erasing_goes_on count old middle new h oldest works same sizes log erased one =
           let k = h.left in
           omega arith;
       erases = let before = h.erases in let more = one.held works in omega arith;
+      turned = turns_go_on old.index middle.index new.index h.turned (one.turned works);
       done = λ past known.
           let d = h.done past known in
           let e = erased past d.represents in

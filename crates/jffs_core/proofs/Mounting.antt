@@ -15,6 +15,7 @@ use Rattle.jffs_log.specs.ScanFound.{IsFound, IsMounted}
 use Rattle.jffs_log.specs.Live.{live_log}
 use Rattle.jffs_log.specs.LogIndex.{log_in, layout_in}
 use Rattle.jffs_log.specs.RoomLaws.{IsSound}
+use Rattle.jffs_log.proofs.Appended.{described_inside}
 use Rattle.jffs_log.proofs.Ring.{Numbered}
 use Rattle.jffs_log.proofs.Volume.{length-split}
 use Rattle.jffs_log.proofs.MountedLog.{mounts_are_sound, ok_same, nodes_mapped, placed_nodes}
@@ -82,6 +83,7 @@ found_fresh device c h left works not_closed none =
         };
       };
       device_is = left;
+      begins = (described_inside _ _ _ _ _ _ _ _ _ h.index).0;
       erases = h.erases;
       works = works;
       not_closed = not_closed;

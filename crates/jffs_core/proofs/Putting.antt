@@ -16,7 +16,7 @@ use Rattle.jffs_log.specs.declared.room.Room.TheVariants as rooms
 use Rattle.jffs_flash.specs.Device.{Device as FlashDevice}
 use Rattle.jffs_log.specs.LogState.{LogState, IsSameLog, MayAppend, Appended}
 use Rattle.jffs_log.specs.Room.{has_room, following, next_inode, limits as limits_of}
-use Rattle.jffs_log.specs.LogIndex.{HasSizes, IsSameLogIndex, layout_in}
+use Rattle.jffs_log.specs.LogIndex.{HasSizes, IsLogIndex, IsSameLogIndex, layout_in}
 use Rattle.jffs_log.specs.Cleaning.{Layout, put, is_history, versions_fall, keeps_length}
 use Rattle.jffs_log.specs.RoomLaws.{IsSound, suits_room}
 use Rattle.jffs_log.specs.History.{IsHistory, IsLawfulHistory, KeepsRules}
@@ -25,7 +25,7 @@ use Rattle.jffs_log.proofs.Bound.{puts_keep_sound}
 use Rattle.jffs_tree.specs.declared.wish.Cause.{Cause}
 use Rattle.jffs_tree.specs.declared.wish.Cause.TheVariants.{NoSpace, Device}
 use Rattle.jffs_core.specs.CoreState.{CoreState}
-use Rattle.jffs_core.specs.Past.{IsPast, RepresentsWorking, is_clean_in, HasFailed}
+use Rattle.jffs_core.specs.Past.{IsPast, HasLogIndex, RepresentsWorking, is_clean_in, HasFailed}
 use Rattle.jffs_core.specs.Appending.{MayPut, PutRefused}
 
 -- Nodes that keep the rules never move a byte.
@@ -76,6 +76,36 @@ mid_layout old mid same =
 pub mid_history : (past : List Node) (old mid : LogState) → IsSameLog old mid → IsHistory old.device.image old.index past → IsHistory mid.device.image mid.index past
 mid_history past old mid same h =
     subst (λ (d : FlashDevice). IsHistory d.image mid.index past) (sym same.device) (same_history old.device.image old.index mid.index past (sym same.index.sectors) (sym same.index.sector_size) h)
+
+-- What the core represented before memory was reserved, it represents then.
+pub mid_index :
+    (old mid : LogState) (tree : Tree) (limits : Limits) (clean : Bool) → IsSameLog old mid
+    → HasLogIndex old.failed old.device.sectors old.device.sector_size old.device.image old.index tree limits clean
+    → HasLogIndex mid.failed mid.device.sectors mid.device.sector_size mid.device.image mid.index tree limits clean
+mid_index old mid tree limits clean same h = record {
+  sizes = (
+    ap (λ (d : FlashDevice). d.sectors) same.device ∙ h.sizes.0 ∙ sym same.index.sectors,
+    ap (λ (d : FlashDevice). d.sector_size) same.device ∙ h.sizes.1 ∙ sym same.index.sector_size,
+  );
+  index = λ works. described (h.index (sym same.failed ∙ works));
+  past = λ works. let known = h.past (sym same.failed ∙ works) in (known.0, past_is known.0 known.1);
+}
+  where
+    image : mid.device.image ≡ old.device.image
+    image = ap (λ (d : FlashDevice). d.image) same.device
+
+    described : IsLogIndex old.device.image old.index → IsLogIndex mid.device.image mid.index
+    described d =
+        rw (image, same.index.sectors, same.index.sector_size, same.index.first, same.index.held, same.index.tail, same.index.used, same.index.free, same.index.records) d
+
+    past_is : (past : List Node) → IsPast past old.device.image old.index tree limits clean → IsPast past mid.device.image mid.index tree limits clean
+    past_is past p = record {
+      history = mid_history past old mid same p.history;
+      sound = rw (mid_layout old mid same, same.index.sectors, same.index.sector_size) p.sound;
+      tree_is = p.tree_is;
+      limits_are = rw same.index.sector_size p.limits_are;
+      clean_is = rw (image, same.index.sectors, same.index.sector_size) p.clean_is;
+    }
 
 -- A node was put.
 module _ (past : List Node) (room : Room) (n : Node) (old new : List ℕ) (b c d : LogIndex) (before after : Tree) (limits next : Limits) (was clean : Bool)

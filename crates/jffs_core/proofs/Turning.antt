@@ -1,5 +1,5 @@
 -- Room made sector by sector.
-use Rattle.std.proofs.Common.{◌≡◌, ◌⊎◌, inl, inr, ℕ, zero, suc, ◌+◌, ◌≤◌, Bool, true, false, ◌&&◌, ◌||◌, cond, List, [], length, refl, sym, ap, ◌∙◌, arith}
+use Rattle.std.proofs.Common.{◌≡◌, ◌⊎◌, inl, inr, ℕ, zero, suc, ◌+◌, ◌-◌, ◌≤◌, Bool, true, false, ◌&&◌, ◌||◌, cond, List, [], length, refl, sym, ap, ◌∙◌, arith}
 use Rattle.std.proofs.lemmas.Bool.{or_left}
 use Rattle.jffs_node.specs.declared.node.Node.{Node}
 use Rattle.jffs_tree.specs.declared.wish.Cause.{Cause}
@@ -7,7 +7,7 @@ use Rattle.jffs_log.specs.LogIndex.{HasSizes, layout_in}
 use Rattle.jffs_log.specs.Cleaning.{GcState, cleaned, copies_have_room, fresh_has_room, oldest_records, room_made}
 use Rattle.jffs_log.proofs.Copied.{copies_take_over, unmounts_are_dead}
 use Rattle.jffs_log.proofs.Bound.{cleaning_has_room, no_room}
-use Rattle.jffs_core.specs.CoreState.{CoreState, SameAnswers}
+use Rattle.jffs_core.specs.CoreState.{CoreState}
 use Rattle.jffs_core.specs.Run.{OnlyCopies}
 use Rattle.jffs_core.specs.History.{IsOwnCopy}
 use Rattle.jffs_core.specs.Past.{RepresentsWorking, gc_state}
@@ -16,6 +16,8 @@ use Rattle.jffs_core.specs.Calls.{WorksOn}
 use Rattle.jffs_core.specs.Cleaning.{HasCleaned, HasMadeRoom, MakingStopped, SectorStopped}
 use Rattle.jffs_core.proofs.Lawful.{copies_along}
 use Rattle.jffs_core.proofs.Refusing.{refused_along}
+use Rattle.jffs_core.specs.Erases.{Leaves}
+use Rattle.jffs_core.proofs.Erasing.{leaves_all}
 use Rattle.jffs_core.proofs.Full.{sizes_low}
 
 -- Room is being made, and `left` cleanings are left.
@@ -28,17 +30,15 @@ pub record HasTurned (len left : ℕ) (past after : List Node) (old now : CoreSt
 
 pub record IsTurning (len left : ℕ) (old now : CoreState) : Type 0 where
   pub works : now.failed ≡ false
-  pub erases : now.index.erases + left ≤ old.index.erases + old.index.held
-  pub same : SameAnswers old now
-  pub sizes : HasSizes old.index.sectors old.index.sector_size now.index
+  pub few : left ≤ old.index.held
+  pub leaves : Leaves (old.index.held - left) old now
   pub done : (past : List Node) → RepresentsWorking past old → (after : List Node) × HasTurned len left past after old now
 
 pub turning_begins : (len left : ℕ) (c : CoreState) → c.failed ≡ false → left ≡ length (layout_in c.image c.index).sectors → left ≤ c.index.held → IsTurning len left c c
 turning_begins len left c works is few = record {
   works = works;
-  erases = omega arith;
-  same = record { answers = refl; capacity = refl; closed = refl };
-  sizes = (refl, refl);
+  few = few;
+  leaves = leaves_all (c.index.held - left) c;
   done = λ past known. (
     past,
     record {

@@ -1,16 +1,27 @@
--- How often a call erases, and that a sector stays erased.
+-- How often a call erases, in which order, and that a sector stays erased.
 use Rattle.std.specs.Prelude.{◌≡◌, ℕ, ◌+◌, ◌≤◌, false, List}
 use Rattle.jffs_node.specs.declared.node.Node.{Node}
-use Rattle.jffs_log.specs.LogIndex.{layout_in}
-use Rattle.jffs_core.specs.CoreState.{CoreState}
+use Rattle.jffs_log.specs.LogIndex.{HasSizes, layout_in}
+use Rattle.jffs_log.specs.Wear.{ErasedInTurn}
+use Rattle.jffs_core.specs.CoreState.{CoreState, SameAnswers}
 use Rattle.jffs_core.specs.Past.{Represents}
 
 -- Each erase takes a sector from the log, and a sector that is begun gives it one: erases and,
 -- while the core works, the sectors that hold the log, counted together, rise by at most so many.
+-- The sectors were erased in turn.
 pub record ErasesAtMost (more : ℕ) (old new : CoreState) : Type 0 where
   pub erases : new.index.erases ≤ old.index.erases + old.index.held
   pub held : new.failed ≡ false
       → new.index.erases + new.index.held ≤ old.index.erases + old.index.held + more
+  pub turned : new.failed ≡ false → ErasedInTurn old.index new.index
+
+-- What a call inside the core leaves: the answers and the sizes as they were, and no more than that
+-- many sectors erased, in turn.
+pub record Leaves (most : ℕ) (old new : CoreState) : Type 0 where
+  pub same : SameAnswers old new
+  pub sizes : HasSizes old.index.sectors old.index.sector_size new.index
+  pub erases : new.index.erases ≤ old.index.erases + most
+  pub turned : new.failed ≡ false → ErasedInTurn old.index new.index
 
 -- While a core works, and so after each of its appends and erases, a sector is erased.
 abbrev pub OneIsErased : Type 0

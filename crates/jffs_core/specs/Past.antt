@@ -1,5 +1,5 @@
 -- What a core represents: the log that was mounted, and the history since.
-use Rattle.std.specs.Prelude.{◌≡◌, ◌⊎◌, ℕ, Bool, true, false, List, [], ◌∷◌, ◌++◌, Ok}
+use Rattle.std.specs.Prelude.{◌≡◌, ◌⊎◌, ℕ, ◌<◌, Bool, true, false, List, [], ◌∷◌, ◌++◌, Ok}
 use Rattle.jffs_node.specs.declared.node.Node.{Node}
 use Rattle.jffs_tree.specs.Origin.{Tree, state_in, tree_of}
 use Rattle.jffs_tree.specs.declared.wish.Limits.{Limits}
@@ -89,6 +89,7 @@ pub record IsFresh (device : Device) (c : CoreState) : Type 0 where
   pub found : scan_of device ≡ Ok scanned
   pub stands : Represents (past_of scanned.log) (past_of scanned.log) c
   pub device_is : IsLeftBy c device
+  pub begins : c.index.first < c.index.sectors
   pub erases : c.index.erases ≡ 0
   pub works : c.failed ≡ false
   pub not_closed : c.closed ≡ false

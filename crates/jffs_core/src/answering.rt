@@ -19,11 +19,10 @@ use jffs_tree::{Cause, Outcome};
 impl<F: Flash> Core<F> {
     ghost use Rattle.jffs_node.specs.declared.node.Node.{Node};
     ghost use Rattle.jffs_log.specs.LogIndex.{HasSizes};
-    ghost use Rattle.jffs_core.specs.CoreState.{SameAnswers};
     ghost use Rattle.jffs_core.specs.Past.{RepresentsWorking, Represents, has_room_for};
     ghost use Rattle.jffs_core.specs.Answering.{Answers, AnswersWith, HasAnswered, HasActed};
     ghost use Rattle.jffs_core.specs.Answering.{IsNodeOf, KeepsAnswer};
-    ghost use Rattle.jffs_core.specs.Erases.{ErasesAtMost};
+    ghost use Rattle.jffs_core.specs.Erases.{ErasesAtMost, Leaves};
     ghost use Rattle.jffs_core.specs.Trees.{TellsNode};
 
     /// Reserves memory for one more answer.
@@ -120,9 +119,7 @@ impl<F: Flash> Core<F> {
         requires working { self.old.failed ≡ false }
         ensures acted { (past : List Node) → RepresentsWorking past self.old
             → HasAnswered past self.old self.new request.now result.outcome result.node }
-        ensures same { SameAnswers self.old self.new }
-        ensures sizes { HasSizes self.old.index.sectors self.old.index.sector_size self.new.index }
-        ensures erases { self.new.index.erases ≤ self.old.index.erases + self.old.index.held }
+        ensures leaves { Leaves self.old.index.held self.old self.new }
     {
         match self.carry_out(request) {
             Ok(answered) => answered,
@@ -138,9 +135,7 @@ impl<F: Flash> Core<F> {
         requires working { self.old.failed ≡ false }
         ensures acted { (past : List Node) → RepresentsWorking past self.old
             → HasActed past self.old self.new request.now result }
-        ensures same { SameAnswers self.old self.new }
-        ensures sizes { HasSizes self.old.index.sectors self.old.index.sector_size self.new.index }
-        ensures erases { self.new.index.erases ≤ self.old.index.erases + self.old.index.held }
+        ensures leaves { Leaves self.old.index.held self.old self.new }
     {
         if request.wish.is_unmount() && self.clean {
             return Ok(Answered {
@@ -162,9 +157,7 @@ impl<F: Flash> Core<F> {
         requires decided { IsNodeOf self.old request.now node }
         ensures acted { (past : List Node) → RepresentsWorking past self.old
             → HasActed past self.old self.new request.now result }
-        ensures same { SameAnswers self.old self.new }
-        ensures sizes { HasSizes self.old.index.sectors self.old.index.sector_size self.new.index }
-        ensures erases { self.new.index.erases ≤ self.old.index.erases + self.old.index.held }
+        ensures leaves { Leaves self.old.index.held self.old self.new }
     {
         if request.wish.is_unmount() {
             return self.end(request, node);
@@ -185,9 +178,7 @@ impl<F: Flash> Core<F> {
         requires unmounts { is_unmount_wish request.now.wish ≡ true }
         ensures acted { (past : List Node) → RepresentsWorking past self.old
             → HasActed past self.old self.new request.now result }
-        ensures same { SameAnswers self.old self.new }
-        ensures sizes { HasSizes self.old.index.sectors self.old.index.sector_size self.new.index }
-        ensures erases { self.new.index.erases ≤ self.old.index.erases + self.old.index.held }
+        ensures leaves { Leaves 0 self.old self.new }
     {
         self.append(Room::Unmount, &node)?;
         Ok(Answered {
@@ -203,9 +194,7 @@ impl<F: Flash> Core<F> {
         requires copies { is_copy_wish request.now.wish ≡ true }
         ensures acted { (past : List Node) → RepresentsWorking past self.old
             → HasActed past self.old self.new request.now result }
-        ensures same { SameAnswers self.old self.new }
-        ensures sizes { HasSizes self.old.index.sectors self.old.index.sector_size self.new.index }
-        ensures erases { self.new.index.erases ≤ self.old.index.erases + self.old.index.held }
+        ensures leaves { Leaves 0 self.old self.new }
     {
         self.append(Room::Fresh, &node)?;
         Ok(Answered {
@@ -225,9 +214,7 @@ impl<F: Flash> Core<F> {
         requires room { has_room_for self.old Room.Fresh (length_of node) ≡ true }
         ensures acted { (past : List Node) → RepresentsWorking past self.old
             → HasActed past self.old self.new request.now result }
-        ensures same { SameAnswers self.old self.new }
-        ensures sizes { HasSizes self.old.index.sectors self.old.index.sector_size self.new.index }
-        ensures erases { self.new.index.erases ≤ self.old.index.erases + self.old.index.held }
+        ensures leaves { Leaves 0 self.old self.new }
     {
         self.append(Room::Fresh, &node)?;
         Ok(appended(node))
@@ -242,9 +229,7 @@ impl<F: Flash> Core<F> {
         requires no_room { has_room_for self.old Room.Fresh (length_of node) ≡ false }
         ensures acted { (past : List Node) → RepresentsWorking past self.old
             → HasActed past self.old self.new request.now result }
-        ensures same { SameAnswers self.old self.new }
-        ensures sizes { HasSizes self.old.index.sectors self.old.index.sector_size self.new.index }
-        ensures erases { self.new.index.erases ≤ self.old.index.erases + self.old.index.held }
+        ensures leaves { Leaves self.old.index.held self.old self.new }
     {
         self.make_room(record_len(&node))?;
         let Some(version) = self.limits.next_version else {

@@ -11,10 +11,9 @@ use jffs_tree::{Cause, Limits};
 
 impl<F: Flash> Core<F> {
     ghost use Rattle.jffs_node.specs.declared.node.Node.{Node};
-    ghost use Rattle.jffs_log.specs.LogIndex.{HasSizes};
-    ghost use Rattle.jffs_core.specs.CoreState.{SameAnswers};
     ghost use Rattle.jffs_core.specs.Past.{RepresentsWorking, has_room_for};
     ghost use Rattle.jffs_core.specs.Appending.{MayPut, HasPut, PutRefused};
+    ghost use Rattle.jffs_core.specs.Erases.{Leaves};
 
     /// Whether a record of this length has room. Takes no memory.
     pub(crate) fn has_room(&self, room: Room, len: u32) -> bool
@@ -35,9 +34,7 @@ impl<F: Flash> Core<F> {
             × MayPut past self.old.index.sector_size room node.now }
         ensures done { OnOk result (HasPut room node.now self.old self.new) }
         ensures refused { IfErr result (λ cause. PutRefused room node.now cause self.old self.new) }
-        ensures same { SameAnswers self.old self.new }
-        ensures sizes { HasSizes self.old.index.sectors self.old.index.sector_size self.new.index }
-        ensures erases { self.new.index.erases ≡ self.old.index.erases }
+        ensures leaves { Leaves 0 self.old self.new }
     {
         if !self.log.room(room, record_len(node)) {
             return Err(Cause::NoSpace);

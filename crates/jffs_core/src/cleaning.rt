@@ -33,7 +33,7 @@ impl<F: Flash> Core<F> {
     ghost use Rattle.jffs_core.specs.Cleaning.{IsDeadOldest, DidClean, HasHandled, CopyStopped};
     ghost use Rattle.jffs_core.specs.Cleaning.{HasCopied, HasErased, HasMadeRoom, MakingStopped};
     ghost use Rattle.jffs_core.specs.Cleaning.{SectorStopped};
-    ghost use Rattle.jffs_core.specs.Erases.{ErasesAtMost};
+    ghost use Rattle.jffs_core.specs.Erases.{ErasesAtMost, Leaves};
     ghost use Rattle.jffs_core.specs.Trees.{KeepsTree};
 
     /// Copies each record of the oldest sector that is live at its turn, and erases the sector. A
@@ -52,9 +52,7 @@ impl<F: Flash> Core<F> {
             → Stops mounted past cause self.old self.new) }
         ensures failed { self.old.failed ≡ true
             → (result ≡ Err Cause.Failed) × (self.new ≡ self.old) }
-        ensures same { SameAnswers self.old self.new }
-        ensures sizes { HasSizes self.old.index.sectors self.old.index.sector_size self.new.index }
-        ensures erases { self.new.index.erases ≤ self.old.index.erases + 1 }
+        ensures leaves { Leaves 1 self.old self.new }
     {
         if self.log.failed() {
             return Err(Cause::Failed);
@@ -131,9 +129,7 @@ impl<F: Flash> Core<F> {
             (λ cause. (past : List Node) → RepresentsWorking past self.old
             → (after : List Node) × MakingStopped len cause past after self.old self.new) }
         ensures works { OnOk result (self.new.failed ≡ false) }
-        ensures same { SameAnswers self.old self.new }
-        ensures sizes { HasSizes self.old.index.sectors self.old.index.sector_size self.new.index }
-        ensures erases { self.new.index.erases ≤ self.old.index.erases + self.old.index.held }
+        ensures leaves { Leaves self.old.index.held self.old self.new }
     {
         for turn in 0..self.log.held() {
             if self.has_room(Room::Fresh, len) {
@@ -157,9 +153,7 @@ impl<F: Flash> Core<F> {
             (λ cause. (past : List Node) → RepresentsWorking past self.old
             → (after : List Node) × SectorStopped cause past after self.old self.new) }
         ensures works { OnOk result (self.new.failed ≡ false) }
-        ensures same { SameAnswers self.old self.new }
-        ensures sizes { HasSizes self.old.index.sectors self.old.index.sector_size self.new.index }
-        ensures erases { self.new.index.erases ≤ self.old.index.erases + 1 }
+        ensures leaves { Leaves 1 self.old self.new }
     {
         if self.log.held() < 2 {
             return Ok(Cleaned::OneSector);
@@ -181,9 +175,7 @@ impl<F: Flash> Core<F> {
             (λ cause. (past : List Node) → RepresentsWorking past self.old
             → (after : List Node) × SectorStopped cause past after self.old self.new) }
         ensures works { OnOk result (self.new.failed ≡ false) }
-        ensures same { SameAnswers self.old self.new }
-        ensures sizes { HasSizes self.old.index.sectors self.old.index.sector_size self.new.index }
-        ensures erases { self.new.index.erases ≤ self.old.index.erases + 1 }
+        ensures leaves { Leaves 1 self.old self.new }
     {
         let sector = self.log.oldest();
         let copies = self.copy_each(nodes)?;
@@ -206,9 +198,7 @@ impl<F: Flash> Core<F> {
             (λ cause. (past : List Node) → RepresentsWorking past self.old
             → (after : List Node) × SectorStopped cause past after self.old self.new) }
         ensures works { OnOk result (self.new.failed ≡ false) }
-        ensures same { SameAnswers self.old self.new }
-        ensures sizes { HasSizes self.old.index.sectors self.old.index.sector_size self.new.index }
-        ensures erases { self.new.index.erases ≡ self.old.index.erases }
+        ensures leaves { Leaves 0 self.old self.new }
     {
         let mut copies = 0u32;
         for node in nodes {
@@ -230,9 +220,7 @@ impl<F: Flash> Core<F> {
             (λ cause. (past : List Node) → RepresentsWorking past self.old → Among source.now past
             → CopyStopped cause past source.now self.old self.new) }
         ensures works { OnOk result (self.new.failed ≡ false) }
-        ensures same { SameAnswers self.old self.new }
-        ensures sizes { HasSizes self.old.index.sectors self.old.index.sector_size self.new.index }
-        ensures erases { self.new.index.erases ≡ self.old.index.erases }
+        ensures leaves { Leaves 0 self.old self.new }
     {
         if !self.tree.live(source.inode, source.version) {
             return Ok(false);
@@ -255,9 +243,7 @@ impl<F: Flash> Core<F> {
             (λ cause. (past : List Node) → RepresentsWorking past self.old → Among source.now past
             → CopyStopped cause past source.now self.old self.new) }
         ensures works { OnOk result (self.new.failed ≡ false) }
-        ensures same { SameAnswers self.old self.new }
-        ensures sizes { HasSizes self.old.index.sectors self.old.index.sector_size self.new.index }
-        ensures erases { self.new.index.erases ≡ self.old.index.erases }
+        ensures leaves { Leaves 0 self.old self.new }
     {
         let Some(version) = self.limits.next_version else {
             return Err(Cause::VersionsSpent);
@@ -277,9 +263,7 @@ impl<F: Flash> Core<F> {
             (λ cause. (past : List Node) → RepresentsWorking past self.old
             → RefusedAt cause past self.old self.new) }
         ensures causes { IfErr result (λ cause. (cause ≡ Cause.Memory) ⊎ (cause ≡ Cause.Device)) }
-        ensures same { SameAnswers self.old self.new }
-        ensures sizes { HasSizes self.old.index.sectors self.old.index.sector_size self.new.index }
-        ensures erases { self.new.index.erases ≡ self.old.index.erases }
+        ensures leaves { Leaves 0 self.old self.new }
     {
         self.log.oldest_nodes(self.alloc)
     }

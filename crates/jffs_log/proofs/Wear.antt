@@ -161,3 +161,11 @@ turns_go_on old middle new a b = record {
       ∙ ap (λ (k : ℕ). sector_after_each old.sectors k b.many) a.first
       ∙ after_both old.sectors old.first b.many a.many;
 }
+
+-- nothing was erased
+pub in_turn_none : (old new : LogIndex) → new.sectors ≡ old.sectors → new.first ≡ old.first → new.erases ≡ old.erases → ErasedInTurn old new
+in_turn_none old new sectors first erases = record { many = 0; sectors = sectors; counted = omega arith; first = first }
+
+-- the oldest sector was
+pub in_turn_one : (old new : LogIndex) → new.sectors ≡ old.sectors → new.first ≡ sector_after old.sectors old.first → new.erases ≡ min (old.erases + 1) (2 ^ 64 - 1) → ErasedInTurn old new
+in_turn_one old new sectors first erases = record { many = 1; sectors = sectors; counted = omega arith; first = first }

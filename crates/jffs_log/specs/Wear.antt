@@ -19,12 +19,12 @@ erases_of count first zero k = 0
 erases_of count first (suc many) k =
     (if sector_after_each count first many == k then 1 else 0) + erases_of count first many k
 
--- So many sectors were erased, one after another, and counted: the log begins as many sectors
--- further.
+-- So many sectors were erased, one after another, and counted, as far as a count of 64 bits goes:
+-- the log begins as many sectors further.
 pub record ErasedInTurn (old new : LogIndex) : Type 0 where
   pub many : ℕ
   pub sectors : new.sectors ≡ old.sectors
-  pub counted : new.erases ≡ min (old.erases + many) (2 ^ 64 - 1)
+  pub counted : min new.erases (2 ^ 64 - 1) ≡ min (old.erases + many) (2 ^ 64 - 1)
   pub first : new.first ≡ sector_after_each old.sectors old.first many
 
 -- Of any two sectors the one was erased at most once more often than the other.

@@ -9,6 +9,7 @@ pub mod Faults
 pub mod Scanning
 pub mod Unmounting
 pub mod Turns
+pub mod Wear
 pub mod Heavy
 pub mod Done
 pub mod Sessions

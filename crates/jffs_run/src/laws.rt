@@ -8,6 +8,7 @@ ghost use Rattle.jffs_run.specs.Sessions.{FaultsEndSessions, RunsAreSessions, Se
 ghost use Rattle.jffs_run.specs.Scanned.{RunsLeaveContents, FailedRunsLeaveHistory};
 ghost use Rattle.jffs_run.specs.Scanned.{RunsWithoutFaults};
 ghost use Rattle.jffs_run.specs.Unmounted.{RunsEndUnmounted};
+ghost use Rattle.jffs_run.specs.Wear.{RunsWearEvenly};
 
 /// What the contract of `run_threads` says of the core, said of the device: the answers are lawful
 /// for their requests, and a scan finds what the fresh nodes appended since the mount made. Where
@@ -62,6 +63,13 @@ pub fn failed_stays_failed()
 /// what the fresh nodes up to there make: a loss of power after it loses nothing that was answered.
 pub fn answers_are_durable()
     ensures { AnswersAreDurable }
+{}
+
+/// While the device works, `run_threads` erases its sectors around the ring: from the mount to each
+/// answer and to the end, of any two sectors the one was erased at most once more often than the
+/// other.
+pub fn runs_wear_evenly()
+    ensures { RunsWearEvenly }
 {}
 
 /// What a reader of a run read is what its path had once the request that it waited for was

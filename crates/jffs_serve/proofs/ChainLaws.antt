@@ -20,6 +20,7 @@ use Rattle.jffs_core.specs.Past.{Represents, RepresentsWorking, HasFailed}
 use Rattle.jffs_core.specs.Run.{OnlyCopies, AreAnswered, IsInOrder, is_failure}
 use Rattle.jffs_core.specs.Answering.{turn_of, keeps_two, is_closed}
 use Rattle.jffs_core.specs.declared.answer.Answer.{Answer}
+use Rattle.jffs_log.proofs.Wear.{in_turn_none, turns_go_on}
 use Rattle.jffs_core.proofs.Lawful.{none_made}
 use Rattle.jffs_core.proofs.Refusing.{failed_more}
 use Rattle.jffs_core.proofs.Stepping.{unmounts_have_room}
@@ -71,7 +72,7 @@ module _ {mounted past : List Node} {was now : CoreState} {r : Reply} (replied :
   fails_as : now.failed ≡ is_failure r.step.outcome
   fails_as = replied.answer.answers.fails
 
-  worked_before : now.failed ≡ false → was.failed ≡ false
+  pub worked_before : now.failed ≡ false → was.failed ≡ false
   worked_before works = false_from_ne_true was.failed (λ f. both_ways now.failed works (fails_as ∙ ap is_failure (says_failed f)))
 
   -- a core that had failed
@@ -142,6 +143,7 @@ ends_at_start mounted past start stands = record {
   sizes = (refl, refl);
   stands = stands;
   two = λ keep works two. two;
+  turned = λ works. in_turn_none start.index start.index refl refl refl;
   works = λ works. refl;
   faults = λ works fails. absurd (both_ways start.failed works fails);
   failed = λ f. absurd (cc);
@@ -156,6 +158,9 @@ ends_same mounted past start old new replies keeps so = record {
   two = λ keep works two.
       let worked = keeps_worked old new keeps works in
       keeps.two works past (working worked) (so.two keep worked two);
+  turned = λ works.
+      let erases = keeps.erases in
+      turns_go_on start.index old.index new.index (so.turned (keeps_worked old new keeps works)) (erases.turned works);
   works = λ works.
       let worked = keeps_worked old new keeps works in
       keeps.faults works past (working worked) ∙ so.works worked;
@@ -185,6 +190,9 @@ ends_more mounted past start old new replies r so replied = record {
   two = λ keep works two.
       let both = all_keep_parts replies r keep in
       replied.answer.answers.two both.1 (so.two both.0 (worked_before replied works) two);
+  turned = λ works.
+      let erases = replied.erases in
+      turns_go_on start.index old.index new.index (so.turned (worked_before replied works)) (erases.turned works);
   works = λ works. replied.answer.answers.faults works ∙ so.works (worked_before replied works);
   faults = λ began fails. ⊎_elim
       (λ had. subst (λ (c : CoreState). start.faults < c.faults) (sym (replied.kept had)) (so.faults began had))

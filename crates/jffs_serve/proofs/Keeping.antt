@@ -12,7 +12,9 @@ use Rattle.jffs_core.specs.Calls.{FailsIn}
 use Rattle.jffs_core.specs.Cleaning.{ErasesDead, StopIs}
 use Rattle.jffs_core.specs.Erases.{ErasesAtMost}
 use Rattle.jffs_core.specs.Jobs.{wants_cleaning, ReadRefused}
+use Rattle.jffs_log.proofs.Wear.{turns_go_on}
 use Rattle.jffs_core.proofs.Contents.{no_growth}
+use Rattle.jffs_core.proofs.Erasing.{erased_same}
 use Rattle.jffs_core.proofs.Mounting.{clean_ends}
 use Rattle.jffs_core.proofs.Refusing.{works_past}
 use Rattle.jffs_serve.specs.Chain.{KeepsHistory}
@@ -33,7 +35,7 @@ failed_but_capacity More past old new same h = subst (HasFailed More past) (sym 
 pub same_but_capacity : (old new : CoreState) → IsSameButCapacity old new → KeepsHistory old new
 same_but_capacity old new same = subst (KeepsHistory old) (sym same) (record {
   sizes = (refl, refl);
-  erases = record { erases = omega arith; held = λ w. omega arith };
+  erases = erased_same 0 old (record old { capacity = new.capacity }) refl;
   failed = λ f. refl;
   faults = λ w past k. refl;
   two = λ w past k two. two;
@@ -65,6 +67,7 @@ erased_along a b c h k =
         | inr works ↦ let e = first.held works in let f = second.erases in omega arith
       ];
       held = λ works. let e = first.held (keeps_worked b c k works) in let f = second.held works in omega arith;
+      turned = λ works. turns_go_on a.index b.index c.index (first.turned (keeps_worked b c k works)) (second.turned works);
     }
 
 -- two such calls are one
@@ -114,7 +117,7 @@ read_failed old new works same now risen stands =
     }) in
     record {
       sizes = subst (λ (c : CoreState). HasSizes old.index.sectors old.index.sector_size c.index) (sym same) (refl, refl);
-      erases = subst (ErasesAtMost 0 old) (sym same) (record { erases = omega arith; held = λ w. omega arith });
+      erases = erased_same 0 old new (ap (λ (c : CoreState). c.index) same);
       failed = λ f. absurd (both_ways old.failed works f);
       faults = λ w past k. absurd (both_ways new.failed w now);
       two = λ w past k. absurd (both_ways new.failed w now);

@@ -11,6 +11,7 @@ use Rattle.jffs_tree.specs.declared.wish.Outcome.TheVariants.{Refused}
 use Rattle.jffs_tree.specs.Decide.{with}
 use Rattle.jffs_log.specs.LogIndex.{HasSizes, layout_in}
 use Rattle.jffs_log.specs.Room.{weight, heavy}
+use Rattle.jffs_log.specs.Wear.{ErasedInTurn}
 use Rattle.jffs_core.specs.CoreState.{CoreState}
 use Rattle.jffs_core.specs.History.{IsOwnCopy}
 use Rattle.jffs_core.specs.Past.{Represents, HasFailed}
@@ -51,15 +52,17 @@ pub record IsRequested (volume : Volume) (replies : List Reply) (after : List No
   pub node : IsNodeFor turn reply.request after n
 
 -- What a chain tells of the core at its end: it represents the history, on a device of the same
--- sizes. Two erased sectors stay so, but for an answer that may not keep them. Where an answer
--- tells of a failure, the core has failed. The device's count of faults is the same while the core
--- works, and has risen where it failed meanwhile. A core that fails meanwhile has nothing else in
--- hand than an own copy, or the node of the request that was answered Device.
+-- sizes. Two erased sectors stay so, but for an answer that may not keep them. While the core works,
+-- sectors were erased in turn, and the device's count of faults is the same; it has risen where the
+-- core failed meanwhile. Where an answer tells of a failure, the core has failed. A core that fails
+-- meanwhile has nothing else in hand than an own copy, or the node of the request that was answered
+-- Device.
 pub record EndsSo (mounted : List Node) (start core : CoreState) (replies : List Reply)
     (after : List Node) : Type 0 where
   pub sizes : HasSizes start.index.sectors start.index.sector_size core.index
   pub stands : Represents mounted after core
   pub two : all_keep_two replies ≡ true → core.failed ≡ false → KeepsTwo start core
+  pub turned : core.failed ≡ false → ErasedInTurn start.index core.index
   pub works : core.failed ≡ false → core.faults ≡ start.faults
   pub faults : start.failed ≡ false → core.failed ≡ true → start.faults < core.faults
   pub failed : any_failure (map answer_in replies) ≡ true → core.failed ≡ true

@@ -1,6 +1,8 @@
-use Rattle.std.proofs.Common.{◌≡◌, ◌∙◌, ◌+◌, ◌≤◌, Option, None, refl, sym, ap, subst, arith}
+use Rattle.std.proofs.Common.{◌≡◌, ◌∙◌, ◌+◌, ◌≤◌, Option, None, false, refl, sym, ap, subst, arith}
 use Rattle.std.proofs.lemmas.Bool.{both_ways}
 use Rattle.jffs_log.specs.declared.log_index.LogIndex.{LogIndex}
+use Rattle.jffs_log.specs.Wear.{ErasedInTurn}
+use Rattle.jffs_log.proofs.Wear.{in_turn_none}
 use Rattle.jffs_node.specs.declared.node.Node.{Node}
 use Rattle.jffs_core.specs.CoreState.{CoreState}
 use Rattle.jffs_core.specs.declared.answer.Answered.{Answered}
@@ -58,19 +60,26 @@ returns-clause-erases g c =
     let old : CoreState = c.args.self.now in
     let middle : CoreState = c.if-failed.self in
     let kept = ap (λ (v : CoreState). v.index) c.keep_answer.ensures.kept in
-    let so_far : (middle.index.erases ≤ old.index.erases + old.index.held) × (middle.index.sectors ≡ old.index.sectors) =
+    let still : c.keep_answer.new.self.failed ≡ middle.failed = ap (λ (v : CoreState). v.failed) c.keep_answer.ensures.kept in
+    let so_far : (middle.index.erases ≤ old.index.erases + old.index.held) × (middle.index.sectors ≡ old.index.sectors) × (middle.failed ≡ false → ErasedInTurn old.index middle.index) =
     elim c.if-failed.branch [
-      | then-failed w ↦ let erases = ap (λ (v : CoreState). v.index.erases) w.self-is in (omega arith, ap (λ (v : CoreState). v.index.sectors) w.self-is)
+      | then-failed w ↦
+          subst (λ (v : CoreState). (v.index.erases ≤ old.index.erases + old.index.held) × (v.index.sectors ≡ old.index.sectors) × (v.failed ≡ false → ErasedInTurn old.index v.index)) (sym w.self-is)
+          (omega arith, refl, λ works. in_turn_none old.index old.index refl refl refl)
       | else-failed w ↦
-          let erases = ap (λ (v : CoreState). v.index.erases) w.self-is in
-          let done = w.act-answered.ensures.erases in
-          (omega arith, ap (λ (v : CoreState). v.index.sectors) w.self-is ∙ sym w.act-answered.ensures.sizes.0)
+          let done = w.act-answered.ensures.leaves in
+          subst (λ (v : CoreState). (v.index.erases ≤ old.index.erases + old.index.held) × (v.index.sectors ≡ old.index.sectors) × (v.failed ≡ false → ErasedInTurn old.index v.index)) (sym w.self-is)
+          (done.erases, sym done.sizes.0, done.turned)
     ] in
     let erases = ap (λ (b : LogIndex). b.erases) kept in
     let sectors = ap (λ (b : LogIndex). b.sectors) kept in
     let first = so_far.0 in
     let same = so_far.1 in
-    record { erases = omega arith; held = λ works. let most = c.keep_answer.ensures.held works in omega arith }
+    record {
+      erases = omega arith;
+      held = λ works. let most = c.keep_answer.ensures.held works in omega arith;
+      turned = λ works. subst (ErasedInTurn old.index) (sym kept) (so_far.2 (sym still ∙ works));
+    }
 
 pub returns-clause-few : goal.returns-clause-few
 returns-clause-few g c =
@@ -83,7 +92,8 @@ returns-clause-few g c =
           let low = held_most past.0 v.log.device.image v.log.index v.tree v.limits v.clean (c.self.invariant.index (sym c.failed.ensures ∙ w.if-failed.false)) past.1 in
           let few : c.args.self.now.index.held ≤ c.args.self.now.index.sectors = subst (λ (v : CoreState). v.index.held ≤ v.index.sectors) c.self.view_is low in
           let same = ap (λ (v : CoreState). v.index.erases) w.self-is in
-          let erases = w.act-answered.ensures.erases in
+          let leaves = w.act-answered.ensures.leaves in
+          let erases = leaves.erases in
           omega arith
     ]
 

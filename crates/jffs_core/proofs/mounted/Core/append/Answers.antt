@@ -1,15 +1,17 @@
 use Rattle.std.proofs.Common.{inl, inr, ◌<◌, ◌∷◌, refl, sym, ap, subst, ◌∙◌}
 use Rattle.jffs_node.specs.Record.{record_len}
 use Rattle.jffs_flash.specs.Device.{Device}
+use Rattle.jffs_tree.specs.Origin.{Tree}
 use Rattle.jffs_log.specs.LogIndex.{layout_in}
 use Rattle.jffs_log.specs.Room.{has_room_in}
 use Rattle.jffs_log.specs.Cleaning.{put}
 use Rattle.jffs_log.proofs.Results.{err_from}
 use Rattle.jffs_log.proofs.Seen.{log_sizes}
 use Rattle.jffs_core.specs.CoreState.{CoreState}
-use Rattle.jffs_core.specs.Past.{IsPast, RepresentsWorking, has_room_for}
+use Rattle.jffs_core.specs.Past.{IsPast, HasLogIndex, RepresentsWorking, has_room_for}
 use Rattle.jffs_core.specs.Appending.{MayPut, PutRefused}
-use Rattle.jffs_core.proofs.Putting.{put_failed, offsets_kept, counted, put_known, may_append, mid_history, mid_layout}
+use Rattle.jffs_core.proofs.Erasing.{leaves_kept, leaves_reserved}
+use Rattle.jffs_core.proofs.Putting.{mid_index, put_failed, offsets_kept, counted, put_known, may_append, mid_history, mid_layout}
 use Rattle.jffs_core.proofs.Mounting.{clean_ends}
 use Rattle.jffs_core.proofs.mounted.Core.append.Goals as goal
 
@@ -47,6 +49,29 @@ returns-in_err-append-clause-refused g c =
       tree = inr (n, refl, c.in_ok-apply.ensures.ok past h.tree_is);
       left = λ intact. elim (f.history past (mid_history past old mid same h.history) may.rules) [ inl as_it_was ↦ inl as_it_was | inr more ↦ inr (n, refl, more) ];
     }))
+
+pub returns-in_err-reserve-clause-leaves : goal.returns-in_err-reserve-clause-leaves
+returns-in_err-reserve-clause-leaves g c =
+    let same = c.in_err-reserve.ensures.same in
+    leaves_reserved _ _ _ c.self.view_is (record { answers = refl; capacity = refl; closed = refl }) same.index
+
+pub invariant_of-self-in_err-apply : goal.invariant_of-self-in_err-apply
+invariant_of-self-in_err-apply g c =
+    let v = c.self.inside in
+    let mid = c.reserve.new.self in
+    subst (λ (t : Tree). HasLogIndex mid.failed mid.device.sectors mid.device.sector_size mid.device.image mid.index t v.limits v.clean) (sym c.in_err-apply.ensures.err)
+    (mid_index v.log mid v.tree v.limits v.clean c.in_ok-reserve.ensures.same c.self.invariant)
+
+pub returns-in_err-apply-clause-leaves : goal.returns-in_err-apply-clause-leaves
+returns-in_err-apply-clause-leaves g c =
+    let same = c.in_ok-reserve.ensures.same in
+    leaves_reserved _ _ _ c.self.view_is (record { answers = refl; capacity = refl; closed = refl }) same.index
+
+pub returns-clause-leaves : goal.returns-clause-leaves
+returns-clause-leaves g c =
+    let same = c.in_ok-reserve.ensures.same in
+    let e = c.in_ok-append.ensures.done in
+    leaves_kept _ _ _ c.reserve.new.self.index c.self.view_is (record { answers = refl; capacity = refl; closed = refl }) same.index e.numbers
 
 pub invariant_of-self-2 : goal.invariant_of-self-2
 invariant_of-self-2 g c =

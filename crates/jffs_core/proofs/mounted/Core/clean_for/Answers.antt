@@ -1,4 +1,4 @@
-use Rattle.std.proofs.Common.{◌≡◌, ◌∙◌, true, false, ◌/◌, ◌≤◌, inl, inr, Some, None, ap, sym, subst}
+use Rattle.std.proofs.Common.{◌≡◌, ◌∙◌, true, false, ◌/◌, ◌≤◌, inl, inr, Some, None, ap, sym, subst, arith}
 use Rattle.std.proofs.lemmas.Result.{err_from_is_err_and}
 use Rattle.jffs_node.specs.declared.node.Node.{Node}
 use Rattle.jffs_tree.specs.declared.wish.Outcome.TheVariants.{Appended}
@@ -15,6 +15,7 @@ use Rattle.jffs_core.proofs.Refusing.{copies_follow, works_past, refused_along}
 use Rattle.jffs_core.proofs.Asked.{own_in_hand, known_version, may_later, its_makes_room, its_len, its_short, its_full, its_gets, its_past, fresh_is, fresh_room}
 use Rattle.jffs_core.proofs.Full.{turn_was_full}
 use Rattle.jffs_core.proofs.Stepping.{answers_same, make_stopped, later_put_keeps, put_fresh, none_left}
+use Rattle.jffs_core.proofs.Erasing.{leaves_along}
 use Rattle.jffs_core.proofs.mounted.Core.clean_for.Goals as goal
 
 pub record_len-requires : goal.record_len-requires
@@ -54,7 +55,7 @@ append-requires-clause-follows g c =
     let h = m.1 in (
       m.0,
       h.stands.represents,
-      may_later d.past m.0 _ c.make_room.new.self c.args.request.now c.args.node d c.in-Some.version d.known c.requires.no_copy c.requires.no_unmount h.copies h.stands.represents c.make_room.ensures.sizes
+      may_later d.past m.0 _ c.make_room.new.self c.args.request.now c.args.node d c.in-Some.version d.known c.requires.no_copy c.requires.no_unmount h.copies h.stands.represents (let l = c.make_room.ensures.leaves in l.sizes)
           (ap (λ (v : CoreState). v.limits.next_version) (sym c.self.view_is) ∙ c.in-Some.is),
     )
 
@@ -68,7 +69,7 @@ returns-clause-acted g c = λ past known.
     let h = m.1 in
     let p = c.in_ok-append.ensures.done in
     let next = ap (λ (v : CoreState). v.limits.next_version) (sym c.self.view_is) ∙ c.in-Some.is in
-    let may = may_later past m.0 _ c.make_room.new.self q n d c.in-Some.version known c.requires.no_copy c.requires.no_unmount h.copies h.stands.represents c.make_room.ensures.sizes next in
+    let may = may_later past m.0 _ c.make_room.new.self q n d c.in-Some.version known c.requires.no_copy c.requires.no_unmount h.copies h.stands.represents (let l = c.make_room.ensures.leaves in l.sizes) next in
     let fresh = fresh_is past _ q n known d c.requires.no_copy c.requires.no_unmount in
     answers_same past _ _ q c.appended.result (record { outcome = Appended later.inode later.version; node = Some later }) c.appended.ensures
     (put_fresh past _ _ q c.requires.working known n later m.0 d fresh h.copies
@@ -90,7 +91,7 @@ returns-in_err-append-clause-acted g c = let p = err_from_is_err_and c.from_resi
     let h = m.1 in
     let r = c.in_err-append.ensures.refused in
     let next = ap (λ (v : CoreState). v.limits.next_version) (sym c.self.view_is) ∙ c.in-Some.is in
-    let may = may_later past m.0 _ c.make_room.new.self q n d c.in-Some.version known c.requires.no_copy c.requires.no_unmount h.copies h.stands.represents c.make_room.ensures.sizes next in
+    let may = may_later past m.0 _ c.make_room.new.self q n d c.in-Some.version known c.requires.no_copy c.requires.no_unmount h.copies h.stands.represents (let l = c.make_room.ensures.leaves in l.sizes) next in
     let len = c.record_len.ensures in
     let own : IsInHand (turn_of past c.args.self.now c.append.new.self) q m.0 later = own_in_hand past c.args.self.now q known n later d m.0 c.append.new.self (ap (λ (x : Node). record x { version = c.in-Some.version }) d.is)
     (known_version m.0 c.make_room.new.self (Some c.in-Some.version) h.stands.represents next) in
@@ -102,3 +103,11 @@ returns-in_err-append-clause-acted g c = let p = err_from_is_err_and c.from_resi
     (subst (λ k. has_room_for c.make_room.new.self rooms.Fresh k ≡ false) (sym len) (r.no_room is)) two)
     (λ is. its_gets past _ q n known d c.append.new.self c.record_len.result false len (h.room ∙ ap (has_room_for c.make_room.new.self rooms.Fresh) len ∙ r.no_room is))
     (λ is two. subst (λ (l : Layout). 2 ≤ l.erased) (sym (r.kept is)) (h.two two))
+
+pub returns-clause-leaves : goal.returns-clause-leaves
+returns-clause-leaves g c =
+    leaves_along _ 0 _ c.args.self.now c.make_room.new.self c.append.new.self (omega arith) c.in_ok-make_room.ensures.works c.make_room.ensures.leaves c.append.ensures.leaves
+
+pub returns-in_err-append-clause-leaves : goal.returns-in_err-append-clause-leaves
+returns-in_err-append-clause-leaves g c =
+    leaves_along _ 0 _ c.args.self.now c.make_room.new.self c.append.new.self (omega arith) c.in_ok-make_room.ensures.works c.make_room.ensures.leaves c.append.ensures.leaves

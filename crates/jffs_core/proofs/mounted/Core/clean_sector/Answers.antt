@@ -1,7 +1,8 @@
-use Rattle.std.proofs.Common.{◌∙◌, ap}
+use Rattle.std.proofs.Common.{◌∙◌, ap, arith}
 use Rattle.jffs_core.specs.CoreState.{CoreState}
 use Rattle.jffs_core.proofs.Sweeping.{oldest_is}
 use Rattle.jffs_core.proofs.Copying.{still_several, now_dead, then_erased}
+use Rattle.jffs_core.proofs.Erasing.{leaves_more, leaves_along}
 use Rattle.jffs_core.proofs.mounted.Core.clean_sector.Goals as goal
 
 pub copy_each-requires-clause-oldest : goal.copy_each-requires-clause-oldest
@@ -31,3 +32,18 @@ returns-clause-cleaned g c = λ past known.
             (c.in_ok-erase_oldest.ensures.erased d.0 h.stands.represents),
       ),
     )
+
+pub returns-in_err-copies-clause-leaves : goal.returns-in_err-copies-clause-leaves
+returns-in_err-copies-clause-leaves g c = leaves_more 0 1 c.args.self.now c.copy_each.new.self (omega arith) c.in_err-copies.ensures.leaves
+
+pub returns-in_err-erase_oldest-clause-leaves : goal.returns-in_err-erase_oldest-clause-leaves
+returns-in_err-erase_oldest-clause-leaves g c =
+    let e = c.in_err-erase_oldest.ensures in
+    leaves_along 0 1 1 c.args.self.now c.copy_each.new.self c.erase_oldest.new.self (omega arith) c.in_ok-copies.ensures.works c.in_ok-copies.ensures.leaves
+    (record { same = e.same; sizes = e.sizes; erases = e.few; turned = let erases = e.erases in erases.turned })
+
+pub returns-clause-leaves : goal.returns-clause-leaves
+returns-clause-leaves g c =
+    let e = c.in_ok-erase_oldest.ensures in
+    leaves_along 0 1 1 c.args.self.now c.copy_each.new.self c.erase_oldest.new.self (omega arith) c.in_ok-copies.ensures.works c.in_ok-copies.ensures.leaves
+    (record { same = e.same; sizes = e.sizes; erases = e.few; turned = let erases = e.erases in erases.turned })

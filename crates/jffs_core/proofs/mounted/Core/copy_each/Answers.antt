@@ -11,6 +11,7 @@ use Rattle.jffs_core.specs.CoreState.{CoreState}
 use Rattle.jffs_core.specs.Past.{RepresentsWorking}
 use Rattle.jffs_core.specs.Cleaning.{HasCopied}
 use Rattle.jffs_core.proofs.Copying.{copying_begins, copying_goes_on, copying_has_room, among_more, one_known, one_short, are_few}
+use Rattle.jffs_core.proofs.Erasing.{leaves_along}
 use Rattle.jffs_core.proofs.mounted.Core.copy_each.Goals as goal
 
 one_most : (b : Bool) (r : ℕ) → r ≡ from_bool b → r ≤ 1
@@ -35,7 +36,7 @@ handle-requires-clause-known g c =
 pub handle-requires-clause-short : goal.handle-requires-clause-short
 handle-requires-clause-short g c =
     let k = c.requires.known in
-    subst (λ z. record_len c.node-item.result ≤ z / 4) c.loop-node.invariant.sizes.1
+    subst (λ z. record_len c.node-item.result ≤ z / 4) (let l = c.loop-node.invariant.leaves in l.sizes.1)
     (subst (λ (n : Node). record_len n ≤ c.args.self.now.index.sector_size / 4) (sym c.node-item.is) (one_short c.args.nodes.now k.0 c.args.self.now k.1 c.requires.oldest c.loop-node.node-index c.node-item.result c.loop-node-test.true))
 
 pub overflow_add-copies : goal.overflow_add-copies
@@ -54,15 +55,13 @@ loop-node-preserved g c =
     let one = one_most c.in_ok-handle.field-0 c.from.result c.from.ensures in
     record {
       works = e.works;
-      same = record { answers = e.same.answers ∙ v.same.answers; capacity = e.same.capacity ∙ v.same.capacity; closed = e.same.closed ∙ v.same.closed };
-      sizes = (v.sizes.0 ∙ e.sizes.0, v.sizes.1 ∙ e.sizes.1);
-      erases = e.erases ∙ v.erases;
+      leaves = leaves_along 0 0 0 c.args.self.now c.loop-node.self c.handle.new.self (omega arith) v.works v.leaves e.leaves;
       few = let few = v.few in omega arith;
       done = λ past known.
           let d = v.done past known in
           let h = d.1 in
           let among = its_known c.args.nodes.now past d.0 c.loop-node.node-index c.loop-node.copies c.node-item.result c.args.self.now c.loop-node.self known c.requires.oldest c.loop-node-test.true c.node-item.is h in
-          copying_goes_on c.args.nodes.now past d.0 c.loop-node.node-index c.loop-node.copies _ c.node-item.result c.in_ok-handle.field-0 c.args.self.now c.loop-node.self c.handle.new.self c.loop-node-test.true c.node-item.is v.sizes h
+          copying_goes_on c.args.nodes.now past d.0 c.loop-node.node-index c.loop-node.copies _ c.node-item.result c.in_ok-handle.field-0 c.args.self.now c.loop-node.self c.handle.new.self c.loop-node-test.true c.node-item.is v.leaves.sizes h
           (e.handled d.0 h.stands.represents among) (ap (λ k. c.loop-node.copies + k) c.from.ensures);
     }
 
@@ -80,3 +79,8 @@ pub returns-clause-copied : goal.returns-clause-copied
 returns-clause-copied g c = λ past known.
     let d = c.loop-node.invariant.done past known in
     (d.0, subst (λ (ns : List Node). HasCopied ns past d.0 c.loop-node.copies c.args.self.now c.loop-node.self) (take_all c.loop-node.node-index c.args.nodes.now c.loop-node-test.false) d.1)
+
+pub returns-in_err-handle-clause-leaves : goal.returns-in_err-handle-clause-leaves
+returns-in_err-handle-clause-leaves g c =
+    let v = c.loop-node.invariant in
+    leaves_along 0 0 0 c.args.self.now c.loop-node.self c.handle.new.self (omega arith) v.works v.leaves c.in_err-handle.ensures.leaves

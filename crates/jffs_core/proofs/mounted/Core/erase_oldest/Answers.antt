@@ -6,7 +6,9 @@ use Rattle.jffs_flash.specs.Device.{Device}
 use Rattle.jffs_log.specs.LogIndex.{layout_in, lives_in, oldest_in}
 use Rattle.jffs_log.specs.Cleaning.{Layout, erase_oldest}
 use Rattle.jffs_log.specs.LogState.{ErasedOldest, EraseFailed}
+use Rattle.jffs_log.specs.Wear.{ErasedInTurn}
 use Rattle.jffs_log.proofs.Results.{either_way}
+use Rattle.jffs_log.proofs.Wear.{in_turn_one}
 use Rattle.jffs_log.proofs.Seen.{log_sizes}
 use Rattle.jffs_core.specs.CoreState.{CoreState}
 use Rattle.jffs_core.specs.Past.{RepresentsWorking}
@@ -87,6 +89,8 @@ returns-clause-erases g c =
     let counted = e.erases in
     let after = held_is new.device.image new.index e.works.told in
     let log = ap (λ (l : Layout). length l.sectors) e.layout_is in
-    erased_one c.args.self.now _ (omega arith) (omega arith))
+    let sizes = e.sizes in
+    let turned = subst (λ (v : CoreState). ErasedInTurn v.index new.index) c.self.view_is (in_turn_one old.index new.index (sym sizes.0) e.first e.erases) in
+    erased_one c.args.self.now _ (omega arith) (omega arith) turned)
     (λ why f. let counted = f.erases in erase_failed c.args.self.now _ f.failed (omega arith) (omega arith))
     c.erase_oldest.ensures.done c.erase_oldest.ensures.failed

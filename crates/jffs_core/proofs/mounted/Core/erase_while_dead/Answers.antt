@@ -34,10 +34,10 @@ returns-in_err-erase_oldest-clause-stopped g c = let p = err_from_is_err_and c.f
     refused_along (IsOwnCopy past) _ past c.args.self.now c.loop-self.self c.erase_oldest.new.self d.faults (c.in_err-erase_oldest.ensures.refused past d.represents)
 
 pub returns-clause-erases : goal.returns-clause-erases
-returns-clause-erases g c = let v = c.loop-self.invariant in erased_along c.args.self.now c.loop-self.self c.loop-self.self v.erases (erased_none c.loop-self.self)
+returns-clause-erases g c = let v = c.loop-self.invariant in erased_along c.args.self.now c.loop-self.self c.loop-self.self v.erases v.turned (erased_none c.loop-self.self)
 
 pub returns-in_err-erase_oldest-clause-erases : goal.returns-in_err-erase_oldest-clause-erases
-returns-in_err-erase_oldest-clause-erases g c = let v = c.loop-self.invariant in erased_along c.args.self.now c.loop-self.self c.erase_oldest.new.self v.erases c.in_err-erase_oldest.ensures.erases
+returns-in_err-erase_oldest-clause-erases g c = let v = c.loop-self.invariant in erased_along c.args.self.now c.loop-self.self c.erase_oldest.new.self v.erases v.turned c.in_err-erase_oldest.ensures.erases
 
 pub loop-self-smaller : goal.loop-self-smaller
 loop-self-smaller g c =

@@ -6,6 +6,7 @@ use Rattle.jffs_core.specs.CoreState.{CoreState}
 use Rattle.jffs_core.specs.Cleaning.{DidClean}
 use Rattle.jffs_core.proofs.Sweeping.{held_is}
 use Rattle.jffs_core.proofs.Turning.{HasTurned, turning_begins, turning_ends, turning_goes_on, turning_stopped, full_has_several}
+use Rattle.jffs_core.proofs.Erasing.{leaves_more, leaves_along}
 use Rattle.jffs_core.proofs.mounted.Core.make_room.Goals as goal
 
 pub loop-turn-init : goal.loop-turn-init
@@ -38,7 +39,7 @@ returns-in_err-clean_one-clause-refused g c = let p = err_from_is_err_and c.from
     let s = c.in_err-clean_one.ensures.stopped d.0 h.stands.represents in
     let left : c.held-turn-end.result - c.loop-turn.turn ≡ suc (c.held-turn-end.result - (c.loop-turn.turn + 1)) = omega arith in (
       s.0,
-      turning_stopped c.args.len _ past d.0 s.0 _ c.args.self.now c.loop-turn.self c.clean_one.new.self c.loop-turn.invariant.sizes (subst (λ j. HasTurned c.args.len j past d.0 c.args.self.now c.loop-turn.self) left h)
+      turning_stopped c.args.len _ past d.0 s.0 _ c.args.self.now c.loop-turn.self c.clean_one.new.self (let l = c.loop-turn.invariant.leaves in l.sizes) (subst (λ j. HasTurned c.args.len j past d.0 c.args.self.now c.loop-turn.self) left h)
           (sym c.has_room.ensures ∙ c.if-has_room.false) s.1,
     )
 
@@ -49,16 +50,17 @@ loop-turn-preserved g c =
     let left : c.held-turn-end.result - c.loop-turn.turn ≡ suc (c.held-turn-end.result - (c.loop-turn.turn + 1)) = omega arith in
     record {
       works = e.works;
-      erases = let a = v.erases in let b = e.erases in omega arith;
-      same = record { answers = e.same.answers ∙ v.same.answers; capacity = e.same.capacity ∙ v.same.capacity; closed = e.same.closed ∙ v.same.closed };
-      sizes = (v.sizes.0 ∙ e.sizes.0, v.sizes.1 ∙ e.sizes.1);
+      few = let few = v.few in omega arith;
+      leaves =
+          let few = v.few in
+          leaves_along _ 1 _ c.args.self.now c.loop-turn.self c.clean_one.new.self (omega arith) v.works v.leaves e.leaves;
       done = λ past known.
           let d = v.done past known in
           let h : HasTurned c.args.len (c.held-turn-end.result - c.loop-turn.turn) past d.0 c.args.self.now c.loop-turn.self = d.1 in
           let k = subst (λ (done : Cleaned). DidClean done d.0 c.loop-turn.self c.clean_one.new.self) c.in-Erased.is (e.cleaned d.0 h.stands.represents) in
           let later = k.2 in (
             later.0,
-            turning_goes_on c.args.len _ c.in-Erased.copies past d.0 later.0 c.args.self.now c.loop-turn.self c.clean_one.new.self v.sizes (subst (λ j. HasTurned c.args.len j past d.0 c.args.self.now c.loop-turn.self) left h)
+            turning_goes_on c.args.len _ c.in-Erased.copies past d.0 later.0 c.args.self.now c.loop-turn.self c.clean_one.new.self v.leaves.sizes (subst (λ j. HasTurned c.args.len j past d.0 c.args.self.now c.loop-turn.self) left h)
                 (sym c.has_room.ensures ∙ c.if-has_room.false) k.1 later.1,
           );
     }
@@ -67,3 +69,21 @@ pub returns-clause-made : goal.returns-clause-made
 returns-clause-made g c = λ past known.
     let d = c.loop-turn.invariant.done past known in
     (d.0, turning_ends c.args.len _ past d.0 c.args.self.now c.loop-turn.self d.1 (inl (omega arith)))
+
+pub returns-then-has_room-clause-leaves : goal.returns-then-has_room-clause-leaves
+returns-then-has_room-clause-leaves g c = leaves_more _ _ c.args.self.now c.loop-turn.self (omega arith) c.loop-turn.invariant.leaves
+
+pub returns-in_err-clean_one-clause-leaves : goal.returns-in_err-clean_one-clause-leaves
+returns-in_err-clean_one-clause-leaves g c =
+    let v = c.loop-turn.invariant in
+    let few = v.few in
+    leaves_along _ 1 _ c.args.self.now c.loop-turn.self c.clean_one.new.self (omega arith) v.works v.leaves c.in_err-clean_one.ensures.leaves
+
+pub returns-in-OneSector-clause-leaves : goal.returns-in-OneSector-clause-leaves
+returns-in-OneSector-clause-leaves g c =
+    let v = c.loop-turn.invariant in
+    let few = v.few in
+    leaves_along _ 1 _ c.args.self.now c.loop-turn.self c.clean_one.new.self (omega arith) v.works v.leaves c.in_ok-clean_one.ensures.leaves
+
+pub returns-clause-leaves : goal.returns-clause-leaves
+returns-clause-leaves g c = leaves_more _ _ c.args.self.now c.loop-turn.self (omega arith) c.loop-turn.invariant.leaves

@@ -1,0 +1,5 @@
+use Rattle.jffs_run.proofs.Wear.{runs_wear_evenly}
+use Rattle.jffs_run.proofs.laws.runs_wear_evenly.Goals as goal
+
+pub returns : goal.returns
+returns c = runs_wear_evenly

@@ -83,8 +83,3 @@ device_stop mounted past cause old new works s is h =
   where
     other : ◌≡◌ {A = Cause} causes.NoSpace causes.Device → ⊥
     other e = cc
-
--- What follows of a cause from two things that hold of it.
-pub err_both : {A E : Type 0} (r : Result A E) (P Q R : E → Type 0) → ((e : E) → P e → Q e → R e) → IfErr r P → IfErr r Q → IfErr r R
-err_both (Ok x) P Q R f h k = tt
-err_both (Err e) P Q R f h k = f e h k

@@ -17,10 +17,10 @@ use Rattle.jffs_log.proofs.Histories.{dead_as}
 use Rattle.jffs_core.specs.CoreState.{CoreState, SameAnswers}
 use Rattle.jffs_core.specs.Past.{IsPast, RepresentsWorking}
 use Rattle.jffs_core.specs.Calls.{WorksOn}
-use Rattle.jffs_core.specs.Cleaning.{HasErased, IsDeadOldest, AreDead, erased_times}
+use Rattle.jffs_core.specs.Cleaning.{ErasesOldest, IsDeadOldest, AreDead, erased_times}
 use Rattle.jffs_log.specs.Wear.{ErasedInTurn}
 use Rattle.jffs_log.proofs.Wear.{in_turn_none, turns_go_on}
-use Rattle.jffs_core.specs.Erases.{ErasesAtMost, Leaves}
+use Rattle.jffs_core.specs.Erases.{ErasesAtMost, Leaves, StaysBounded}
 use Rattle.jffs_core.proofs.RoomMade.{oldest_known}
 use Rattle.jffs_core.proofs.Sweeping.{held_is, oldest_is}
 
@@ -76,13 +76,21 @@ pub leaves_more : (few most : ℕ) (old new : CoreState) → few ≤ most → Le
 leaves_more few most old new more h = record { same = h.same; sizes = h.sizes; erases = let e = h.erases in omega arith; turned = h.turned }
 
 -- Two calls, of which the first didn't fail.
-pub leaves_along : (first second most : ℕ) (old middle new : CoreState) → first + second ≤ most → middle.failed ≡ false → Leaves first old middle → Leaves second middle new → Leaves most old new
-leaves_along first second most old middle new more works a b = record {
+pub leaves_within : (first second most : ℕ) (old middle new : CoreState) → new.index.erases ≤ old.index.erases + most → middle.failed ≡ false → Leaves first old middle → Leaves second middle new → Leaves most old new
+leaves_within first second most old middle new few works a b = record {
   same = record { answers = b.same.answers ∙ a.same.answers; capacity = b.same.capacity ∙ a.same.capacity; closed = b.same.closed ∙ a.same.closed };
   sizes = (a.sizes.0 ∙ b.sizes.0, a.sizes.1 ∙ b.sizes.1);
-  erases = let x = a.erases in let y = b.erases in omega arith;
+  erases = few;
   turned = λ w. turns_go_on old.index middle.index new.index (a.turned works) (b.turned w);
 }
+
+pub leaves_along : (first second most : ℕ) (old middle new : CoreState) → first + second ≤ most → middle.failed ≡ false → Leaves first old middle → Leaves second middle new → Leaves most old new
+leaves_along first second most old middle new more works a b =
+    let x = a.erases in let y = b.erases in leaves_within first second most old middle new (omega arith) works a b
+
+-- The oldest sector was to be erased.
+pub leaves_one : (old seen new : CoreState) → old ≡ seen → SameAnswers old new → HasSizes old.index.sectors old.index.sector_size new.index → new.index.erases ≤ old.index.erases + 1 → (new.failed ≡ false → ErasedInTurn old.index new.index) → Leaves 1 seen new
+leaves_one old seen new is same sizes erases turned = subst (λ (c : CoreState). Leaves 1 c new) is (record { same = same; sizes = sizes; erases = erases; turned = turned })
 
 -- Memory was reserved for the log of a core, and perhaps a record was appended.
 pub leaves_kept : (old seen new : CoreState) (middle : LogIndex) → old ≡ seen → SameAnswers old new → IsSameLogIndex old.index middle → KeepsNumbers middle new.index → Leaves 0 seen new
@@ -96,15 +104,32 @@ leaves_kept old seen new middle is same s k = subst (λ (c : CoreState). Leaves 
 pub leaves_reserved : (old seen new : CoreState) → old ≡ seen → SameAnswers old new → IsSameLogIndex old.index new.index → Leaves 0 seen new
 leaves_reserved old seen new is same s = leaves_kept old seen new new.index is same s (record { sizes = (refl, refl); first = refl; erases = refl })
 
+-- An answer was carried out, and kept.
+pub answer_bounded :
+    (old middle new : CoreState) → Leaves old.index.held old middle → new.index ≡ middle.index → new.failed ≡ middle.failed
+    → (new.failed ≡ false → new.index.held ≤ new.index.sectors) → new.index.erases ≤ old.index.erases + old.index.sectors → StaysBounded old new
+answer_bounded old middle new h index failed most few =
+    let erases = ap (λ (b : LogIndex). b.erases) index in
+    let sectors = ap (λ (b : LogIndex). b.sectors) index in
+    let bound = h.erases in
+    let same = h.sizes.0 in
+    record {
+      sizes = (same ∙ sym sectors, h.sizes.1 ∙ sym (ap (λ (b : LogIndex). b.sector_size) index));
+      erases = record {
+        erases = omega arith;
+        held = λ works. let held = most works in omega arith;
+        turned = λ works. subst (ErasedInTurn old.index) (sym index) (h.turned (sym failed ∙ works));
+      };
+      few = few;
+    }
+
 -- Dead sectors are erased one after another.
 pub record IsErasing (count : ℕ) (old now : CoreState) : Type 0 where
   pub works : now.failed ≡ false
-  pub same : SameAnswers old now
-  pub sizes : HasSizes old.index.sectors old.index.sector_size now.index
+  pub leaves : Leaves old.index.held old now
   pub log : layout_in now.image now.index ≡ erased_times count (layout_in old.image old.index)
   pub left : count + length (layout_in now.image now.index).sectors ≡ length (layout_in old.image old.index).sectors
   pub erases : now.index.erases + now.index.held ≤ old.index.erases + old.index.held
-  pub turned : ErasedInTurn old.index now.index
   pub done : (past : List Node) → RepresentsWorking past old → WorksOn past old now
   pub dead : (past : List Node) → RepresentsWorking past old → AreDead past (take count (layout_in old.image old.index).sectors)
 
@@ -136,25 +161,22 @@ dead_so_far past k log below so_far dead =
     let oldest : oldest_records (erased_times k log).sectors ≡ get_or log.sectors k [] = ap oldest_records (left_after k log ∙ drop-cons log.sectors k [] below) in
     subst (AreDead past) (sym (take-suc log.sectors k [] below)) (each_append (NoneLive past) (take k log.sectors) (get_or log.sectors k [] ∷ []) so_far (subst (NoneLive past) oldest dead, tt))
 
-pub erasing_goes_on : (count : ℕ) (old middle new : CoreState) → IsErasing count old middle → IsDeadOldest middle → new.failed ≡ false → SameAnswers middle new → HasSizes middle.index.sectors middle.index.sector_size new.index
-    → layout_in new.image new.index ≡ erase_oldest (layout_in middle.image middle.index) → ((past : List Node) → RepresentsWorking past middle → HasErased past middle new) → ErasesAtMost 0 middle new → IsErasing (count + 1) old new
-erasing_goes_on count old middle new h oldest works same sizes log erased one =
+pub erasing_goes_on : (count : ℕ) (old middle new : CoreState) → IsErasing count old middle → IsDeadOldest middle → ErasesOldest middle new → Leaves 1 middle new → ErasesAtMost 0 middle new → IsErasing (count + 1) old new
+erasing_goes_on count old middle new h oldest erased leaves one =
     let more : suc count ≡ count + 1 = omega arith in
     record {
-      works = works;
-      same = record { answers = same.answers ∙ h.same.answers; capacity = same.capacity ∙ h.same.capacity; closed = same.closed ∙ h.same.closed };
-      sizes = (h.sizes.0 ∙ sizes.0, h.sizes.1 ∙ sizes.1);
-      log = log ∙ ap erase_oldest h.log ∙ ap (λ k. erased_times k (layout_in old.image old.index)) more;
+      works = erased.works;
+      leaves = let before = h.erases in let more = one.held erased.works in leaves_within _ 1 _ old middle new (omega arith) h.works h.leaves leaves;
+      log = erased.log ∙ ap erase_oldest h.log ∙ ap (λ k. erased_times k (layout_in old.image old.index)) more;
       left =
-          let e = ap (λ (l : Layout). length l.sectors) log in
+          let e = ap (λ (l : Layout). length l.sectors) erased.log in
           let f = one_fewer (layout_in middle.image middle.index).sectors oldest.several in
           let k = h.left in
           omega arith;
-      erases = let before = h.erases in let more = one.held works in omega arith;
-      turned = turns_go_on old.index middle.index new.index h.turned (one.turned works);
+      erases = let before = h.erases in let more = one.held erased.works in omega arith;
       done = λ past known.
           let d = h.done past known in
-          let e = erased past d.represents in
+          let e = erased.history past d.represents in
           let s = e.stands in
           record { works = s.works; faults = s.faults ∙ d.faults; represents = s.represents };
       dead = λ past known.

@@ -26,7 +26,7 @@ use Rattle.jffs_core.specs.Past.{RepresentsWorking}
 use Rattle.jffs_core.specs.Run.{is_failure}
 use Rattle.jffs_core.specs.Calls.{RefusedAt}
 use Rattle.jffs_core.specs.Answering.{HasAnswered, KeepsAnswer}
-use Rattle.jffs_core.specs.Cleaning.{HasErasedDead}
+use Rattle.jffs_core.specs.Cleaning.{EraseStopped, HasErasedDead}
 use Rattle.jffs_core.specs.Nodes.{HasNode, listed}
 use Rattle.jffs_core.specs.Trees.{TakesNode, TellsNode, KeepsTree}
 use Rattle.jffs_core.proofs.Deciding.{copies_state}
@@ -165,10 +165,9 @@ tells_none old new writer seq o fails kept =
 pub tree_kept :
     (past : List Node) (old new : CoreState) (result : Result ℕ Cause) → old.failed ≡ false → RepresentsWorking past old
     → IfOk result (λ count. (past : List Node) → RepresentsWorking past old → HasErasedDead count past old new)
-    → IfErr result (λ cause. (past : List Node) → RepresentsWorking past old → RefusedAt cause past old new)
-    → IfErr result (λ cause. cause ≡ causes.Device)
+    → IfErr result (λ cause. EraseStopped cause old new)
     → KeepsTree old new
-tree_kept past old new (Ok count) works known erased stopped device = λ w. (works, (erased past known).stands.represents.tree_is ∙ sym known.tree_is)
-tree_kept past old new (Err cause) works known erased stopped device = λ w.
-    let failed = subst (λ (c : Cause). RefusedAt c past old new) device (stopped past known) in
+tree_kept past old new (Ok count) works known erased stopped = λ w. (works, (erased past known).stands.represents.tree_is ∙ sym known.tree_is)
+tree_kept past old new (Err cause) works known erased stopped = λ w.
+    let failed = subst (λ (c : Cause). RefusedAt c past old new) stopped.cause_is (stopped.history past known) in
     absurd (both_ways new.failed w failed.fails)

@@ -7,7 +7,8 @@ use Rattle.jffs_tree.specs.declared.wish.Cause.TheVariants.{VersionsSpent, Memor
 use Rattle.jffs_tree.specs.declared.wish.NewNode.{NewNode}
 use Rattle.jffs_tree.specs.declared.wish.Outcome.{Outcome}
 use Rattle.jffs_tree.specs.declared.wish.Outcome.TheVariants.{Closed, Refused}
-use Rattle.jffs_tree.specs.Decide.{decide_on, with, is_unmount_wish}
+use Rattle.jffs_tree.specs.declared.wish.Wish.{Wish}
+use Rattle.jffs_tree.specs.Decide.{decide_on, with, is_copy_wish, is_unmount_wish}
 use Rattle.jffs_tree.specs.Deciding.{IsWish}
 use Rattle.jffs_line.specs.declared.request.Request.{Request}
 use Rattle.jffs_log.specs.LogIndex.{layout_in}
@@ -32,6 +33,11 @@ pub record IsNodeOf (c : CoreState) (q : Request) (node : Node) : Type 0 where
   pub takes_node : (is_unmount_wish q.wish && c.clean) ≡ false
   pub writer : q.writer < 2 ^ 16
   pub seq : q.seq < 2 ^ 32
+
+-- the wish is neither for a copy nor to unmount
+pub record WantsFresh (wish : Wish) : Type 0 where
+  pub no_copy : is_copy_wish wish ≡ false
+  pub no_unmount : is_unmount_wish wish ≡ false
 
 -- an answer after which two sectors are erased where two were before
 abbrev pub keeps_two : Outcome → Bool
@@ -104,3 +110,11 @@ KeepsAnswer writer seq o old new =
           ++ record { writer = writer; seq = seq; outcome = o } ∷ [];
       closed = old.closed || is_closed o;
     }
+
+-- The answer is kept, after all others, and a closing one ends the session. Of a core that had
+-- failed nothing else is changed.
+pub record AddsAnswer (writer seq : ℕ) (o : Outcome) (old new : CoreState) : Type 0 where
+  pub answers : new.answers
+      ≡ old.answers ++ record { writer = writer; seq = seq; outcome = o } ∷ []
+  pub closed : new.closed ≡ old.closed || is_closed o
+  pub failed : old.failed ≡ true → KeepsAnswer writer seq o old new

@@ -1,10 +1,11 @@
 -- The oldest sector is cleaned, and dead ones are erased.
-use Rattle.std.specs.Prelude.{◌≡◌, ℕ, zero, suc, ◌+◌, ◌<◌, ◌≤◌, Bool, true, false, List, length}
-use Rattle.std.specs.Prelude.{take, if◌then◌else◌}
+use Rattle.std.specs.Prelude.{◌≡◌, ◌⊎◌, ℕ, zero, suc, ◌+◌, ◌/◌, ◌<◌, ◌≤◌, Bool, true, false, List}
+use Rattle.std.specs.Prelude.{length, take, if◌then◌else◌}
 use Rattle.std.specs.List.{AllByRecursion}
 use Rattle.jffs_node.specs.declared.node.Node.{Node}
+use Rattle.jffs_node.specs.Record.{record_len}
 use Rattle.jffs_tree.specs.declared.wish.Cause.{Cause}
-use Rattle.jffs_tree.specs.declared.wish.Cause.TheVariants.{VersionsSpent, NoSpace, Failed}
+use Rattle.jffs_tree.specs.declared.wish.Cause.TheVariants.{VersionsSpent, NoSpace, Device, Failed}
 use Rattle.jffs_tree.specs.Origin.{is_live}
 use Rattle.jffs_tree.specs.Laws.{NoneLive}
 use Rattle.jffs_log.specs.LogIndex.{layout_in, lives_in, oldest_in}
@@ -17,7 +18,7 @@ use Rattle.jffs_core.specs.declared.cleaning.Cleaned.TheVariants.{Erased, OneSec
 use Rattle.jffs_core.specs.CoreState.{CoreState}
 use Rattle.jffs_core.specs.Run.{OnlyCopies}
 use Rattle.jffs_core.specs.Step.{room_can_be_made}
-use Rattle.jffs_core.specs.Past.{gc_state, Represents}
+use Rattle.jffs_core.specs.Past.{gc_state, Represents, RepresentsWorking}
 use Rattle.jffs_core.specs.Calls.{WorksOn, RefusedAt, KeepsTwo}
 
 -- A record was handled at its turn: copied where it is live, and the copy had room, else skipped.
@@ -37,6 +38,14 @@ pub record CopyStopped (cause : Cause) (past : List Node) (source : Node) (old n
   pub stands : RefusedAt cause past old new
   pub no_room : cause ≡ NoSpace → copy_has_room source (gc_state past old) ≡ false
 
+-- A core that works represents a history with this record, which is short enough for its copy.
+pub record IsSource (source : Node) (c : CoreState) : Type 0 where
+  pub works : c.failed ≡ false
+  pub past : List Node
+  pub known : RepresentsWorking past c
+  pub among : Among source past
+  pub short : record_len source ≤ c.index.sector_size / 4
+
 -- Several records were handled, and `copies` copies were made.
 pub record HasCopied (nodes past after : List Node) (copies : ℕ) (old new : CoreState) :
     Type 0 where
@@ -45,6 +54,15 @@ pub record HasCopied (nodes past after : List Node) (copies : ℕ) (old new : Co
   pub turn : gc_state after new ≡ handled_each old.index.sector_size nodes (gc_state past old)
   pub room : copies_have_room old.index.sector_size nodes (gc_state past old) ≡ true
   pub counted : length after ≡ copies + length past
+
+-- A core that works represents a history, and these are the records of its oldest sector, which
+-- isn't the only one.
+pub record AreOldest (nodes : List Node) (c : CoreState) : Type 0 where
+  pub works : c.failed ≡ false
+  pub past : List Node
+  pub known : RepresentsWorking past c
+  pub several : 2 ≤ length (layout_in c.image c.index).sectors
+  pub are : nodes ≡ oldest_records (layout_in c.image c.index).sectors
 
 -- whether each copy that cleaning makes of the oldest sector has room at its turn
 abbrev pub copies_would_fit : List Node → CoreState → Bool
@@ -65,6 +83,17 @@ pub record HasCleaned (past after : List Node) (copies : ℕ) (old new : CoreSta
 pub record HasErased (past : List Node) (old new : CoreState) : Type 0 where
   pub stands : WorksOn past old new
   pub log : layout_in new.image new.index ≡ erase_oldest (layout_in old.image old.index)
+
+-- So it was of a core that works on, whatever history it represented.
+pub record ErasesOldest (old new : CoreState) : Type 0 where
+  pub works : new.failed ≡ false
+  pub log : layout_in new.image new.index ≡ erase_oldest (layout_in old.image old.index)
+  pub history : (past : List Node) → RepresentsWorking past old → HasErased past old new
+
+-- An erase stopped, since the device failed.
+pub record EraseStopped (cause : Cause) (old new : CoreState) : Type 0 where
+  pub cause_is : cause ≡ Device
+  pub history : (past : List Node) → RepresentsWorking past old → RefusedAt cause past old new
 
 -- Room was made for a fresh record of `len` bytes, if that could be: copies were added, and the log
 -- is as after some cleanings.
@@ -173,6 +202,12 @@ pub record ErasesDead (mounted past : List Node) (count : ℕ) (old new : CoreSt
   pub dead : AreDead past (take count (layout_in old.image old.index).sectors)
   pub last : IsDeadOldest new → ⊥
   pub two : KeepsTwo old new
+
+-- No more dead sectors were erased: the device failed, or had failed.
+pub record ErasingStopped (cause : Cause) (old new : CoreState) : Type 0 where
+  pub either : (cause ≡ Device) ⊎ (cause ≡ Failed)
+  pub history : (mounted past : List Node) → Represents mounted past old
+      → Represents mounted past new × StopIs cause past old new
 
 -- the same of a core that works
 pub record HasErasedDead (count : ℕ) (past : List Node) (old new : CoreState) : Type 0 where

@@ -15,6 +15,13 @@ pub record ErasesAtMost (more : ℕ) (old new : CoreState) : Type 0 where
       → new.index.erases + new.index.held ≤ old.index.erases + old.index.held + more
   pub turned : new.failed ≡ false → ErasedInTurn old.index new.index
 
+-- The device keeps its sizes over an answer, which erases no more than that, and no more sectors
+-- than there are.
+pub record StaysBounded (old new : CoreState) : Type 0 where
+  pub sizes : HasSizes old.index.sectors old.index.sector_size new.index
+  pub erases : ErasesAtMost old.index.sectors old new
+  pub few : new.index.erases ≤ old.index.erases + old.index.sectors
+
 -- What a call inside the core leaves: the answers and the sizes as they were, and no more than that
 -- many sectors erased, in turn.
 pub record Leaves (most : ℕ) (old new : CoreState) : Type 0 where

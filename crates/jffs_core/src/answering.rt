@@ -18,11 +18,10 @@ use jffs_tree::{Cause, Outcome};
 
 impl<F: Flash> Core<F> {
     ghost use Rattle.jffs_node.specs.declared.node.Node.{Node};
-    ghost use Rattle.jffs_log.specs.LogIndex.{HasSizes};
     ghost use Rattle.jffs_core.specs.Past.{RepresentsWorking, Represents, has_room_for};
     ghost use Rattle.jffs_core.specs.Answering.{Answers, AnswersWith, HasAnswered, HasActed};
-    ghost use Rattle.jffs_core.specs.Answering.{IsNodeOf, KeepsAnswer};
-    ghost use Rattle.jffs_core.specs.Erases.{ErasesAtMost, Leaves};
+    ghost use Rattle.jffs_core.specs.Answering.{AddsAnswer, IsNodeOf, KeepsAnswer, WantsFresh};
+    ghost use Rattle.jffs_core.specs.Erases.{Leaves, StaysBounded};
     ghost use Rattle.jffs_core.specs.Trees.{TellsNode};
 
     /// Reserves memory for one more answer.
@@ -48,20 +47,10 @@ impl<F: Flash> Core<F> {
     /// answers is changed.
     pub fn answer(&mut self, request: Request) -> Outcome
         requires reserved { length self.old.answers < self.old.capacity }
-        ensures kept { self.new.answers
-            ≡ self.old.answers ++ record {
-              writer = request.writer;
-              seq = request.seq;
-              outcome = result;
-            } ∷ [] }
+        ensures kept { AddsAnswer request.writer request.seq result self.old self.new }
         ensures step { (mounted past : List Node) → Represents mounted past self.old
             → Answers mounted past self.old self.new request result }
-        ensures closed { self.new.closed ≡ self.old.closed || is_closed result }
-        ensures failed { self.old.failed ≡ true
-            → KeepsAnswer request.writer request.seq result self.old self.new }
-        ensures sizes { HasSizes self.old.index.sectors self.old.index.sector_size self.new.index }
-        ensures erases { ErasesAtMost self.old.index.sectors self.old self.new }
-        ensures few { self.new.index.erases ≤ self.old.index.erases + self.old.index.sectors }
+        ensures bounded { StaysBounded self.old self.new }
     {
         self.answer_with_node(request).outcome
     }
@@ -71,22 +60,12 @@ impl<F: Flash> Core<F> {
     /// same state, and makes the state of the tree that it has then.
     pub fn answer_with_node(&mut self, request: Request) -> Answered
         requires reserved { length self.old.answers < self.old.capacity }
-        ensures kept { self.new.answers
-            ≡ self.old.answers ++ record {
-              writer = request.writer;
-              seq = request.seq;
-              outcome = result.outcome;
-            } ∷ [] }
+        ensures kept { AddsAnswer request.writer request.seq result.outcome self.old self.new }
         ensures step { (mounted past : List Node) → Represents mounted past self.old
             → AnswersWith mounted past self.old self.new request result.outcome result.node }
         ensures node { HasNode result.outcome result.node }
         ensures tree { TellsNode self.old self.new result.node }
-        ensures closed { self.new.closed ≡ self.old.closed || is_closed result.outcome }
-        ensures failed { self.old.failed ≡ true
-            → KeepsAnswer request.writer request.seq result.outcome self.old self.new }
-        ensures sizes { HasSizes self.old.index.sectors self.old.index.sector_size self.new.index }
-        ensures erases { ErasesAtMost self.old.index.sectors self.old self.new }
-        ensures few { self.new.index.erases ≤ self.old.index.erases + self.old.index.sectors }
+        ensures bounded { StaysBounded self.old self.new }
     {
         let answered = if self.log.failed() {
             Answered {
@@ -209,8 +188,7 @@ impl<F: Flash> Core<F> {
     fn keep_fresh(&mut self, request: &Request, node: Node) -> Result<Answered, Cause>
         requires working { self.old.failed ≡ false }
         requires decided { IsNodeOf self.old request.now node }
-        requires no_copy { is_copy_wish request.now.wish ≡ false }
-        requires no_unmount { is_unmount_wish request.now.wish ≡ false }
+        requires fresh { WantsFresh request.now.wish }
         requires room { has_room_for self.old Room.Fresh (length_of node) ≡ true }
         ensures acted { (past : List Node) → RepresentsWorking past self.old
             → HasActed past self.old self.new request.now result }
@@ -224,8 +202,7 @@ impl<F: Flash> Core<F> {
     fn clean_for(&mut self, request: &Request, node: Node) -> Result<Answered, Cause>
         requires working { self.old.failed ≡ false }
         requires decided { IsNodeOf self.old request.now node }
-        requires no_copy { is_copy_wish request.now.wish ≡ false }
-        requires no_unmount { is_unmount_wish request.now.wish ≡ false }
+        requires fresh { WantsFresh request.now.wish }
         requires no_room { has_room_for self.old Room.Fresh (length_of node) ≡ false }
         ensures acted { (past : List Node) → RepresentsWorking past self.old
             → HasActed past self.old self.new request.now result }

@@ -2,8 +2,6 @@
 
 ghost use Rattle.std.specs.Prelude.{◌≡◌, ◌≤◌, ◌<◌, ◌+◌, ◌/◌, ◌^◌, List, true, false, map, length};
 ghost use Rattle.std.specs.Prelude.{◌↔◌, ◌⊎◌, IsTrue, OnOk, IfOk, IfErr, Err};
-ghost use Rattle.std.specs.List.{AllByRecursion};
-ghost use Rattle.jffs_node.specs.Record.{record_len as length_of};
 ghost use Rattle.jffs_tree.specs.Look.{holds_version};
 
 use crate::mounted::Core;
@@ -23,16 +21,14 @@ pub enum Cleaned {
 
 impl<F: Flash> Core<F> {
     ghost use Rattle.jffs_node.specs.declared.node.Node.{Node};
-    ghost use Rattle.jffs_log.specs.LogIndex.{HasSizes, layout_in, lives_in, oldest_in};
-    ghost use Rattle.jffs_log.specs.Cleaning.{oldest_records, erase_oldest as erase_layout};
+    ghost use Rattle.jffs_log.specs.LogIndex.{layout_in, oldest_in};
     ghost use Rattle.jffs_log.specs.RoomLaws.{Among};
-    ghost use Rattle.jffs_core.specs.CoreState.{SameAnswers};
     ghost use Rattle.jffs_core.specs.Past.{RepresentsWorking, Represents};
     ghost use Rattle.jffs_core.specs.Calls.{RefusedAt};
-    ghost use Rattle.jffs_core.specs.Cleaning.{Cleans, Stops, StopIs, ErasesDead, HasErasedDead};
+    ghost use Rattle.jffs_core.specs.Cleaning.{Cleans, Stops, ErasesDead, HasErasedDead, ErasingStopped};
     ghost use Rattle.jffs_core.specs.Cleaning.{IsDeadOldest, DidClean, HasHandled, CopyStopped};
-    ghost use Rattle.jffs_core.specs.Cleaning.{HasCopied, HasErased, HasMadeRoom, MakingStopped};
-    ghost use Rattle.jffs_core.specs.Cleaning.{SectorStopped};
+    ghost use Rattle.jffs_core.specs.Cleaning.{HasCopied, HasMadeRoom, MakingStopped, ErasesOldest};
+    ghost use Rattle.jffs_core.specs.Cleaning.{SectorStopped, EraseStopped, IsSource, AreOldest};
     ghost use Rattle.jffs_core.specs.Erases.{ErasesAtMost, Leaves};
     ghost use Rattle.jffs_core.specs.Trees.{KeepsTree};
 
@@ -69,14 +65,10 @@ impl<F: Flash> Core<F> {
         ensures erased { IfOk result
             (λ count. (mounted past : List Node) → Represents mounted past self.old
             → ErasesDead mounted past count self.old self.new) }
-        ensures stopped { IfErr result
-            (λ cause. (mounted past : List Node) → Represents mounted past self.old
-            → Represents mounted past self.new × StopIs cause past self.old self.new) }
-        ensures causes { IfErr result (λ cause. (cause ≡ Cause.Device) ⊎ (cause ≡ Cause.Failed)) }
+        ensures stopped { IfErr result (λ cause. ErasingStopped cause self.old self.new) }
         ensures failed { self.old.failed ≡ true
             → (result ≡ Err Cause.Failed) × (self.new ≡ self.old) }
-        ensures same { SameAnswers self.old self.new }
-        ensures sizes { HasSizes self.old.index.sectors self.old.index.sector_size self.new.index }
+        ensures leaves { Leaves self.old.index.held self.old self.new }
         ensures erases { ErasesAtMost 0 self.old self.new }
         ensures tree { KeepsTree self.old self.new }
     {
@@ -93,12 +85,8 @@ impl<F: Flash> Core<F> {
         ensures erased { IfOk result
             (λ count. (past : List Node) → RepresentsWorking past self.old
             → HasErasedDead count past self.old self.new) }
-        ensures stopped { IfErr result
-            (λ cause. (past : List Node) → RepresentsWorking past self.old
-            → RefusedAt cause past self.old self.new) }
-        ensures device { IfErr result (λ cause. cause ≡ Cause.Device) }
-        ensures same { SameAnswers self.old self.new }
-        ensures sizes { HasSizes self.old.index.sectors self.old.index.sector_size self.new.index }
+        ensures stopped { IfErr result (λ cause. EraseStopped cause self.old self.new) }
+        ensures leaves { Leaves self.old.index.held self.old self.new }
         ensures erases { ErasesAtMost 0 self.old self.new }
     {
         let mut erased = 0u32;
@@ -164,10 +152,7 @@ impl<F: Flash> Core<F> {
 
     /// Copies what lives of these nodes, which are those of the oldest sector, and erases it.
     fn clean_sector(&mut self, nodes: &[Node]) -> Result<Cleaned, Cause>
-        requires working { self.old.failed ≡ false }
-        requires known { (past : List Node) × RepresentsWorking past self.old }
-        requires several { 2 ≤ length (layout_in self.old.image self.old.index).sectors }
-        requires oldest { nodes.now ≡ map (λ p. p.node) (oldest_in self.old.image self.old.index) }
+        requires oldest { AreOldest nodes.now self.old }
         ensures cleaned { IfOk result
             (λ done. (past : List Node) → RepresentsWorking past self.old
             → DidClean done past self.old self.new) }
@@ -186,11 +171,7 @@ impl<F: Flash> Core<F> {
     /// Handles each of these nodes, which are those of the oldest sector; answers how many were
     /// copied.
     fn copy_each(&mut self, nodes: &[Node]) -> Result<u32, Cause>
-        requires working { self.old.failed ≡ false }
-        requires known { (past : List Node) × RepresentsWorking past self.old }
-        requires oldest { nodes.now
-            ≡ oldest_records (layout_in self.old.image self.old.index).sectors }
-        requires several { 2 ≤ length (layout_in self.old.image self.old.index).sectors }
+        requires oldest { AreOldest nodes.now self.old }
         ensures copied { IfOk result
             (λ copies. (past : List Node) → RepresentsWorking past self.old
             → (after : List Node) × HasCopied nodes.now past after copies self.old self.new) }
@@ -209,10 +190,7 @@ impl<F: Flash> Core<F> {
 
     /// Copies a record of the log where it is live; answers whether it is.
     fn handle(&mut self, source: &Node) -> Result<bool, Cause>
-        requires working { self.old.failed ≡ false }
-        requires known { (past : List Node) × RepresentsWorking past self.old
-            × Among source.now past }
-        requires short { length_of source.now ≤ self.old.index.sector_size / 4 }
+        requires source { IsSource source.now self.old }
         ensures handled { IfOk result
             (λ copied. (past : List Node) → RepresentsWorking past self.old → Among source.now past
             → HasHandled past source.now copied self.old self.new) }
@@ -231,11 +209,8 @@ impl<F: Flash> Core<F> {
 
     /// Appends the copy of a live record.
     fn copy(&mut self, source: &Node) -> Result<(), Cause>
-        requires working { self.old.failed ≡ false }
-        requires known { (past : List Node) × RepresentsWorking past self.old
-            × Among source.now past }
+        requires source { IsSource source.now self.old }
         requires live { holds_version self.old.tree source.now.inode source.now.version ≡ true }
-        requires short { length_of source.now ≤ self.old.index.sector_size / 4 }
         ensures copied { OnOk result
             ((past : List Node) → RepresentsWorking past self.old → Among source.now past
             → HasHandled past source.now true self.old self.new) }
@@ -256,9 +231,9 @@ impl<F: Flash> Core<F> {
     fn oldest_nodes(&mut self) -> Result<Vec<Node>, Cause>
         requires working { self.old.failed ≡ false }
         requires some { 1 ≤ self.old.index.held }
-        ensures nodes { IfOk result
-            (λ nodes. nodes.items ≡ map (λ p. p.node) (oldest_in self.old.image self.old.index)) }
-        ensures kept { OnOk result (self.new ≡ self.old) }
+        ensures read { IfOk result
+            (λ nodes. (nodes.items ≡ map (λ p. p.node) (oldest_in self.old.image self.old.index))
+            × (self.new ≡ self.old)) }
         ensures refused { IfErr result
             (λ cause. (past : List Node) → RepresentsWorking past self.old
             → RefusedAt cause past self.old self.new) }
@@ -271,24 +246,11 @@ impl<F: Flash> Core<F> {
     /// Erases the oldest sector. Precondition: it is dead, and not the tail.
     fn erase_oldest(&mut self) -> Result<(), Cause>
         requires working { self.old.failed ≡ false }
-        requires several { 2 ≤ length (layout_in self.old.image self.old.index).sectors }
-        requires dead { AllByRecursion (λ p. lives_in self.old.tree p ≡ false)
-            (oldest_in self.old.image self.old.index) }
-        ensures erased { OnOk result
-            ((past : List Node) → RepresentsWorking past self.old
-            → HasErased past self.old self.new) }
-        ensures refused { IfErr result
-            (λ cause. (past : List Node) → RepresentsWorking past self.old
-            → RefusedAt cause past self.old self.new) }
-        ensures log { OnOk result
-            (layout_in self.new.image self.new.index
-            ≡ erase_layout (layout_in self.old.image self.old.index)) }
-        ensures device { IfErr result (λ cause. cause ≡ Cause.Device) }
-        ensures works { OnOk result (self.new.failed ≡ false) }
-        ensures same { SameAnswers self.old self.new }
-        ensures sizes { HasSizes self.old.index.sectors self.old.index.sector_size self.new.index }
+        requires dead { IsDeadOldest self.old }
+        ensures erased { OnOk result (ErasesOldest self.old self.new) }
+        ensures stopped { IfErr result (λ cause. EraseStopped cause self.old self.new) }
+        ensures leaves { Leaves 1 self.old self.new }
         ensures erases { ErasesAtMost 0 self.old self.new }
-        ensures few { self.new.index.erases ≤ self.old.index.erases + 1 }
     {
         self.log.erase_oldest(&self.tree)
     }

@@ -9,7 +9,7 @@ use Rattle.jffs_core.specs.CoreState.{CoreState, IsSameButCapacity}
 use Rattle.jffs_core.specs.History.{IsOwnCopy, MayFollow}
 use Rattle.jffs_core.specs.Past.{RepresentsWorking, Represents, HasFailed}
 use Rattle.jffs_core.specs.Calls.{FailsIn}
-use Rattle.jffs_core.specs.Cleaning.{ErasesDead, StopIs}
+use Rattle.jffs_core.specs.Cleaning.{ErasesDead, ErasingStopped, StopIs}
 use Rattle.jffs_core.specs.Erases.{ErasesAtMost}
 use Rattle.jffs_core.specs.Jobs.{wants_cleaning, ReadRefused}
 use Rattle.jffs_log.proofs.Wear.{turns_go_on}
@@ -143,11 +143,10 @@ read_kept old new (Err cause) works same ok refused stands = by_cause cause refu
 pub erased_dead :
     (old new : CoreState) (result : Result ℕ Cause) → old.failed ≡ false → HasSizes old.index.sectors old.index.sector_size new.index
     → IfOk result (λ count. (mounted past : List Node) → Represents mounted past old → ErasesDead mounted past count old new)
-    → IfErr result (λ cause. (mounted past : List Node) → Represents mounted past old → Represents mounted past new × StopIs cause past old new)
-    → IfErr result (λ cause. (cause ≡ causes.Device) ⊎ (cause ≡ causes.Failed))
+    → IfErr result (λ cause. ErasingStopped cause old new)
     → ErasesAtMost 0 old new
     → KeepsHistory old new
-erased_dead old new (Ok count) works sizes erased stopped either erases =
+erased_dead old new (Ok count) works sizes erased stopped erases =
     let did = λ (past : List Node) (known : RepresentsWorking past old). erased past past (represents_itself past old works known) in
     record {
       sizes = sizes;
@@ -158,7 +157,7 @@ erased_dead old new (Ok count) works sizes erased stopped either erases =
       fails = λ w f past known. absurd (both_ways new.failed (did past known).still_works f);
       stands = λ mounted past s. (erased mounted past s).stands;
     }
-erased_dead old new (Err cause) works sizes erased stopped either erases =
+erased_dead old new (Err cause) works sizes erased stopped erases =
     record {
       sizes = sizes;
       erases = erases;
@@ -166,14 +165,14 @@ erased_dead old new (Err cause) works sizes erased stopped either erases =
       faults = λ w past known. absurd (both_ways new.failed w (let h = fell past known in h.fails));
       two = λ w past known. absurd (both_ways new.failed w (let h = fell past known in h.fails));
       fails = λ w f past known. fell past known;
-      stands = λ mounted past s. (stopped mounted past s).0;
+      stands = λ mounted past s. (stopped.history mounted past s).0;
     }
   where
     by_cause : (past : List Node) → StopIs cause past old new → FailsIn (IsOwnCopy past) past old new
-    by_cause past why = elim either [
+    by_cause past why = elim stopped.either [
       | inl device ↦ (subst (λ (c : Cause). StopIs c past old new) device why).1
       | inr failed ↦ absurd (both_ways old.failed works (subst (λ (c : Cause). StopIs c past old new) failed why).0)
     ]
 
     fell : (past : List Node) → RepresentsWorking past old → FailsIn (IsOwnCopy past) past old new
-    fell past known = by_cause past (stopped past past (represents_itself past old works known)).1
+    fell past known = by_cause past (stopped.history past past (represents_itself past old works known)).1

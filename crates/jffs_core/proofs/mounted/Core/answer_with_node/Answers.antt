@@ -1,19 +1,19 @@
-use Rattle.std.proofs.Common.{◌≡◌, ◌∙◌, ◌+◌, ◌≤◌, Option, None, false, refl, sym, ap, subst, arith}
+use Rattle.std.proofs.Common.{◌≡◌, ◌∙◌, ◌+◌, ◌≤◌, Bool, ◌||◌, List, [], ◌∷◌, ◌++◌, Option, None, refl, sym, ap, subst, arith}
 use Rattle.std.proofs.lemmas.Bool.{both_ways}
 use Rattle.jffs_log.specs.declared.log_index.LogIndex.{LogIndex}
-use Rattle.jffs_log.specs.Wear.{ErasedInTurn}
-use Rattle.jffs_log.proofs.Wear.{in_turn_none}
 use Rattle.jffs_node.specs.declared.node.Node.{Node}
 use Rattle.jffs_core.specs.CoreState.{CoreState}
+use Rattle.jffs_core.specs.declared.answer.Answer.{Answer}
 use Rattle.jffs_core.specs.declared.answer.Answered.{Answered}
 use Rattle.jffs_core.specs.Nodes.{HasNode}
 use Rattle.jffs_core.specs.Past.{RepresentsWorking}
-use Rattle.jffs_core.specs.Answering.{HasAnswered, KeepsAnswer}
+use Rattle.jffs_core.specs.Answering.{HasAnswered, KeepsAnswer, is_closed}
 use Rattle.jffs_core.specs.Trees.{TellsNode}
 use Rattle.jffs_core.proofs.Stepping.{failed_answer, answered}
 use Rattle.jffs_core.proofs.Told.{node_told}
 use Rattle.jffs_core.proofs.Trees.{tells_node, tells_none}
-use Rattle.jffs_core.proofs.Erasing.{held_most}
+use Rattle.jffs_core.specs.Erases.{Leaves}
+use Rattle.jffs_core.proofs.Erasing.{answer_bounded, held_most, leaves_all}
 use Rattle.jffs_core.proofs.mounted.Core.answer_with_node.Goals as goal
 use Rattle.jffs_core.proofs.mounted.Core.answer_with_node.Goals.{then-failed, else-failed}
 
@@ -47,54 +47,50 @@ returns-clause-node g c =
           subst (λ (a : Answered). HasNode a.outcome a.node) (sym w.answered-is) (node_told _ q _ acted.after _ acted.step acted.own)
     ]
 
-pub returns-clause-failed : goal.returns-clause-failed
-returns-clause-failed g c = λ fails.
+pub returns-clause-kept : goal.returns-clause-kept
+returns-clause-kept g c =
     let q = c.args.request in
-    elim c.if-failed.branch [
-      | then-failed w ↦ subst (λ (v : CoreState). KeepsAnswer q.writer q.seq c.if-failed.answered.outcome v c.keep_answer.new.self) w.self-is c.keep_answer.ensures.kept
-      | else-failed w ↦ absurd (both_ways c.args.self.now.failed (ap (λ (v : CoreState). v.failed) (sym c.self.view_is) ∙ sym c.failed.ensures ∙ w.if-failed.false) fails)
-    ]
-
-pub returns-clause-erases : goal.returns-clause-erases
-returns-clause-erases g c =
     let old : CoreState = c.args.self.now in
-    let middle : CoreState = c.if-failed.self in
-    let kept = ap (λ (v : CoreState). v.index) c.keep_answer.ensures.kept in
-    let still : c.keep_answer.new.self.failed ≡ middle.failed = ap (λ (v : CoreState). v.failed) c.keep_answer.ensures.kept in
-    let so_far : (middle.index.erases ≤ old.index.erases + old.index.held) × (middle.index.sectors ≡ old.index.sectors) × (middle.failed ≡ false → ErasedInTurn old.index middle.index) =
+    let o = c.if-failed.answered.outcome in
+    let new : CoreState = c.keep_answer.new.self in
+    let kept = c.keep_answer.ensures.kept in
     elim c.if-failed.branch [
       | then-failed w ↦
-          subst (λ (v : CoreState). (v.index.erases ≤ old.index.erases + old.index.held) × (v.index.sectors ≡ old.index.sectors) × (v.failed ≡ false → ErasedInTurn old.index v.index)) (sym w.self-is)
-          (omega arith, refl, λ works. in_turn_none old.index old.index refl refl refl)
+          let whole = subst (λ (v : CoreState). KeepsAnswer q.writer q.seq o v new) w.self-is kept in
+          record { answers = ap (λ (v : CoreState). v.answers) whole; closed = ap (λ (v : CoreState). v.closed) whole; failed = λ fails. whole }
       | else-failed w ↦
-          let done = w.act-answered.ensures.leaves in
-          subst (λ (v : CoreState). (v.index.erases ≤ old.index.erases + old.index.held) × (v.index.sectors ≡ old.index.sectors) × (v.failed ≡ false → ErasedInTurn old.index v.index)) (sym w.self-is)
-          (done.erases, sym done.sizes.0, done.turned)
-    ] in
-    let erases = ap (λ (b : LogIndex). b.erases) kept in
-    let sectors = ap (λ (b : LogIndex). b.sectors) kept in
-    let first = so_far.0 in
-    let same = so_far.1 in
-    record {
-      erases = omega arith;
-      held = λ works. let most = c.keep_answer.ensures.held works in omega arith;
-      turned = λ works. subst (ErasedInTurn old.index) (sym kept) (so_far.2 (sym still ∙ works));
-    }
+          let whole = subst (λ (v : CoreState). KeepsAnswer q.writer q.seq o v new) w.self-is kept in
+          let same = (let leaves = w.act-answered.ensures.leaves in leaves.same) in
+          record {
+            answers = ap (λ (v : CoreState). v.answers) whole ∙ ap (λ (answers : List Answer). answers ++ record { writer = q.writer; seq = q.seq; outcome = o } ∷ []) same.answers;
+            closed = ap (λ (v : CoreState). v.closed) whole ∙ ap (λ (closed : Bool). closed || is_closed o) same.closed;
+            failed = λ fails. absurd (both_ways old.failed (ap (λ (v : CoreState). v.failed) (sym c.self.view_is) ∙ sym c.failed.ensures ∙ w.if-failed.false) fails);
+          }
+    ]
 
-pub returns-clause-few : goal.returns-clause-few
-returns-clause-few g c =
-    let kept = ap (λ (v : CoreState). v.index.erases) c.keep_answer.ensures.kept in
+pub returns-clause-bounded : goal.returns-clause-bounded
+returns-clause-bounded g c =
+    let old : CoreState = c.args.self.now in
+    let middle : CoreState = c.if-failed.self in
+    let new : CoreState = c.keep_answer.new.self in
+    let kept = c.keep_answer.ensures.kept in
+    let index : new.index ≡ middle.index = ap (λ (v : CoreState). v.index) kept in
+    let most = c.keep_answer.ensures.held in
     elim c.if-failed.branch [
-      | then-failed w ↦ let same = ap (λ (v : CoreState). v.index.erases) w.self-is in omega arith
+      | then-failed w ↦
+          let leaves = subst (Leaves old.index.held old) (sym w.self-is) (leaves_all old.index.held old) in
+          let same = ap (λ (v : CoreState). v.index.erases) w.self-is in
+          let erases = ap (λ (b : LogIndex). b.erases) index in
+          answer_bounded old middle new leaves index (ap (λ (v : CoreState). v.failed) kept) most (omega arith)
       | else-failed w ↦
           let v = c.self.inside in
           let past = c.self.invariant.past (sym c.failed.ensures ∙ w.if-failed.false) in
           let low = held_most past.0 v.log.device.image v.log.index v.tree v.limits v.clean (c.self.invariant.index (sym c.failed.ensures ∙ w.if-failed.false)) past.1 in
-          let few : c.args.self.now.index.held ≤ c.args.self.now.index.sectors = subst (λ (v : CoreState). v.index.held ≤ v.index.sectors) c.self.view_is low in
-          let same = ap (λ (v : CoreState). v.index.erases) w.self-is in
-          let leaves = w.act-answered.ensures.leaves in
-          let erases = leaves.erases in
-          omega arith
+          let few : old.index.held ≤ old.index.sectors = subst (λ (v : CoreState). v.index.held ≤ v.index.sectors) c.self.view_is low in
+          let leaves = subst (Leaves old.index.held old) (sym w.self-is) w.act-answered.ensures.leaves in
+          let bound = leaves.erases in
+          let erases = ap (λ (b : LogIndex). b.erases) index in
+          answer_bounded old middle new leaves index (ap (λ (v : CoreState). v.failed) kept) most (omega arith)
     ]
 
 pub returns-clause-tree : goal.returns-clause-tree

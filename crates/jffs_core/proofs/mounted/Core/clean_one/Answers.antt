@@ -3,7 +3,9 @@ use Rattle.std.proofs.lemmas.Result.{err_from_is_err_and}
 use Rattle.jffs_log.specs.declared.log_index.LogIndex.{LogIndex}
 use Rattle.jffs_log.specs.LogIndex.{IsLogIndex, layout_in}
 use Rattle.jffs_core.specs.CoreState.{CoreState}
-use Rattle.jffs_core.proofs.Sweeping.{held_is}
+use Rattle.jffs_core.specs.Cleaning.{AreOldest}
+use Rattle.jffs_core.specs.Past.{RepresentsWorking}
+use Rattle.jffs_core.proofs.Sweeping.{held_is, oldest_is}
 use Rattle.jffs_core.proofs.Copying.{not_for_copy}
 use Rattle.jffs_core.proofs.mounted.Core.clean_one.Goals as goal
 
@@ -20,11 +22,19 @@ returns-then-held-lt2-clause-cleaned g c = λ past known.
 counted : (image : List ℕ) (b : LogIndex) (held : ℕ) → IsLogIndex image b → held ≡ b.held → 2 ≤ held → 2 ≤ length (layout_in image b).sectors
 counted image b held index is two = let many = held_is image b index in omega arith
 
-pub clean_sector-requires-clause-several : goal.clean_sector-requires-clause-several
-clean_sector-requires-clause-several g c =
+pub clean_sector-requires : goal.clean_sector-requires
+clean_sector-requires g c =
     let works = ap (λ (v : CoreState). v.failed) c.self.view_is ∙ c.requires.working in
+    let past = c.self.invariant.past works in
+    let read = c.in_ok-nodes.ensures.read in
     let low = counted c.self.inside.log.device.image c.self.inside.log.index c.held.result (c.self.invariant.index works) c.held.ensures (let test = c.if-held-lt2.false in omega arith) in
-    subst (λ (v : CoreState). 2 ≤ length (layout_in v.image v.index).sectors) (c.self.view_is ∙ sym c.in_ok-nodes.ensures.kept) low
+    record { oldest = subst (λ (v : CoreState). AreOldest c.deref.result.now v) (sym read.1) (record {
+      works = c.requires.working;
+      past = past.0;
+      known = subst (λ (v : CoreState). RepresentsWorking past.0 v) c.self.view_is past.1;
+      several = subst (λ (v : CoreState). 2 ≤ length (layout_in v.image v.index).sectors) c.self.view_is low;
+      are = c.deref.ensures.value ∙ read.0 ∙ oldest_is c.args.self.now.image c.args.self.now.index;
+    }) }
 
 pub returns-in_err-nodes-clause-stopped : goal.returns-in_err-nodes-clause-stopped
 returns-in_err-nodes-clause-stopped g c = let p = err_from_is_err_and c.from_residual.result c.from_residual.ensures.1 in rw (p.1, p.2) λ past known.

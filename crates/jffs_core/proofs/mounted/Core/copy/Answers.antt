@@ -12,13 +12,13 @@ use Rattle.jffs_core.proofs.mounted.Core.copy.Goals as goal
 
 pub append-requires-clause-follows : goal.append-requires-clause-follows
 append-requires-clause-follows g c =
-    let k = c.requires.known in
+    let k = c.requires.source in
     let source = c.args.source.now in
     let old : CoreState = c.args.self.now in
-    let live = lives_by_tree k.0 old source k.1 k.2 c.requires.live in
+    let live = lives_by_tree k.past old source k.known k.among c.requires.live in
     let next = ap (λ (v : CoreState). v.limits.next_version) (sym c.self.view_is) ∙ c.in-Some.is in
-    let is = copy_is k.0 old source c.with.result c.in_ok-copied.copied c.in-Some.version k.1 c.with.ensures (c.in_ok-copied.ensures ∙ ap (λ (v : CoreState). cleaning_copy (state_in v.tree) source) c.self.view_is) next in
-    (k.0, k.1, subst (MayPut k.0 old.index.sector_size rooms.Copy) (sym is) (copy_may k.0 old source c.in-Some.version k.1 k.2 live next c.requires.short))
+    let is = copy_is k.past old source c.with.result c.in_ok-copied.copied c.in-Some.version k.known c.with.ensures (c.in_ok-copied.ensures ∙ ap (λ (v : CoreState). cleaning_copy (state_in v.tree) source) c.self.view_is) next in
+    (k.past, k.known, subst (MayPut k.past old.index.sector_size rooms.Copy) (sym is) (copy_may k.past old source c.in-Some.version k.known k.among live next k.short))
 
 pub returns-clause-copied : goal.returns-clause-copied
 returns-clause-copied g c =
@@ -29,7 +29,7 @@ returns-clause-copied g c =
     (λ h past known among.
     let live = lives_by_tree past old source known among c.requires.live in
     let is = copy_is past old source c.with.result c.in_ok-copied.copied c.in-Some.version known c.with.ensures (c.in_ok-copied.ensures ∙ ap (λ (v : CoreState). cleaning_copy (state_in v.tree) source) c.self.view_is) next in
-    copy_put past old source c.in-Some.version known among live next c.append.new.self c.with.result is c.requires.short h)
+    copy_put past old source c.in-Some.version known among live next c.append.new.self c.with.result is c.requires.source.short h)
     c.append.ensures.done
 
 pub returns-clause-stopped : goal.returns-clause-stopped
@@ -41,7 +41,7 @@ returns-clause-stopped g c =
     (λ cause h past known among.
     let live = lives_by_tree past old source known among c.requires.live in
     let is = copy_is past old source c.with.result c.in_ok-copied.copied c.in-Some.version known c.with.ensures (c.in_ok-copied.ensures ∙ ap (λ (v : CoreState). cleaning_copy (state_in v.tree) source) c.self.view_is) next in
-    copy_refused past old source c.in-Some.version known among live next c.append.new.self c.with.result cause is c.requires.short h)
+    copy_refused past old source c.in-Some.version known among live next c.append.new.self c.with.result cause is c.requires.source.short h)
     c.append.ensures.refused
 
 pub returns-in_default-clause-stopped : goal.returns-in_default-clause-stopped
@@ -50,13 +50,13 @@ returns-in_default-clause-stopped g c = λ past known among.
     let none = ap (λ (v : CoreState). v.limits.next_version) (sym c.self.view_is) ∙ none_left _ c.in_default.not-Some in
     record {
       live = lives_by_tree past old c.args.source.now known among c.requires.live;
-      stands = (record { works = c.requires.working; faults = refl; represents = known }, known_version past old None known none);
+      stands = (record { works = c.requires.source.works; faults = refl; represents = known }, known_version past old None known none);
       no_room = λ e. cc;
     }
 
 pub returns-in_err-copied-clause-stopped : goal.returns-in_err-copied-clause-stopped
 returns-in_err-copied-clause-stopped g c = let p = err_from_is_err_and c.from_residual.result c.from_residual.ensures.1 in rw (p.1, p.2) λ past known among. record {
   live = lives_by_tree past c.args.self.now c.args.source.now known among c.requires.live;
-  stands = record { works = c.requires.working; faults = refl; represents = known };
+  stands = record { works = c.requires.source.works; faults = refl; represents = known };
   no_room = λ e. cc;
 }

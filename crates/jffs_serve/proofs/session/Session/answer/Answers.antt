@@ -13,13 +13,15 @@ pub returns-clause-replies : goal.returns-clause-replies
 returns-clause-replies g c put before now took start replies was =
     let answered = c.answer_with_node-outcome.result in
     let made = c.answer_with_node-outcome.ensures in
+    let kept = made.kept in
+    let bounded = made.bounded in
     let core = c.answer_with_node-outcome.new.self in
     let r : Reply = reply_of c.args.request answered.outcome answered.node in
     let nothing = subst (λ (k : Option PendingStep). HasReplied start c.args.self.now.core k put before replies) c.requires.sent was in (
       r ∷ [],
       subst (λ (e : Option Served). HasReplied start core (Some (Unput r.step e)) put now (replies ++ r ∷ [])) (sym c.ending_after.ensures)
           (replied_more start c.args.self.now.core core c.args.request answered.outcome answered.node c.is_unmount-unmounts.result
-          put before now replies c.requires.opened made.kept made.closed made.node (λ is. unmount_wish c.args.request.wish (sym c.is_unmount-unmounts.ensures ∙ is)) took made.sizes made.step made.failed made.erases nothing),
+          put before now replies c.requires.opened kept.answers kept.closed made.node (λ is. unmount_wish c.args.request.wish (sym c.is_unmount-unmounts.ensures ∙ is)) took bounded.sizes made.step kept.failed bounded.erases nothing),
       tt,
     )
 

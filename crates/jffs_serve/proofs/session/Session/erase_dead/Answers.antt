@@ -6,4 +6,6 @@ pub returns-clause-replies : goal.returns-clause-replies
 returns-clause-replies g c =
     let works : c.args.self.now.core.failed ≡ false = search rules in
     let e = c.erase_dead.ensures in
-    (e.same.answers, e.same.closed, refl, erased_dead c.args.self.now.core c.erase_dead.new.self c.erase_dead.result works e.sizes e.erased e.stopped e.causes e.erases)
+    let leaves = e.leaves in
+    let same = leaves.same in
+    (same.answers, same.closed, refl, erased_dead c.args.self.now.core c.erase_dead.new.self c.erase_dead.result works leaves.sizes e.erased e.stopped e.erases)

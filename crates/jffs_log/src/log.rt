@@ -1,7 +1,7 @@
 //! The log of a device.
 
-ghost use Rattle.std.specs.Prelude.{◌≡◌, ◌+◌, ◌-◌, ◌<◌, ◌≤◌, ℕ, true, false, map, nat_le, IsTrue};
-ghost use Rattle.std.specs.Prelude.{OnOk, IfErr};
+ghost use Rattle.std.specs.Prelude.{◌≡◌, ◌+◌, ◌-◌, ◌^◌, ◌<◌, ◌≤◌, ℕ, true, false, length, map};
+ghost use Rattle.std.specs.Prelude.{nat_le, IsTrue, OnOk, IfErr};
 ghost use Rattle.std.specs.VecDeque.{deque_len, deque_capacity};
 ghost use Rattle.jffs_log.specs.Ring.{IsAt};
 
@@ -82,6 +82,7 @@ impl<F: Flash> Log<F> {
     /// The records of the log, the oldest first. Takes no memory.
     pub fn records(&self) -> &VecDeque<RecordRef>
         ensures same { result.now ≡ self.now.index.records }
+        ensures few { length result.now.items < 2 ^ 32 }
         ensures listed { self.now.failed ≡ false
             → result.now.items ≡ map ref_of (log_records self.now) }
     {

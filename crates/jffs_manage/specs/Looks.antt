@@ -1,10 +1,16 @@
--- The texts of a line of `ls` and of what `df` writes.
-use Rattle.std.specs.Prelude.{ℕ, ◌-◌, Bool, List, ◌++◌}
+-- The texts that `ls` and `df` write.
+use Rattle.std.specs.Prelude.{ℕ, ◌-◌, Bool, List, [], ◌++◌, flat_map, unwrap_or}
 use Rattle.std.specs.Prelude.{codes, decimal, if◌then◌else◌}
-use Rattle.jffs_text.specs.Dump.{line_end}
+use Rattle.std.specs.Option.{option_map_or}
+use Rattle.jffs_tree.specs.State.{is_directory_in}
+use Rattle.jffs_tree.specs.Origin.{Tree, state_in}
+use Rattle.jffs_tree.specs.Look.{children, parent_name_in, size_of}
+use Rattle.jffs_text.specs.Dump.{by_name, line_end}
+use Rattle.jffs_log.specs.declared.log_index.RecordRef.{RecordRef}
 use Rattle.jffs_log.specs.LogIndex.{weight_in, log_in}
 use Rattle.jffs_log.specs.Room.{heavy}
 use Rattle.jffs_core.specs.CoreState.{CoreState}
+use Rattle.jffs_manage.specs.Weights.{live_bytes_in}
 use Rattle.jffs_manage.specs.declared.looking.Sight.{Sight}
 use Rattle.jffs_manage.specs.declared.looking.Usage.{Usage}
 
@@ -19,9 +25,36 @@ sight_text long sight =
     else if sight.directory then codes "d "
     else codes "f " ++ (decimal sight.size ++ codes " ")
 
--- the line of a name
 abbrev pub entry_text : Bool → Sight → List ℕ → List ℕ
 entry_text long sight name = sight_text long sight ++ (name ++ line_end)
+
+-- what is to be seen of an inode; what its records take is counted only in long lines
+abbrev pub sight_in : Bool → Tree → List RecordRef → ℕ → Sight
+sight_in long tree records i = record {
+  directory = is_directory_in (state_in tree) i;
+  size = unwrap_or (size_of tree i) 0;
+  live = if long then live_bytes_in tree i records else 0;
+}
+
+-- the line of a name and its inode
+abbrev pub name_line : Bool → Tree → List RecordRef → (List ℕ × ℕ) → List ℕ
+name_line long tree records a = entry_text long (sight_in long tree records a.1) a.0
+
+-- the lines of the names in a directory, in the order of their bytes
+abbrev pub directory_lines : Bool → Tree → List RecordRef → ℕ → List ℕ
+directory_lines long tree records i =
+    flat_map (name_line long tree records) (by_name (children i (state_in tree)))
+
+-- the line of an inode under its own name
+abbrev pub own_line : Bool → Tree → List RecordRef → ℕ → List ℕ
+own_line long tree records i =
+    option_map_or (λ a. name_line long tree records (a.1, i)) (parent_name_in tree i) []
+
+-- what `ls` writes of the inode at its path
+abbrev pub list_text : Bool → Tree → List RecordRef → ℕ → List ℕ
+list_text long tree records i =
+    if is_directory_in (state_in tree) i then directory_lines long tree records i
+    else own_line long tree records i
 
 abbrev pub sectors_line : Usage → List ℕ
 sectors_line u =

@@ -1,5 +1,7 @@
 //! What ends a command before its work is done.
 
+ghost use Rattle.std.specs.Prelude.{◌≡◌, ◌⊎◌};
+
 use jffs_file::{FileFault, StoreFault};
 use jffs_log::ScanWhy;
 use jffs_node::{NoMemory, PathFault};
@@ -157,6 +159,10 @@ impl VolumeFault {
 
 /// An error of standard output.
 impl From<io::Error> for VolumeFault {
+    ghost use Rattle.jffs_manage.specs.declared.fault.VolumeFault.TheVariants.{Memory, Write};
+
+    ghost from_gives = { λ _ fault. (fault ≡ Memory) ⊎ (fault ≡ Write) };
+
     fn from(error: io::Error) -> VolumeFault {
         match error.kind() {
             ErrorKind::OutOfMemory => VolumeFault::Memory,
@@ -187,6 +193,10 @@ impl From<StoreFault> for VolumeFault {
 }
 
 impl From<NoMemory> for VolumeFault {
+    ghost use Rattle.jffs_manage.specs.declared.fault.VolumeFault.TheVariants.{Memory};
+
+    ghost from_gives = { λ _ fault. fault ≡ Memory };
+
     fn from(_: NoMemory) -> VolumeFault {
         VolumeFault::Memory
     }

@@ -1,15 +1,16 @@
 //! What is written of a volume.
 
-ghost use Rattle.std.specs.Prelude.{◌≡◌, ◌-◌, ◌<◌, ◌^◌, true, false, None, IfOk, OnOk, length};
-ghost use Rattle.std.specs.Prelude.{unwrap_or};
+ghost use Rattle.std.specs.Prelude.{◌≡◌, ◌≢◌, ◌↔◌, ◌-◌, ◌<◌, ◌^◌, ℕ, true, false, Some, None};
+ghost use Rattle.std.specs.Prelude.{IfOk, OnOk, length};
 ghost use Rattle.std.specs.Io.KnownBytes.{Appends};
 ghost use Rattle.jffs_tree.specs.State.{resolve, is_directory_in};
 ghost use Rattle.jffs_tree.specs.Origin.{state_in};
-ghost use Rattle.jffs_tree.specs.Look.{bytes_in, size_of};
+ghost use Rattle.jffs_tree.specs.Look.{bytes_in};
 ghost use Rattle.jffs_log.specs.LogIndex.{weight_in, log_in};
 ghost use Rattle.jffs_log.specs.Room.{heavy};
 ghost use Rattle.jffs_manage.specs.Weights.{live_bytes_in};
-ghost use Rattle.jffs_manage.specs.Looks.{entry_text, usage_text, usage_in};
+ghost use Rattle.jffs_manage.specs.Looks.{entry_text, sight_in, directory_lines, list_text};
+ghost use Rattle.jffs_manage.specs.Looks.{usage_text, usage_in};
 
 use crate::fault::VolumeFault;
 use jffs_core::Core;
@@ -42,18 +43,40 @@ pub(crate) fn list<F: Flash, W: Write>(
     path: &Path,
     long: bool,
     out: &mut W,
-) -> Result<(), VolumeFault> {
+) -> Result<(), VolumeFault>
+    ensures written { (inode : ℕ) → resolve (state_in core.now.tree) path.now ≡ Some inode
+        → OnOk result (Appends (W.contents out.old) (W.contents out.new)
+        (list_text long core.now.tree core.now.index.records.items inode)) }
+    ensures nothing { (result ≡ Err VolumeFault.Nothing)
+        ↔ (resolve (state_in core.now.tree) path.now ≡ None) }
+{
     let tree = core.tree();
     let Some(inode) = tree.resolve(path) else {
         return Err(VolumeFault::Nothing);
     };
-    if !tree.is_directory(inode) {
-        if let Some((_, name)) = tree.parent_name(inode) {
-            write_entry(sight_of(core, inode, long), long, &name, out)?;
-        }
-        return Ok(());
+    if tree.is_directory(inode) {
+        return list_directory(core, inode, long, out);
     }
-    for (name, inode) in tree.names(inode)?.iter() {
+    if let Some((_, name)) = tree.parent_name(inode) {
+        write_entry(sight_of(core, inode, long), long, &name, out)?;
+    }
+    Ok(())
+}
+
+fn list_directory<F: Flash, W: Write>(
+    core: &Core<F>,
+    directory: u32,
+    long: bool,
+    out: &mut W,
+) -> Result<(), VolumeFault>
+    requires { is_directory_in (state_in core.now.tree) directory ≡ true }
+    ensures written { OnOk result
+        (Appends (W.contents out.old) (W.contents out.new)
+        (directory_lines long core.now.tree core.now.index.records.items directory)) }
+    ensures nothing { result ≢ Err VolumeFault.Nothing }
+{
+    let names = core.tree().names(directory)?;
+    for (name, inode) in names.iter() {
         write_entry(sight_of(core, *inode, long), long, name, out)?;
     }
     Ok(())
@@ -62,10 +85,7 @@ pub(crate) fn list<F: Flash, W: Write>(
 /// What is to be seen of an inode; what its records take is looked for only where `long` asks for
 /// it.
 fn sight_of<F: Flash>(core: &Core<F>, inode: u32, long: bool) -> Sight
-    ensures kind { result.directory ≡ is_directory_in (state_in core.now.tree) inode }
-    ensures size { result.size ≡ unwrap_or (size_of core.now.tree inode) 0 }
-    ensures live { long ≡ true → length core.now.index.records.items < 2 ^ 32
-        → result.live ≡ live_bytes_in core.now.tree inode core.now.index.records.items }
+    ensures { result ≡ sight_in long core.now.tree core.now.index.records.items inode }
 {
     let tree = core.tree();
     Sight {
@@ -79,19 +99,8 @@ fn sight_of<F: Flash>(core: &Core<F>, inode: u32, long: bool) -> Sight
     }
 }
 
-/// The lengths of the live records of an inode together, in bytes. No log has 2^32 records.
+/// The lengths of the live records of an inode together, in bytes.
 fn live_bytes(records: &VecDeque<RecordRef>, tree: &Tree, inode: u32) -> u64
-    ensures { length records.now.items < 2 ^ 32
-        → result ≡ live_bytes_in tree.now inode records.now.items }
-{
-    if records.len() <= u32::MAX as usize {
-        sum_of_live(records, tree, inode)
-    } else {
-        u64::MAX
-    }
-}
-
-fn sum_of_live(records: &VecDeque<RecordRef>, tree: &Tree, inode: u32) -> u64
     requires { length records.now.items < 2 ^ 32 }
     ensures { result ≡ live_bytes_in tree.now inode records.now.items }
 {

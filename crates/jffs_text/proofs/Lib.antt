@@ -1,4 +1,4 @@
-mod Adding
+pub mod Adding
 mod InOrder
-mod Told
+pub mod Told
 mod Hex

@@ -28,13 +28,15 @@ clean_sector-requires g c =
     let past = c.self.invariant.past works in
     let read = c.in_ok-nodes.ensures.read in
     let low = counted c.self.inside.log.device.image c.self.inside.log.index c.held.result (c.self.invariant.index works) c.held.ensures (let test = c.if-held-lt2.false in omega arith) in
-    record { oldest = subst (λ (v : CoreState). AreOldest c.deref.result.now v) (sym read.1) (record {
-      works = c.requires.working;
-      past = past.0;
-      known = subst (λ (v : CoreState). RepresentsWorking past.0 v) c.self.view_is past.1;
-      several = subst (λ (v : CoreState). 2 ≤ length (layout_in v.image v.index).sectors) c.self.view_is low;
-      are = c.deref.ensures.value ∙ read.0 ∙ oldest_is c.args.self.now.image c.args.self.now.index;
-    }) }
+    record {
+      oldest = subst (λ (v : CoreState). AreOldest c.deref.result.now v) (sym read.1) (record {
+        works = c.requires.working;
+        past = past.0;
+        known = subst (λ (v : CoreState). RepresentsWorking past.0 v) c.self.view_is past.1;
+        several = subst (λ (v : CoreState). 2 ≤ length (layout_in v.image v.index).sectors) c.self.view_is low;
+        are = c.deref.ensures.value ∙ read.0 ∙ oldest_is c.args.self.now.image c.args.self.now.index;
+      });
+    }
 
 pub returns-in_err-nodes-clause-stopped : goal.returns-in_err-nodes-clause-stopped
 returns-in_err-nodes-clause-stopped g c = let p = err_from_is_err_and c.from_residual.result c.from_residual.ensures.1 in rw (p.1, p.2) λ past known.

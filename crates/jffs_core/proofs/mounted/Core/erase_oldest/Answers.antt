@@ -69,16 +69,16 @@ returns-clause-erased g c = on_ok_weaker c.erase_oldest.result (λ e.
 
 pub returns-clause-stopped : goal.returns-clause-stopped
 returns-clause-stopped g c = IfErr-weaker c.erase_oldest.result _ _ (λ why f. record {
-      cause_is = f.cause_is;
-      history = λ past known.
-          let new = c.erase_oldest.new.self in
-          let h = subst (λ (v : CoreState). RepresentsWorking past v) (sym c.self.view_is) known in
-          refused_device why past c.args.self.now _ f.cause_is (record {
-            fails = f.failed;
-            faults = subst (λ k. k < new.device.faults) (ap (λ (v : CoreState). v.faults) c.self.view_is) f.device.faults;
-            left = erase_left past c.self.inside.log new _ why h f refl;
-          });
-    })
+  cause_is = f.cause_is;
+  history = λ past known.
+      let new = c.erase_oldest.new.self in
+      let h = subst (λ (v : CoreState). RepresentsWorking past v) (sym c.self.view_is) known in
+      refused_device why past c.args.self.now _ f.cause_is (record {
+        fails = f.failed;
+        faults = subst (λ k. k < new.device.faults) (ap (λ (v : CoreState). v.faults) c.self.view_is) f.device.faults;
+        left = erase_left past c.self.inside.log new _ why h f refl;
+      });
+})
     c.erase_oldest.ensures.failed
 
 pub returns-clause-erases : goal.returns-clause-erases

@@ -18,7 +18,7 @@ use Rattle.jffs_serve.proofs.Chains.{runs_from}
 use Rattle.jffs_serve.proofs.Erasing.{since_start}
 use Rattle.jffs_run.specs.declared.fault.RunFault.{RunFault}
 use Rattle.jffs_run.specs.declared.fault.RunWhy.{RunWhy}
-use Rattle.jffs_run.specs.Serving.{HasServed}
+use Rattle.jffs_serve.specs.Serving.{HasServed}
 use Rattle.jffs_run.specs.Faults.{GivesBack, LeftByServing, LeftByTurns}
 
 module _ {F : Type 0} (device : F → Device) where

@@ -2,7 +2,6 @@ pub mod Numbered
 pub mod Ends
 pub mod Started
 pub mod Crew
-pub mod Serving
 pub mod Looking
 pub mod Account
 pub mod Headline

@@ -2,7 +2,7 @@
 
 ghost use Rattle.std.specs.Prelude.{◌≡◌, IfSome};
 ghost use Rattle.jffs_serve.specs.Showing.{CanServe};
-ghost use Rattle.jffs_run.specs.Serving.{HasServed};
+ghost use Rattle.jffs_serve.specs.Serving.{HasServed};
 
 use crate::promise::{LogEnd, LogHandle, LogSide, Serves};
 use jffs_flash::Flash;

@@ -104,7 +104,7 @@ pub(crate) struct Serves<F: Flash, T: Taker, W: Wait + Drop> {
 }
 
 impl<F: Flash, T: Taker, W: Wait + Drop> Promise<LogEnd<F, T, W>> for Serves<F, T, W> {
-    ghost use Rattle.jffs_run.specs.Serving.{HasServed};
+    ghost use Rattle.jffs_serve.specs.Serving.{HasServed};
 
     ghost kept_by = { λ p r.
         (T.ends r.side.taker ≡ T.ends p.side.value.taker)

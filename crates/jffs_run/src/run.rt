@@ -7,7 +7,7 @@ ghost use Rattle.jffs_serve.specs.Showing.{CanServe};
 ghost use Rattle.jffs_tree.specs.declared.wish.Wish.TheVariants.{Unmount};
 ghost use Rattle.jffs_line.specs.Requests.{request};
 ghost use Rattle.jffs_run.specs.Crew.{IsFit, HasHandedIn};
-ghost use Rattle.jffs_run.specs.Serving.{HasServed};
+ghost use Rattle.jffs_serve.specs.Serving.{HasServed};
 ghost use Rattle.jffs_run.specs.Faults.{GivesBack, LeftByServing};
 ghost use Rattle.jffs_core.specs.Past.{IsLeftBy};
 ghost use Rattle.jffs_run.specs.Looking.{HaveSeen, IsWhole};

@@ -3,6 +3,7 @@ pub mod Replies
 pub mod Chain
 pub mod ChainLaws
 pub mod Answered
+pub mod Serving
 pub mod Showing
 pub mod Copies
 pub mod Jobs

@@ -8,6 +8,7 @@ ghost use Rattle.jffs_line.specs.declared.request.Request.{Request};
 ghost use Rattle.jffs_index.specs.Shown.{Shown};
 ghost use Rattle.jffs_serve.specs.PendingStep.{unput, IsReady};
 ghost use Rattle.jffs_serve.specs.Answered.{RepliesMore};
+ghost use Rattle.jffs_serve.specs.Serving.{HasServed};
 ghost use Rattle.jffs_serve.specs.Showing.{IsShown, CanServe};
 
 use crate::jobs::Jobs;
@@ -36,13 +37,9 @@ pub fn serve<R: Wait, W: Wait + Drop, F: Flash, T: Taker>(
 ) -> Served
     requires ready { CanServe session.old publisher.old }
     ensures ready { CanServe session.new publisher.new }
-    ensures replies { RepliesMore session.old (all_put publisher.old).steps (T.taken taker.old)
-        session.new (all_put publisher.new).steps (T.taken taker.new) (Some result) }
-    ensures published { result ≢ Served.Memory
-        → (session.new.unsent ≡ None) × (pending publisher.new ≡ []) }
+    ensures served { HasServed session.old publisher.old (T.taken taker.old) session.new
+        publisher.new (T.taken taker.new) result }
     ensures ends { T.ends taker.new ≡ T.ends taker.old }
-    ensures index { publisher_index publisher.new ≡ publisher_index publisher.old }
-    ensures opening { (all_put publisher.new).opening ≡ (all_put publisher.old).opening }
 {
     for _ in rt.forever() {
         if let Err(served) = answer_next(rt, session, taker) {

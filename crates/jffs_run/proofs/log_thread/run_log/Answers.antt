@@ -7,6 +7,7 @@ pub loop-preserved : goal.loop-preserved
 loop-preserved g c =
     let before = c.loop.invariant in
     let more = c.serve-served-in-loop.ensures in
+    let served = more.served in
     let now = c.serve-served-in-loop.new in
     record {
       ready = more.ready;
@@ -15,9 +16,9 @@ loop-preserved g c =
         replies = then_more c.args.side.session c.loop.session now.session
             (all_put c.args.side.publisher).steps (all_put c.loop.publisher).steps (all_put now.publisher).steps
             (g.T.Taker.taken c.args.side.taker) (g.T.Taker.taken c.loop.taker) (g.T.Taker.taken now.taker)
-            (Some c.loop.served) (Some c.serve-served-in-loop.result) before.served.replies more.replies;
-        published = more.published;
-        index = more.index ∙ before.served.index;
-        opening = more.opening ∙ before.served.opening;
+            (Some c.loop.served) (Some c.serve-served-in-loop.result) before.served.replies served.replies;
+        published = served.published;
+        index = served.index ∙ before.served.index;
+        opening = served.opening ∙ before.served.opening;
       };
     }

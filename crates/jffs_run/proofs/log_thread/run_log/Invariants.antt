@@ -1,6 +1,6 @@
 use Rattle.std.proofs.Common.{◌≡◌}
 use Rattle.jffs_serve.specs.Showing.{CanServe}
-use Rattle.jffs_run.specs.Serving.{HasServed}
+use Rattle.jffs_serve.specs.Serving.{HasServed}
 use Rattle.jffs_run.proofs.log_thread.run_log.Given as goal
 
 abbrev pub invariant-loop : goal.invariant-loop

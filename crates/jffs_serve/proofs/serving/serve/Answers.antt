@@ -30,26 +30,41 @@ tidied g c before_sending =
     start taken taken None c.in-Ok.ending before_sending (c.in-Ok.ensures.replies taken) in
     then_same c.args.session.now c.send_pending.new.session c.tidy.new.self first now start taken c.in-Ok.ending sent c.tidy.ensures.replies
 
-pub returns-in-Err-clause-replies : goal.returns-in-Err-clause-replies
-returns-in-Err-clause-replies g c =
-    let steps = (all_put c.loop.publisher).steps in
-    then_more c.args.session.now c.loop.session c.answer_next.new.session
-    (all_put c.args.publisher.now).steps steps steps
-    (g.T.Taker.taken c.args.taker.now) (g.T.Taker.taken c.loop.taker) (g.T.Taker.taken c.answer_next.new.taker)
-    None (Some c.in-Err.served) c.loop.invariant.replies (c.in-Err.ensures.replies steps)
+pub returns-in-Err-clause-served : goal.returns-in-Err-clause-served
+returns-in-Err-clause-served g c = record {
+  replies =
+      let steps = (all_put c.loop.publisher).steps in
+          then_more c.args.session.now c.loop.session c.answer_next.new.session
+          (all_put c.args.publisher.now).steps steps steps
+          (g.T.Taker.taken c.args.taker.now) (g.T.Taker.taken c.loop.taker) (g.T.Taker.taken c.answer_next.new.taker)
+          None (Some c.in-Err.served) c.loop.invariant.replies (c.in-Err.ensures.replies steps);
+  published = search rules;
+  index = search rules;
+  opening = search rules;
+}
 
-pub returns-in_default-send_pending-clause-replies : goal.returns-in_default-send_pending-clause-replies
-returns-in_default-send_pending-clause-replies g c =
-    let taken = g.T.Taker.taken c.answer_next.new.taker in
-    then_more c.args.session.now c.answer_next.new.session c.send_pending.new.session
-    (all_put c.args.publisher.now).steps (all_put c.loop.publisher).steps (all_put c.send_pending.new.publisher).steps
-    (g.T.Taker.taken c.args.taker.now) taken taken
-    None None (answered g (goal.at.returns-in_default-send_pending-clause-replies g c).In_default) (c.in_default-send_pending.ensures.replies taken)
+pub returns-in_default-send_pending-clause-served : goal.returns-in_default-send_pending-clause-served
+returns-in_default-send_pending-clause-served g c = record {
+  replies =
+      let taken = g.T.Taker.taken c.answer_next.new.taker in
+          then_more c.args.session.now c.answer_next.new.session c.send_pending.new.session
+          (all_put c.args.publisher.now).steps (all_put c.loop.publisher).steps (all_put c.send_pending.new.publisher).steps
+          (g.T.Taker.taken c.args.taker.now) taken taken
+          None None (answered g (goal.at.returns-in_default-send_pending-clause-served g c).In_default) (c.in_default-send_pending.ensures.replies taken);
+  published = search rules;
+  index = search rules;
+  opening = search rules;
+}
 
-pub returns-in-Some-ending-clause-replies : goal.returns-in-Some-ending-clause-replies
-returns-in-Some-ending-clause-replies g c =
-    subst (λ (e : Option Served). RepliesMore c.args.session.now (all_put c.args.publisher.now).steps (g.T.Taker.taken c.args.taker.now) c.tidy.new.self (all_put c.send_pending.new.publisher).steps (g.T.Taker.taken c.answer_next.new.taker) e)
-    c.in-Some-ending.is (tidied g (goal.at.returns-in-Some-ending-clause-replies g c).After-tidy (answered g (goal.at.returns-in-Some-ending-clause-replies g c).In_default))
+pub returns-in-Some-ending-clause-served : goal.returns-in-Some-ending-clause-served
+returns-in-Some-ending-clause-served g c = record {
+  replies =
+      subst (λ (e : Option Served). RepliesMore c.args.session.now (all_put c.args.publisher.now).steps (g.T.Taker.taken c.args.taker.now) c.tidy.new.self (all_put c.send_pending.new.publisher).steps (g.T.Taker.taken c.answer_next.new.taker) e)
+          c.in-Some-ending.is (tidied g (goal.at.returns-in-Some-ending-clause-served g c).After-tidy (answered g (goal.at.returns-in-Some-ending-clause-served g c).In_default));
+  published = search rules;
+  index = search rules;
+  opening = search rules;
+}
 
 pub loop-preserved : goal.loop-preserved
 loop-preserved g c = record {

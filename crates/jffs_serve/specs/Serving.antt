@@ -1,4 +1,4 @@
--- What the log thread does.
+-- What serving does.
 use Rattle.std.specs.Prelude.{◌≡◌, ◌≢◌, ℕ, List, [], None, Some}
 use Rattle.jffs_line.specs.declared.request.Request.{Request}
 use Rattle.jffs_index.specs.declared.publisher.Publisher.{Publisher}

@@ -1,59 +1,10 @@
 //! Each line that a command may end with on standard error, and its status.
 
-use super::plays;
-use crate::run_volume;
-use std::io::{ErrorKind, Read, Write};
+use super::{plays, refuses};
+use std::fs;
 use std::process::Abort;
 use std::rt::Files;
 use std::test::Fail;
-use std::{fs, io};
-
-/// Calls without input, each with its status and the line that it writes to standard error after
-/// `head`.
-fn refuses<Rt: Abort + Files + AllocGlobal + Clone + Drop>(
-    rt: &Rt,
-    head: &str,
-    rows: &[(&str, u8, &str)],
-) -> Result<(), Fail> {
-    for (line, status, told) in rows {
-        let wanted = format!(in rt.alloc(); "{head}{told}\n")?;
-        plays(rt, &[(*line, "", *status, wanted.as_str())])?;
-    }
-    Ok(())
-}
-
-#[test]
-fn each_word_that_is_wrong_has_its_line(rt: HostRuntime) -> Result<(), Fail> {
-    refuses(
-        &rt,
-        "jffs_volume: ",
-        &[
-            (
-                "creat r.image",
-                2,
-                "unknown command 'creat'; commands are format, ls, cat, put, mkdir, mv, rm, df, check, map, save and load",
-            ),
-            (
-                "ls r.image --all",
-                2,
-                "unknown option '--all'; options are -l, -r, --svg, --sector-size, --help and --version",
-            ),
-            ("cat r.image /f /g", 2, "unexpected word '/g'"),
-            ("mv r.image /f", 2, "words are missing: mv FILE PATH PATH"),
-            (
-                "format r.image six 1024",
-                2,
-                "a number is wanted, got 'six'",
-            ),
-            (
-                "ls r.image --sector-size",
-                2,
-                "--sector-size wants a number",
-            ),
-        ],
-    )?;
-    plays(&rt, &[("--version", "", 0, "jffs_volume 0.1.0\n")])
-}
 
 #[test]
 fn a_volume_that_is_not_there_or_not_made_has_its_line(rt: HostRuntime) -> Result<(), Fail> {
@@ -187,76 +138,6 @@ fn a_file_that_is_no_volume_has_its_line(rt: HostRuntime) -> Result<(), Fail> {
     )?;
     fs::remove_file(&rt, "z.image")?;
     Ok(())
-}
-
-#[test]
-fn each_command_refuses_a_word_too_many(rt: HostRuntime) -> Result<(), Fail> {
-    for line in [
-        "format a 6 1024 x",
-        "ls a /b x",
-        "cat a /b x",
-        "put a /b x",
-        "mkdir a /b x",
-        "mv a /b /c x",
-        "rm -r a /b x",
-        "df a x",
-        "check a x",
-        "map a x",
-        "save a b x",
-        "load a b x",
-    ] {
-        refuses(&rt, "jffs_volume: ", &[(line, 2, "unexpected word 'x'")])?;
-    }
-    Ok(())
-}
-
-#[test]
-fn each_command_refuses_an_option_of_another(rt: HostRuntime) -> Result<(), Fail> {
-    for (line, told) in [
-        (
-            "format -r a 6 1024",
-            "'-r': format FILE SECTORS SECTOR_SIZE",
-        ),
-        ("ls -r a", "'-r': ls [-l] FILE [PATH]"),
-        ("cat -l a /b", "'-l': cat FILE PATH"),
-        ("put -r a /b", "'-r': put FILE PATH"),
-        ("mkdir -r a /b", "'-r': mkdir FILE PATH"),
-        ("mv -r a /b /c", "'-r': mv FILE PATH PATH"),
-        ("rm -l a /b", "'-l': rm [-r] FILE PATH"),
-        ("df --svg a", "'--svg': df FILE"),
-        ("check -l a", "'-l': check FILE"),
-        ("map -l a", "'-l': map [--svg] FILE"),
-        ("save -r a b", "'-r': save FILE DIRECTORY"),
-        ("load -r a b", "'-r': load FILE DIRECTORY"),
-    ] {
-        refuses(&rt, "jffs_volume: unexpected option ", &[(line, 2, told)])?;
-    }
-    Ok(())
-}
-
-#[test]
-fn each_command_wants_its_words(rt: HostRuntime) -> Result<(), Fail> {
-    refuses(
-        &rt,
-        "jffs_volume: ",
-        &[
-            (
-                "--sector-size 1024",
-                2,
-                "a command is wanted: format, ls, cat, put, mkdir, mv, rm, df, check, map, save or load; --help tells more",
-            ),
-            (
-                "map -x a",
-                2,
-                "unknown option '-x'; options are -l, -r, --svg, --sector-size, --help and --version",
-            ),
-            ("save a", 2, "words are missing: save FILE DIRECTORY"),
-            ("load a", 2, "words are missing: load FILE DIRECTORY"),
-            ("map", 2, "words are missing: map [--svg] FILE"),
-            ("rm -r a", 2, "words are missing: rm [-r] FILE PATH"),
-            ("ls a --sector-size 1k", 2, "a number is wanted, got '1k'"),
-        ],
-    )
 }
 
 #[test]
@@ -461,70 +342,5 @@ fn what_a_load_refuses_has_its_text(rt: HostRuntime) -> Result<(), Fail> {
     )?;
     fs::remove_dir_all(&rt, "odd")?;
     fs::remove_file(&rt, "o.image")?;
-    Ok(())
-}
-
-/// A stream whose every call fails in this way.
-#[derive(Drop)]
-struct Broken {
-    kind: ErrorKind,
-}
-
-impl Read for Broken {
-    fn read(&mut self, _buf: &mut [u8]) -> io::Result<usize> {
-        Err(io::Error::from(self.kind))
-    }
-}
-
-impl Write for Broken {
-    fn write(&mut self, _buf: &[u8]) -> io::Result<usize> {
-        Err(io::Error::from(self.kind))
-    }
-
-    fn flush(&mut self) -> io::Result<()> {
-        Ok(())
-    }
-}
-
-#[test]
-fn each_fault_of_a_stream_has_its_text(rt: HostRuntime) -> Result<(), Fail> {
-    let _ = fs::remove_file(&rt, "b.image");
-    plays(
-        &rt,
-        &[
-            ("format b.image 6 1024", "", 0, ""),
-            ("mkdir b.image /d", "", 0, ""),
-        ],
-    )?;
-    for (command, kind, wanted) in [
-        (
-            "put",
-            ErrorKind::BrokenPipe,
-            "jffs_volume: b.image: /f: standard input can't be read\n",
-        ),
-        (
-            "put",
-            ErrorKind::OutOfMemory,
-            "jffs_volume: b.image: /f: out of memory\n",
-        ),
-        (
-            "ls",
-            ErrorKind::BrokenPipe,
-            "jffs_volume: b.image: /: standard output can't be written\n",
-        ),
-    ] {
-        let path = if command == "put" { "/f" } else { "/" };
-        let mut words = Vec::new(rt.alloc());
-        for word in ["jffs_volume", command, "b.image", path] {
-            words.push(String::from_str(rt.alloc(), word)?)?;
-        }
-        let mut input = Broken { kind };
-        let mut out = Broken { kind };
-        let mut errors = Vec::new(rt.alloc());
-        let ended = run_volume(&rt, &words, &mut input, &mut out, &mut errors, false);
-        assert_eq!(rt; ended, 1, "of {command}");
-        assert_eq!(rt; errors.as_slice(), wanted.as_bytes(), "of {command}");
-    }
-    fs::remove_file(&rt, "b.image")?;
     Ok(())
 }

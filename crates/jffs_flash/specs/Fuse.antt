@@ -1,6 +1,6 @@
 -- A device with a fuse: it lets a number of fused calls pass, and then fails each.
-use Rattle.std.specs.Prelude.{ℕ, Bool, true, false, ◌+◌, ◌-◌, ◌*◌, ◌/◌, ◌&&◌, ◌==◌, nat_lt, List}
-use Rattle.std.specs.Prelude.{◌++◌, length, take, drop, replicate}
+use Rattle.std.specs.Prelude.{◌≡◌, ℕ, Bool, true, false, ◌+◌, ◌-◌, ◌*◌, ◌/◌, ◌&&◌, ◌==◌, nat_lt}
+use Rattle.std.specs.Prelude.{List, ◌++◌, length, take, drop, replicate}
 use Rattle.jffs_flash.specs.declared.fuse.Fused.{Fused}
 use Rattle.jffs_flash.specs.declared.fuse.Fused.TheVariants.{Writes, All}
 use Rattle.jffs_flash.specs.declared.fuse.Fail.{Fail}
@@ -84,3 +84,8 @@ abbrev pub read_left : Fail → ℕ → List ℕ → List ℕ → List ℕ
 read_left Nothing at buffer image = buffer
 read_left Half at buffer image =
     window at (length buffer / 2) image ++ drop (length buffer / 2) buffer
+
+-- A read failed: the fuse counts it, and its buffer is as the failure left it.
+pub record FailsRead (at : ℕ) (was now : List ℕ) (old new : Fuse) : Type 0 where
+  pub fuse : new ≡ after_fault old old.inner.image
+  pub buffer : now ≡ read_left old.fail at was old.inner.image

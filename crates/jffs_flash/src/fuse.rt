@@ -6,7 +6,7 @@ ghost use Rattle.jffs_flash.specs.Device.{Reads, Programs, Erases};
 ghost use Rattle.jffs_flash.specs.Image.{window, programmed, erased};
 ghost use Rattle.jffs_flash.specs.Fuse.{seen_device, is_blown, fuses_reads, after_pass, after_read};
 ghost use Rattle.jffs_flash.specs.Fuse.{after_fault, after_failed_erase, program_left, erase_left};
-ghost use Rattle.jffs_flash.specs.Fuse.{read_left, fuse_of};
+ghost use Rattle.jffs_flash.specs.Fuse.{fuse_of, FailsRead};
 
 use crate::flash::{Flash, FlashFault};
 use crate::memory::MemoryFlash;
@@ -117,8 +117,7 @@ impl FuseFlash {
     fn fail_read(&mut self, at: u32, buffer: &mut [u8])
         requires inside { at + length buffer.old ≤ length self.old.inner.image }
         requires blown { IsTrue (is_blown self.old) }
-        ensures fuse { self.new ≡ after_fault self.old self.old.inner.image }
-        ensures left { buffer.new ≡ read_left self.old.fail at buffer.old self.old.inner.image }
+        ensures { FailsRead at buffer.old buffer.new self.old self.new }
     {
         match self.fail {
             Fail::Nothing => {}
@@ -184,9 +183,7 @@ impl Flash for FuseFlash {
         requires { at + length buffer.old ≤ length self.old.inner.image }
         ensures fails { IsErr result ↔ IsTrue (fuses_reads self.old.fused && is_blown self.old) }
         ensures passed { OnOk result (self.new ≡ after_read self.old.fused self.old) }
-        ensures failed { OnErr result (self.new ≡ after_fault self.old self.old.inner.image) }
-        ensures left { OnErr result
-            (buffer.new ≡ read_left self.old.fail at buffer.old self.old.inner.image) }
+        ensures failed { OnErr result (FailsRead at buffer.old buffer.new self.old self.new) }
 
         // What each device promises.
         ensures device { Reads result (seen_device self.old) (seen_device self.new) }

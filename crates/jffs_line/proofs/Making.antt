@@ -1,5 +1,5 @@
 -- The making of a shared line.
-use Rattle.std.proofs.Common.{◌≡◌, ◌≢◌, ℕ, zero, suc, ◌+◌, ◌-◌, ◌<◌, ◌≤◌, true, List, [], ◌∷◌, ◌++◌, map, drop, sym, ap, ap₂, ◌∙◌, subst, map-id, arith}
+use Rattle.std.proofs.Common.{◌≡◌, ◌≢◌, ℕ, zero, suc, ◌+◌, ◌-◌, ◌<◌, ◌≤◌, true, List, [], ◌∷◌, ◌++◌, map, drop, refl, sym, ap, ap₂, ◌∙◌, subst, map-id, arith}
 use Rattle.std.specs.List.{All, range_with_len}
 use Rattle.std.proofs.lemmas.List.{map-append}
 use Rattle.std.proofs.lemmas.List.Elements.{All-nil, All-cons, All-weaker}
@@ -8,7 +8,7 @@ use mathlib.Core.List.{map-map}
 use Rattle.jffs_line.specs.declared.knows.Sent.{Sent}
 use Rattle.jffs_line.specs.declared.knows.Knows.{Knows}
 use Rattle.jffs_line.specs.declared.shared.SharedHand.{SharedHand}
-use Rattle.jffs_line.specs.InOrder.{knows, sent_by, silent, without_first}
+use Rattle.jffs_line.specs.InOrder.{knows, sent_by, silent, without_first, BeginsWith}
 use Rattle.jffs_line.specs.Line.{Line, End, senders}
 use Rattle.jffs_line.specs.Shared.{shared_end}
 
@@ -22,12 +22,12 @@ silent_more : (i : ℕ) → i < 8 → silent (i + 1) (8 - i) ≡ sent_by (i + 1)
 silent_more i h = let e : 8 - i ≡ suc (8 - (i + 1)) = omega arith in ap (silent (i + 1)) e
 
 -- the next writer's entry stands first, and no later one is of that writer
-pub apart_next : (i : ℕ) (v : Knows) → i < 8 → v ≡ knows true [] (silent (i + 1) (8 - i)) → All (λ (s : Sent). s.sender ≢ i + 1) (drop 1 v.sent)
-apart_next i v h is =
+pub begins_next : (i : ℕ) (v : Knows) → i < 8 → v ≡ knows true [] (silent (i + 1) (8 - i)) → BeginsWith (i + 1) v
+begins_next i v h is =
     let P : Sent → Type 0 = λ s. s.sender ≢ i + 1 in
     let rest : List Sent = silent (i + 1 + 1) (8 - (i + 1)) in
     let far : All P rest = All-weaker (λ (s : Sent). i + 1 + 1 ≤ s.sender) P (λ s far same. omega arith) rest (silent_from (i + 1 + 1) (8 - (i + 1))) in
-    subst (λ (u : Knows). All P (drop 1 u.sent)) (sym is) (subst (λ (l : List Sent). All P (drop 1 l)) (sym (silent_more i h)) far)
+    subst (λ (u : Knows). BeginsWith (i + 1) u) (sym (is ∙ ap (λ (l : List Sent). knows true [] l) (silent_more i h))) (record { first = refl; once = far })
 
 pub rest_next : (i : ℕ) (v w : Knows) → i < 8 → v ≡ knows true [] (silent (i + 1) (8 - i)) → w ≡ without_first v → w ≡ knows true [] (silent (i + 1 + 1) (8 - (i + 1)))
 rest_next i v w h is cut = cut ∙ ap without_first is ∙ ap (λ (l : List Sent). knows true [] (drop 1 l)) (silent_more i h)

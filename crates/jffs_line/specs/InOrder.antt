@@ -1,6 +1,6 @@
 -- The rule of the shared line.
-use Rattle.std.specs.Prelude.{◌≡◌, ℕ, zero, suc, ◌+◌, ◌<◌, ◌⊎◌, Bool, true, false, List, [], ◌∷◌}
-use Rattle.std.specs.Prelude.{◌++◌, map, take, drop}
+use Rattle.std.specs.Prelude.{◌≡◌, ◌≢◌, ℕ, zero, suc, ◌+◌, ◌<◌, ◌⊎◌, Bool, true, false, List, []}
+use Rattle.std.specs.Prelude.{◌∷◌, ◌++◌, map, take, drop}
 use Rattle.std.specs.List.{All}
 use mathlib.Core.Option.{some}
 use lib.ListN.{get_elem?}
@@ -66,6 +66,12 @@ HandsIn v x u =
 
 abbrev pub Takes : Knows → Request → Knows → Type 0
 Takes v x u = u ≡ knows v.takes (v.taken ++ x ∷ []) v.sent
+
+-- The first sender that the pass speaks for is this one: it has handed in nothing, and stands there
+-- once.
+pub record BeginsWith (sender : ℕ) (v : Knows) : Type 0 where
+  pub first : v ≡ knows v.takes v.taken (sent_by sender [] ∷ drop 1 v.sent)
+  pub once : All (λ (s : Sent). s.sender ≢ sender) (drop 1 v.sent)
 
 -- the first sender is cut off
 abbrev pub without_first : Knows → Knows

@@ -1,5 +1,5 @@
 -- What contracts see of the ends of rings.
-use Rattle.std.specs.Prelude.{ℕ, List, [], ◌∷◌, ◌++◌, ◌≢◌, map, cond, eqb}
+use Rattle.std.specs.Prelude.{◌≡◌, ℕ, List, [], ◌∷◌, ◌++◌, ◌≢◌, map, cond, eqb}
 use Rattle.rtrb.specs.Ring.{sent, received, producer_capacity}
 use Rattle.std.specs.List.{All}
 use Rattle.jffs_line.specs.declared.request.Request.{Request}
@@ -51,6 +51,13 @@ all_ring_hands hands = hands.writers.items ++ hands.cleaner ∷ hands.control.ha
 
 abbrev pub ring_capacity : RingHand → ℕ
 ring_capacity h = producer_capacity h.producer
+
+-- Each of these hands has its ring, in the same order, with room for `capacity` requests, of which
+-- none was handed in or taken.
+pub record AreFresh (capacity : ℕ) (hands : List RingHand) (rings : List Ring) : Type 0 where
+  pub ends : map ring_hand_end hands ≡ map ring_end rings
+  pub none_accepted : All (λ h. (ring_accepted h ≡ []) × (ring_capacity h ≡ capacity)) hands
+  pub none_taken : All (λ r. ring_taken r ≡ []) rings
 
 -- no number stands twice
 abbrev pub Apart : List ℕ → Type 0

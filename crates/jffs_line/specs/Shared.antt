@@ -1,5 +1,6 @@
 -- What contracts see of the shared line's ends.
 use Rattle.std.specs.Prelude.{◌≡◌, ℕ, List, [], ◌∷◌, ◌++◌, length, map}
+use Rattle.std.specs.List.{All, range_with_len}
 use Rattle.crossbeam_channel.specs.Claims.{view}
 use Rattle.crossbeam_channel.specs.Ends.{sends_on, receives_on, ruled_capacity}
 use Rattle.crossbeam_channel.specs.declared.flavors.array.Rows.{Rows}
@@ -50,6 +51,13 @@ all_hands hands = hands.writers.items ++ hands.cleaner ∷ hands.control.hand �
 
 abbrev pub shared_taken : SharedTaker → ℕ → List Request
 shared_taken t w = of w (view t.pass).taken
+
+-- These hands at a line of this capacity are those of the first `count` writers, in order, and have
+-- handed in nothing.
+pub record AreFirstWriters (line : Line) (capacity count : ℕ) (hands : List SharedHand) :
+    Type 0 where
+  pub ends : map shared_end hands ≡ map (λ w. (w, line)) (range_with_len 1 count)
+  pub fresh : All (λ h. (shared_accepted h ≡ []) × (shared_capacity h ≡ capacity)) hands
 
 -- at one moment the line held nothing
 abbrev pub WasEmpty : SharedTaker → Type 0

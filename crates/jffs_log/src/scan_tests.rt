@@ -135,7 +135,7 @@ fn bad(place: u32, why: Why) -> Seen {
 }
 
 #[test]
-fn scan_refusals(rt: HostRuntime) -> Result<(), TestFail> {
+fn a_log_out_of_order_is_refused(rt: HostRuntime) -> Result<(), TestFail> {
     let alloc = rt.alloc();
     let mut scattered = erased(alloc)?;
     put(&rt, &mut scattered, 0, &file(alloc, 1, 2));
@@ -148,16 +148,16 @@ fn scan_refusals(rt: HostRuntime) -> Result<(), TestFail> {
     }
     assert_eq!(rt; look_at(&rt, full), Seen::Refused(ScanWhy::NoErased));
 
-    let mut flags = erased(alloc)?;
-    put(&rt, &mut flags, 0, &file(alloc, 1, 2));
-    put_bytes(&rt, &mut flags, 5, &[4]);
-    assert_eq!(rt; look_at(&rt, flags), bad(0, Why::Flags));
-
     let mut order = erased(alloc)?;
     put(&rt, &mut order, 0, &file(alloc, 2, 2));
     put(&rt, &mut order, 64, &file(alloc, 1, 2));
     assert_eq!(rt; look_at(&rt, order), Seen::Refused(ScanWhy::BadOrder));
+    Ok(())
+}
 
+#[test]
+fn nodes_that_make_no_tree_are_refused(rt: HostRuntime) -> Result<(), TestFail> {
+    let alloc = rt.alloc();
     let mut orphan = erased(alloc)?;
     let mut node = file(alloc, 1, 2);
     node.parent = 9;
@@ -170,6 +170,16 @@ fn scan_refusals(rt: HostRuntime) -> Result<(), TestFail> {
     node.bytes = copied(alloc, b"a")?;
     put(&rt, &mut hole, 0, &node);
     assert_eq!(rt; look_at(&rt, hole), Seen::Refused(ScanWhy::BadTree));
+    Ok(())
+}
+
+#[test]
+fn a_bad_record_is_refused_and_half_a_record_is_skipped(rt: HostRuntime) -> Result<(), TestFail> {
+    let alloc = rt.alloc();
+    let mut flags = erased(alloc)?;
+    put(&rt, &mut flags, 0, &file(alloc, 1, 2));
+    put_bytes(&rt, &mut flags, 5, &[4]);
+    assert_eq!(rt; look_at(&rt, flags), bad(0, Why::Flags));
 
     let mut half = erased(alloc)?;
     put(&rt, &mut half, 0, &file(alloc, 1, 2));

@@ -3,8 +3,10 @@
 mod faults;
 mod images;
 mod maps;
+mod streams;
 mod texts;
 mod trees;
+mod words;
 
 use crate::run_volume;
 use std::fs;
@@ -33,6 +35,20 @@ fn plays<Rt: Abort + Files + AllocGlobal + Clone + Drop>(
         assert_eq!(rt; ended, *status, "of {line}");
         let told = if ended == 0 { &out } else { &errors };
         assert_eq!(rt; told.as_slice(), wanted.as_bytes(), "of {line}");
+    }
+    Ok(())
+}
+
+/// Calls without input, each with its status and the line that it writes to standard error after
+/// `head`.
+fn refuses<Rt: Abort + Files + AllocGlobal + Clone + Drop>(
+    rt: &Rt,
+    head: &str,
+    rows: &[(&str, u8, &str)],
+) -> Result<(), Fail> {
+    for (line, status, told) in rows {
+        let wanted = format!(in rt.alloc(); "{head}{told}\n")?;
+        plays(rt, &[(*line, "", *status, wanted.as_str())])?;
     }
     Ok(())
 }

@@ -1,6 +1,6 @@
 -- What one more node makes of a tree.
-use Rattle.std.specs.Prelude.{◌≡◌, ◌≤◌, ℕ, Bool, IsTrue, true, not, ◌&&◌, ◌||◌, ◌==◌, nat_le, ◌+◌}
-use Rattle.std.specs.Prelude.{◌-◌, List, [], ◌++◌, length, take, drop, replicate, Option, Some}
+use Rattle.std.specs.Prelude.{◌≡◌, ◌≢◌, ◌≤◌, ℕ, Bool, IsTrue, true, not, ◌&&◌, ◌||◌, ◌==◌, nat_le}
+use Rattle.std.specs.Prelude.{◌+◌, ◌-◌, List, [], ◌++◌, length, take, drop, replicate, Option, Some}
 use Rattle.std.specs.Prelude.{None, IfSome, option_map, unwrap_or, is_some, if◌then◌else◌}
 use Rattle.std.specs.FinMap.Entries as entries
 use Rattle.std.specs.Ordering.{nat_cmp}
@@ -80,6 +80,12 @@ pub record IsSmall (n : Node) : Type 0 where
   pub range : n.offset + dsize n ≤ file_max
   pub size : unwrap_or n.size 0 ≤ file_max
   pub inside : IfSome n.size (λ s. n.offset + dsize n ≤ s)
+
+-- Under its name the node can be written over what is kept of its inode.
+pub record IsWritableOver (old : Held) (n : Node) (name : List ℕ) : Type 0 where
+  pub named : n.name ≡ Some name
+  pub small : IsSmall n
+  pub offsets : dsize n ≢ n.rsize → length old.entry.bytes ≤ n.offset + n.rsize
 
 -- Under its name the node can be written over its inode in a tree, present or not.
 pub record IsWritable (tree : Tree) (n : Node) (name : List ℕ) : Type 0 where

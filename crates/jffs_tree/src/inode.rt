@@ -5,7 +5,7 @@ ghost use Rattle.std.specs.Prelude.{false, is_some, min, length, take, drop, OnO
 ghost use Rattle.std.specs.Prelude.{slice_index_or};
 ghost use Rattle.std.specs.List.{list_all};
 ghost use Rattle.jffs_node.specs.Record.{dsize};
-ghost use Rattle.jffs_tree.specs.After.{held_after, IsSmall};
+ghost use Rattle.jffs_tree.specs.After.{held_after, IsWritableOver};
 ghost use Rattle.jffs_tree.specs.Marks.{HasMarks, MovesMarks, SameMarks, HasByteMarks};
 ghost use Rattle.jffs_tree.specs.Marks.{LosesByteMarks};
 ghost use Rattle.jffs_tree.specs.Check.{bytes_are_written};
@@ -78,10 +78,7 @@ impl Inode {
         name: Name,
         marks: &mut Marks,
     ) -> Result<(), AllocError>
-        requires named { node.now.name ≡ Some name }
-        requires small { IsSmall node.now }
-        requires offsets { dsize node.now ≢ node.now.rsize
-            → length self.old.entry.bytes ≤ node.now.offset + node.now.rsize }
+        requires writable { IsWritableOver self.old node.now name }
         requires marked { HasMarks marks.old node.now self.old }
         ensures ok { OnOk result (self.new ≡ held_after node.now (Some self.old)) }
         ensures marks { OnOk result (MovesMarks marks.old marks.new node.now self.old self.new) }

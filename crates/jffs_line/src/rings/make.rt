@@ -5,6 +5,7 @@ ghost use Rattle.std.specs.List.{range_with_len};
 ghost use Rattle.jffs_line.specs.Line.{senders};
 ghost use Rattle.jffs_line.specs.Rings.{ring_end, ring_hand_end, ring_accepted, ring_capacity};
 ghost use Rattle.jffs_line.specs.Rings.{ring_taken, rings_ends, rings_taken, all_ring_hands};
+ghost use Rattle.jffs_line.specs.Rings.{AreFresh};
 ghost use Rattle.jffs_line.specs.declared.request.LineFault.TheVariants.{Capacity, Senders};
 
 use super::bell::Bell;
@@ -53,16 +54,10 @@ fn add(
     hands: &mut Vec<RingHand>,
     rings: &mut Vec<Ring>,
 ) -> Result<(), AllocError>
-    requires ends { map ring_hand_end hands.old.items ≡ map ring_end rings.old.items }
-    requires fresh { All (λ h. (ring_accepted h ≡ []) × (ring_capacity h ≡ capacity))
-        hands.old.items }
-    requires taken { All (λ r. ring_taken r ≡ []) rings.old.items }
-    ensures ends { OnOk result (map ring_hand_end hands.new.items ≡ map ring_end rings.new.items) }
+    requires { AreFresh capacity hands.old.items rings.old.items }
+    ensures fresh { OnOk result (AreFresh capacity hands.new.items rings.new.items) }
     ensures numbers { OnOk result
         (map (λ r. r.number) rings.new.items ≡ map (λ r. r.number) rings.old.items ++ number ∷ []) }
-    ensures fresh { OnOk result
-        (All (λ h. (ring_accepted h ≡ []) × (ring_capacity h ≡ capacity)) hands.new.items) }
-    ensures taken { OnOk result (All (λ r. ring_taken r ≡ []) rings.new.items) }
 {
     let (hand, ring) = ring(alloc, capacity, number, taker)?;
     hands.push(hand)?;
@@ -78,11 +73,8 @@ fn writer_rings(
     taker: &Unparker,
 ) -> Result<(Vec<RingHand>, Vec<Ring>), AllocError>
     requires few { count ≤ 8 }
-    ensures ends { IfOk result (λ r. map ring_hand_end r.0.items ≡ map ring_end r.1.items) }
+    ensures fresh { IfOk result (λ r. AreFresh capacity r.0.items r.1.items) }
     ensures numbers { IfOk result (λ r. map (λ x. x.number) r.1.items ≡ range_with_len 1 count) }
-    ensures fresh { IfOk result
-        (λ r. All (λ h. (ring_accepted h ≡ []) × (ring_capacity h ≡ capacity)) r.0.items) }
-    ensures taken { IfOk result (λ r. All (λ x. ring_taken x ≡ []) r.1.items) }
 {
     let mut hands = Vec::new(alloc);
     let mut rings = Vec::new(alloc);

@@ -1,14 +1,14 @@
 //! The making of a shared line: the first pass speaks for all senders, and each hand gets its own
 //! from it.
-ghost use Rattle.std.specs.Prelude.{◌≡◌, ◌≢◌, ℕ, ◌+◌, ◌-◌, ◌<◌, ◌≤◌, ◌⊎◌, ◌↔◌, [], ◌∷◌, true, map};
-ghost use Rattle.std.specs.Prelude.{drop, All, OnOk, IfOk, IsErrAnd};
-ghost use Rattle.std.specs.List.{range_with_len};
+ghost use Rattle.std.specs.Prelude.{◌≡◌, ℕ, ◌+◌, ◌-◌, ◌<◌, ◌≤◌, ◌⊎◌, ◌↔◌, [], true, map, All};
+ghost use Rattle.std.specs.Prelude.{OnOk, IfOk, IsErrAnd};
 ghost use Rattle.crossbeam_channel.specs.Claims.{view, IsSeatAt};
 ghost use Rattle.crossbeam_channel.specs.Ends.{sends_on, ruled_capacity};
-ghost use Rattle.jffs_line.specs.InOrder.{knows, sent_by, silent, without_first};
+ghost use Rattle.jffs_line.specs.InOrder.{knows, silent, without_first, BeginsWith};
 ghost use Rattle.jffs_line.specs.Line.{senders};
 ghost use Rattle.jffs_line.specs.Shared.{channel_line, shared_end, shared_accepted};
 ghost use Rattle.jffs_line.specs.Shared.{shared_capacity, shared_ends, shared_taken, all_hands};
+ghost use Rattle.jffs_line.specs.Shared.{AreFirstWriters};
 ghost use Rattle.jffs_line.specs.declared.request.LineFault.TheVariants.{Capacity, Senders};
 
 use super::{Each, EachInOrder, Receives, Sends, SharedHand, SharedLine, SharedPass, SharedTaker};
@@ -26,10 +26,7 @@ fn first_hand(
     number: u16,
 ) -> Result<SharedHand, AllocError>
     requires seat { IsSeatAt (sends_on sends.now) pass.old }
-    requires first { view pass.old
-        ≡ knows (view pass.old).takes (view pass.old).taken
-        (sent_by number [] ∷ drop 1 (view pass.old).sent) }
-    requires apart { All (λ s. s.sender ≢ number) (drop 1 (view pass.old).sent) }
+    requires first { BeginsWith number (view pass.old) }
     requires number { (0 < number) × (number ≤ 10) }
     ensures seat { IsSeatAt (sends_on sends.now) pass.new }
     ensures rest { OnOk result (view pass.new ≡ without_first (view pass.old)) }
@@ -63,12 +60,9 @@ fn writer_hands(
     requires few { count ≤ 8 }
     ensures seat { IsSeatAt (sends_on sends.now) pass.new }
     ensures rest { OnOk result (view pass.new ≡ knows true [] (silent (count + 1) (8 - count))) }
-    ensures ends { IfOk result
-        (λ hands. map shared_end hands.items
-        ≡ map (λ w. (w, channel_line (sends_on sends.now))) (range_with_len 1 count)) }
-    ensures fresh { IfOk result
-        (λ hands. All (λ h. (shared_accepted h ≡ [])
-        × (shared_capacity h ≡ ruled_capacity (sends_on sends.now))) hands.items) }
+    ensures writers { IfOk result
+        (λ hands. AreFirstWriters (channel_line (sends_on sends.now))
+        (ruled_capacity (sends_on sends.now)) count hands.items) }
 {
     let mut hands = Vec::new(alloc);
     for index in 0..count {

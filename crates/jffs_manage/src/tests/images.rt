@@ -33,7 +33,7 @@ fn image_of(alloc: Global, sectors: &[[u8; 64]]) -> Result<Vec<u8>, Fail> {
 }
 
 #[test]
-fn numbers_that_are_spent_have_their_texts(rt: HostRuntime) -> Result<(), Fail> {
+fn versions_that_are_spent_have_their_text(rt: HostRuntime) -> Result<(), Fail> {
     let spent = directory(2, 1, u32::MAX);
     let image = image_of(rt.alloc(), &[spent, FREE, FREE, FREE, FREE, FREE])?;
     fs::write(&rt, "n.image", image)?;
@@ -56,29 +56,35 @@ fn numbers_that_are_spent_have_their_texts(rt: HostRuntime) -> Result<(), Fail> 
             ),
         ],
     )?;
+    fs::remove_file(&rt, "n.image")?;
+    Ok(())
+}
+
+#[test]
+fn inodes_that_are_spent_have_their_text(rt: HostRuntime) -> Result<(), Fail> {
     let spent = directory(u32::MAX, 1, 1);
     let image = image_of(rt.alloc(), &[spent, FREE, FREE, FREE, FREE, FREE])?;
-    fs::write(&rt, "n.image", image)?;
+    fs::write(&rt, "i.image", image)?;
     plays(
         &rt,
         &[
             (
-                "mkdir n.image /e",
+                "mkdir i.image /e",
                 "",
                 4,
-                "jffs_volume: n.image: /e: no inode number is left\n",
+                "jffs_volume: i.image: /e: no inode number is left\n",
             ),
             (
-                "put n.image /e",
+                "put i.image /e",
                 "text",
                 4,
-                "jffs_volume: n.image: /e: no inode number is left\n",
+                "jffs_volume: i.image: /e: no inode number is left\n",
             ),
-            ("mv n.image /d /e", "", 0, ""),
-            ("ls n.image", "", 0, "d e\n"),
+            ("mv i.image /d /e", "", 0, ""),
+            ("ls i.image", "", 0, "d e\n"),
         ],
     )?;
-    fs::remove_file(&rt, "n.image")?;
+    fs::remove_file(&rt, "i.image")?;
     Ok(())
 }
 

@@ -2,6 +2,8 @@
 
 use super::plays;
 use std::fs;
+use std::process::Abort;
+use std::rt::Files;
 use std::test::Fail;
 
 #[test]
@@ -34,12 +36,9 @@ fn a_directory_is_removed_with_all_below_it(rt: HostRuntime) -> Result<(), Fail>
     Ok(())
 }
 
-#[test]
-fn what_is_saved_loads_again(rt: HostRuntime) -> Result<(), Fail> {
-    let _ = fs::remove_file(&rt, "s.image");
-    let _ = fs::remove_dir_all(&rt, "saved");
+fn saves_a_tree<Rt: Abort + Files + AllocGlobal + Clone + Drop>(rt: &Rt) -> Result<(), Fail> {
     plays(
-        &rt,
+        rt,
         &[
             ("format s.image 8 1024", "", 0, ""),
             ("mkdir s.image /d", "", 0, ""),
@@ -61,14 +60,19 @@ fn what_is_saved_loads_again(rt: HostRuntime) -> Result<(), Fail> {
         ("saved/g", "two"),
         ("saved/empty", ""),
     ] {
-        let found = fs::read(&rt, path)?;
+        let found = fs::read(rt, path)?;
         assert_eq!(rt; found.as_slice(), wanted.as_bytes(), "of {path}");
     }
-    fs::write(&rt, "saved/g", "another")?;
-    fs::create_dir(&rt, "saved/new")?;
-    fs::write(&rt, "saved/new/h", "four!")?;
+    Ok(())
+}
+
+/// The saved tree is changed on the host, and loaded over the same volume.
+fn loads_the_tree<Rt: Abort + Files + AllocGlobal + Clone + Drop>(rt: &Rt) -> Result<(), Fail> {
+    fs::write(rt, "saved/g", "another")?;
+    fs::create_dir(rt, "saved/new")?;
+    fs::write(rt, "saved/new/h", "four!")?;
     plays(
-        &rt,
+        rt,
         &[
             ("rm s.image /empty", "", 0, ""),
             ("put s.image /kept", "kept", 0, ""),
@@ -83,7 +87,15 @@ fn what_is_saved_loads_again(rt: HostRuntime) -> Result<(), Fail> {
             ("cat s.image /g", "", 0, "another"),
             ("cat s.image /new/h", "", 0, "four!"),
         ],
-    )?;
+    )
+}
+
+#[test]
+fn what_is_saved_loads_again(rt: HostRuntime) -> Result<(), Fail> {
+    let _ = fs::remove_file(&rt, "s.image");
+    let _ = fs::remove_dir_all(&rt, "saved");
+    saves_a_tree(&rt)?;
+    loads_the_tree(&rt)?;
     fs::remove_dir_all(&rt, "saved")?;
     fs::remove_file(&rt, "s.image")?;
     Ok(())

@@ -42,7 +42,6 @@ fn plays<Rt: Abort + AllocGlobal + Files<File: Send> + Threads + Wait + Sync>(
 fn a_script_comes_from_a_file_or_from_standard_input(rt: HostRuntime) -> Result<(), Fail> {
     let _ = fs::remove_file(&rt, "c.image");
     fs::write(&rt, "c.script", SCRIPT)?;
-    fs::write(&rt, "bad.script", "volume 8 1024\n\ncreat /f\n")?;
     plays(
         &rt,
         &[
@@ -65,6 +64,26 @@ fn a_script_comes_from_a_file_or_from_standard_input(rt: HostRuntime) -> Result<
             ),
             ("--version", "", 0, "jffs 0.1.0\n", ""),
             (
+                "--volume c.image",
+                "volume 6 1024\nwriter\ncreate /f 1",
+                2,
+                "bad script, line 3: Command\n",
+                "jffs: line 3: unexpected word '1': create PATH\n",
+            ),
+        ],
+    )?;
+    fs::remove_file(&rt, "c.image")?;
+    fs::remove_file(&rt, "c.script")?;
+    Ok(())
+}
+
+#[test]
+fn a_script_that_is_bad_or_not_there_is_told_of(rt: HostRuntime) -> Result<(), Fail> {
+    fs::write(&rt, "bad.script", "volume 8 1024\n\ncreat /f\n")?;
+    plays(
+        &rt,
+        &[
+            (
                 "bad.script",
                 "",
                 2,
@@ -79,39 +98,42 @@ fn a_script_comes_from_a_file_or_from_standard_input(rt: HostRuntime) -> Result<
                 "jffs: no.script: there is no such file\n",
             ),
             (".", SCRIPT, 2, "", "jffs: .: the file can't be read\n"),
+        ],
+    )?;
+    fs::remove_file(&rt, "bad.script")?;
+    Ok(())
+}
+
+#[test]
+fn a_call_that_is_wrong_is_told_of(rt: HostRuntime) -> Result<(), Fail> {
+    fs::write(&rt, "w.script", SCRIPT)?;
+    plays(
+        &rt,
+        &[
             (
-                "c.script more",
+                "w.script more",
                 SCRIPT,
                 2,
                 "",
                 "jffs: unexpected word 'more'; --help tells more\n",
             ),
             (
-                "--volumes c.image",
+                "--volumes w.image",
                 SCRIPT,
                 2,
                 "",
                 "jffs: unknown option '--volumes'; options are --volume VOLUME, --help and --version\n",
             ),
             (
-                "--volume c.script",
+                "--volume w.script",
                 SCRIPT,
                 1,
                 "",
-                "jffs: c.script: the file has another length than the sectors together\n",
-            ),
-            (
-                "--volume c.image",
-                "volume 6 1024\nwriter\ncreate /f 1",
-                2,
-                "bad script, line 3: Command\n",
-                "jffs: line 3: unexpected word '1': create PATH\n",
+                "jffs: w.script: the file has another length than the sectors together\n",
             ),
         ],
     )?;
-    for file in ["c.image", "c.script", "bad.script"] {
-        fs::remove_file(&rt, file)?;
-    }
+    fs::remove_file(&rt, "w.script")?;
     Ok(())
 }
 

@@ -1,6 +1,5 @@
-//! What people are told of a script that is refused, and of a call.
+//! What people are told of a script that is refused.
 
-use crate::arguments::{Usage, Work};
 use crate::fault::ScriptWhy;
 use crate::script::Script;
 use std::alloc::Global;
@@ -29,7 +28,6 @@ fn tells(
 
 #[test]
 fn a_script_without_volume_is_told_of(rt: HostRuntime) -> Result<(), Fail> {
-    let alloc = rt.alloc();
     for (script, wanted) in [
         (
             "mkdir /a",
@@ -43,35 +41,51 @@ fn a_script_without_volume_is_told_of(rt: HostRuntime) -> Result<(), Fail> {
             "aaaaaaaaaaaaaaaaaaaaaaaaaaaaaaaaaaaaaaaaaaaaaaaaaaaaaaaaaaaa",
             "line 1: the first statement has to be 'volume S Z', got 'aaaaaaaaaaaaaaaaaaaaaaaaaaaaaaaaaaaaaaaa..'",
         ),
-        ("volume 8", "line 1: a word is missing: volume S Z"),
-        ("volume 8 1024 2", "line 1: unexpected word '2': volume S Z"),
-        (
-            "volume  8 1024",
-            "line 1: a space too many: words stand one space apart, and none stands at an end of the line",
-        ),
-        ("volume 8 1k", "line 1: number expected, got '1k'"),
-        (
-            "volume 5 1024",
-            "line 1: a volume has 6 to 64 sectors, got 5",
-        ),
-        (
-            "volume 65 1000",
-            "line 1: a volume has 6 to 64 sectors, got 65",
-        ),
-        (
-            "volume 8 512",
-            "line 1: a sector has 1024, 2048, 4096, 8192 or 16384 bytes, got 512",
-        ),
     ] {
-        tells(&rt, alloc, script.as_bytes(), ScriptWhy::Volume, wanted)?;
+        tells(
+            &rt,
+            rt.alloc(),
+            script.as_bytes(),
+            ScriptWhy::Volume,
+            wanted,
+        )?;
     }
     for script in ["", "\n# nothing\n"] {
         tells(
             &rt,
-            alloc,
+            rt.alloc(),
             script.as_bytes(),
             ScriptWhy::Empty,
             "line 1: there is no statement; the first is 'volume S Z'",
+        )?;
+    }
+    Ok(())
+}
+
+#[test]
+fn a_volume_of_wrong_sizes_is_told_of(rt: HostRuntime) -> Result<(), Fail> {
+    for (script, wanted) in [
+        ("volume 8", "a word is missing: volume S Z"),
+        ("volume 8 1024 2", "unexpected word '2': volume S Z"),
+        (
+            "volume  8 1024",
+            "a space too many: words stand one space apart, and none stands at an end of the line",
+        ),
+        ("volume 8 1k", "number expected, got '1k'"),
+        ("volume 5 1024", "a volume has 6 to 64 sectors, got 5"),
+        ("volume 65 1000", "a volume has 6 to 64 sectors, got 65"),
+        (
+            "volume 8 512",
+            "a sector has 1024, 2048, 4096, 8192 or 16384 bytes, got 512",
+        ),
+    ] {
+        let wanted = format!(in rt.alloc(); "line 1: {wanted}")?;
+        tells(
+            &rt,
+            rt.alloc(),
+            script.as_bytes(),
+            ScriptWhy::Volume,
+            wanted.as_str(),
         )?;
     }
     Ok(())
@@ -114,130 +128,130 @@ fn bytes_that_are_not_allowed_are_told_of(rt: HostRuntime) -> Result<(), Fail> {
 fn refuses_commands(
     rt: &impl Abort,
     alloc: Global,
-    rows: &[(&str, ScriptWhy, &str)],
+    why: ScriptWhy,
+    rows: &[(&str, &str)],
 ) -> Result<(), Fail> {
-    for (line, why, wanted) in rows {
+    for (line, wanted) in rows {
         let script = format!(in alloc; "volume 8 1024\nwriter\n{line}\n")?;
         let wanted = format!(in alloc; "line 3: {wanted}")?;
-        tells(rt, alloc, script.as_str().as_bytes(), *why, wanted.as_str())?;
+        tells(rt, alloc, script.as_str().as_bytes(), why, wanted.as_str())?;
     }
     Ok(())
 }
 
 #[test]
-fn words_of_a_command_are_told_of(rt: HostRuntime) -> Result<(), Fail> {
+fn a_word_missing_or_too_many_is_told_of(rt: HostRuntime) -> Result<(), Fail> {
     refuses_commands(
         &rt,
         rt.alloc(),
+        ScriptWhy::Command,
+        &[
+            ("create", "a word is missing: create PATH"),
+            ("write /f 0", "a word is missing: write PATH OFFSET HEX"),
+            (
+                "fill /f 0 1",
+                "a word is missing: fill PATH OFFSET COUNT HH",
+            ),
+            ("mkdir /a /b /c", "unexpected word '/b': mkdir PATH"),
+            ("truncate /f 1 2", "unexpected word '2': truncate PATH SIZE"),
+            ("rename /f /g to", "unexpected word 'to': rename PATH PATH"),
+        ],
+    )
+}
+
+#[test]
+fn a_statement_that_is_no_command_is_told_of(rt: HostRuntime) -> Result<(), Fail> {
+    refuses_commands(
+        &rt,
+        rt.alloc(),
+        ScriptWhy::Command,
         &[
             (
                 "creat /f",
-                ScriptWhy::Command,
                 "unknown command 'creat'; commands are mkdir, create, write, fill, truncate, rename and remove, and before them stand volume, line, cleaner, reader and writer",
             ),
             (
-                "create",
-                ScriptWhy::Command,
-                "a word is missing: create PATH",
-            ),
-            (
-                "write /f 0",
-                ScriptWhy::Command,
-                "a word is missing: write PATH OFFSET HEX",
-            ),
-            (
-                "fill /f 0 1",
-                ScriptWhy::Command,
-                "a word is missing: fill PATH OFFSET COUNT HH",
-            ),
-            (
-                "mkdir /a /b /c",
-                ScriptWhy::Command,
-                "unexpected word '/b': mkdir PATH",
-            ),
-            (
-                "truncate /f 1 2",
-                ScriptWhy::Command,
-                "unexpected word '2': truncate PATH SIZE",
-            ),
-            (
-                "rename /f /g to",
-                ScriptWhy::Command,
-                "unexpected word 'to': rename PATH PATH",
-            ),
-            (
                 "remove /f ",
-                ScriptWhy::Command,
                 "a space too many: words stand one space apart, and none stands at an end of the line",
             ),
             (
                 " mkdir /a",
-                ScriptWhy::Command,
                 "a space too many: words stand one space apart, and none stands at an end of the line",
             ),
-            (
-                "volume 8 1024",
-                ScriptWhy::Command,
-                "a second 'volume', where a script has one",
-            ),
-            (
-                "write /f 01 66",
-                ScriptWhy::Number,
-                "number expected, got '01' (leading zero)",
-            ),
-            (
-                "write /f -1 66",
-                ScriptWhy::Number,
-                "number expected, got '-1'",
-            ),
+            ("volume 8 1024", "a second 'volume', where a script has one"),
+        ],
+    )
+}
+
+#[test]
+fn a_number_that_is_wrong_is_told_of(rt: HostRuntime) -> Result<(), Fail> {
+    refuses_commands(
+        &rt,
+        rt.alloc(),
+        ScriptWhy::Number,
+        &[
+            ("write /f 01 66", "number expected, got '01' (leading zero)"),
+            ("write /f -1 66", "number expected, got '-1'"),
             (
                 "write /f  66",
-                ScriptWhy::Number,
                 "number expected, got an empty word (a space too many)",
             ),
             (
                 "write /f 4294967296 66",
-                ScriptWhy::Number,
                 "number from 0 to 4294967295 expected, got '4294967296'",
             ),
             (
                 "fill /f 0 4097 61",
-                ScriptWhy::Number,
                 "number from 0 to 4096 expected, got '4097'",
             ),
+        ],
+    )
+}
+
+#[test]
+fn hex_that_is_wrong_is_told_of(rt: HostRuntime) -> Result<(), Fail> {
+    refuses_commands(
+        &rt,
+        rt.alloc(),
+        ScriptWhy::Hex,
+        &[
             (
                 "fill /f 0 1 6",
-                ScriptWhy::Hex,
                 "one byte expected, as two digits of hex, got '6'",
             ),
             (
                 "write /f 0 6",
-                ScriptWhy::Hex,
                 "hex expected, got '6': the number of its digits is odd",
             ),
             (
                 "write /f 0 6G",
-                ScriptWhy::Hex,
                 "hex expected, got '6G': digits 0 to 9 and a to f, two for each byte, or '-' for no bytes",
             ),
+        ],
+    )
+}
+
+#[test]
+fn a_path_that_is_wrong_is_told_of(rt: HostRuntime) -> Result<(), Fail> {
+    refuses_commands(
+        &rt,
+        rt.alloc(),
+        ScriptWhy::Path,
+        &[
             (
                 "create f",
-                ScriptWhy::Path,
                 "path expected, got 'f': a path begins with a slash",
             ),
             (
                 "create /a//f",
-                ScriptWhy::Path,
                 "path expected, got '/a//f': a name is empty",
             ),
             (
                 "create /aaaaaaaaaaaaaaaaaaaaa",
-                ScriptWhy::Path,
                 "path expected, got '/aaaaaaaaaaaaaaaaaaaaa': a name is longer than 20 bytes",
             ),
             (
                 "create /1/2/3/4/5/6/7/8/9",
-                ScriptWhy::Path,
                 "path expected, got '/1/2/3/4/5/6/7/8/9': a path has more than 8 names",
             ),
         ],
@@ -246,28 +260,36 @@ fn words_of_a_command_are_told_of(rt: HostRuntime) -> Result<(), Fail> {
 
 #[test]
 fn statements_in_a_wrong_place_are_told_of(rt: HostRuntime) -> Result<(), Fail> {
-    let alloc = rt.alloc();
     refuses_commands(
         &rt,
-        alloc,
+        rt.alloc(),
+        ScriptWhy::Header,
         &[
             (
                 "line shared 1",
-                ScriptWhy::Header,
                 "'line' has to come before the first 'writer'",
             ),
             (
                 "cleaner 1",
-                ScriptWhy::Header,
                 "'cleaner' has to come before the first 'writer'",
             ),
             (
                 "reader 1 1 /f",
-                ScriptWhy::Header,
                 "'reader' has to come before the first 'writer'",
             ),
         ],
     )?;
+    tells(
+        &rt,
+        rt.alloc(),
+        b"volume 8 1024\nmkdir /a",
+        ScriptWhy::Outside,
+        "line 2: a command before the first 'writer'",
+    )
+}
+
+#[test]
+fn a_header_that_is_wrong_is_told_of(rt: HostRuntime) -> Result<(), Fail> {
     for (script, why, wanted) in [
         (
             "volume 8 1024\nline rings 1\nline shared 1",
@@ -295,17 +317,12 @@ fn statements_in_a_wrong_place_are_told_of(rt: HostRuntime) -> Result<(), Fail> 
             "line 2: number from 1 to 256 expected, got '0'",
         ),
         (
-            "volume 8 1024\nmkdir /a",
-            ScriptWhy::Outside,
-            "line 2: a command before the first 'writer'",
-        ),
-        (
             "volume 8 1024\nwriter 1",
             ScriptWhy::Command,
             "line 2: unexpected word '1': writer",
         ),
     ] {
-        tells(&rt, alloc, script.as_bytes(), why, wanted)?;
+        tells(&rt, rt.alloc(), script.as_bytes(), why, wanted)?;
     }
     Ok(())
 }
@@ -338,72 +355,6 @@ fn what_is_too_many_is_told_of(rt: HostRuntime) -> Result<(), Fail> {
             script.push_str(line)?;
         }
         tells(&rt, alloc, script.as_bytes(), ScriptWhy::Many, wanted)?;
-    }
-    Ok(())
-}
-
-/// What a program with the option `--on` and two plain words does of a call: the status of one that
-/// is over with what it wrote, or the words of one for its work.
-fn called(alloc: Global, words: &[&str]) -> Result<String, Fail> {
-    let usage = Usage {
-        program: "tool",
-        help: "tool [WORD] [WORD]",
-        option: Some("--on"),
-        options: "--on WORD, --help and --version",
-        most: 2,
-    };
-    let mut call = vec![in alloc; String::from_str(alloc, "tool")?]?;
-    for word in words {
-        call.push(String::from_str(alloc, word)?)?;
-    }
-    let mut out = Vec::new(alloc);
-    let mut errors = Vec::new(alloc);
-    Ok(match usage.work(alloc, &call, &mut out, &mut errors) {
-        Ok(Work { value, words }) => {
-            format!(in alloc; "{} words, on {}", words.len(), value.unwrap_or("none"))?
-        }
-        Err(status) => {
-            let told = if status == 0 { &out } else { &errors };
-            format!(in alloc; "{status} {}", str::from_utf8(told)?)?
-        }
-    })
-}
-
-#[test]
-fn a_word_that_is_wrong_is_named(rt: HostRuntime) -> Result<(), Fail> {
-    let alloc = rt.alloc();
-    for (words, wanted) in [
-        ([].as_slice(), "0 words, on none"),
-        (["a", "b"].as_slice(), "2 words, on none"),
-        (
-            ["a", "--on", "--help", "b"].as_slice(),
-            "2 words, on --help",
-        ),
-        (["a", "--help", "--bad"].as_slice(), "0 tool [WORD] [WORD]"),
-        (["--version"].as_slice(), "0 tool 0.1.0\n"),
-        (
-            ["--bad", "--help"].as_slice(),
-            "2 tool: unknown option '--bad'; options are --on WORD, --help and --version\n",
-        ),
-        (
-            ["a", "-v"].as_slice(),
-            "2 tool: unknown option '-v'; options are --on WORD, --help and --version\n",
-        ),
-        (
-            ["a", "b", "c"].as_slice(),
-            "2 tool: unexpected word 'c'; --help tells more\n",
-        ),
-        (
-            ["--on"].as_slice(),
-            "2 tool: a word is wanted after '--on'\n",
-        ),
-        (
-            ["--on", "a", "--on", "b"].as_slice(),
-            "2 tool: '--on' stands twice\n",
-        ),
-    ] {
-        let told = called(alloc, words)?;
-        assert_eq!(rt; told.as_str(), wanted);
     }
     Ok(())
 }

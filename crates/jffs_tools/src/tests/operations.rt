@@ -3,6 +3,8 @@
 use super::records::{DIRECTORY, FILE, Record, image_of};
 use super::{replayed, replays, replays_from};
 use crate::program::run_replay;
+use std::process::Abort;
+use std::rt::Files;
 use std::test::Fail;
 
 #[test]
@@ -90,72 +92,89 @@ fn the_last_version_is_counted(rt: HostRuntime) -> Result<(), Fail> {
     Ok(())
 }
 
-#[test]
-fn what_is_no_operation_stops_a_replay(rt: HostRuntime) -> Result<(), Fail> {
-    for (line, wanted) in [
-        ("mount", "there is no flash yet"),
-        ("image", "there is no flash yet"),
-        ("request 1 1 create /a", "nothing is mounted"),
-        ("clean_oldest", "nothing is mounted"),
-        ("flash 6", "a word is missing: flash S Z"),
-        ("flash 6 1k", "number expected, got '1k'"),
-        (
-            "frobnicate",
-            "unknown operation 'frobnicate'; operations are flash, image, fuse, mount, request, clean_oldest and erase_dead",
-        ),
-        ("mount now", "unexpected word 'now': mount"),
-        (
-            "fuse 1 Reads Half",
-            "'Writes' or 'All' expected, got 'Reads'",
-        ),
-        (
-            "fuse 1 All Much",
-            "'Nothing' or 'Half' expected, got 'Much'",
-        ),
-        ("image no_such_file 6 1024", "the file can't be read"),
-        (
-            "image f 6",
-            "a word is missing: image FILE S Z, or image alone",
-        ),
-        (
-            "request 65536 1 create /a",
-            "number from 0 to 65535 expected, got '65536'",
-        ),
-        (
-            "request 1 1",
-            "a word is missing: request WRITER SEQ COMMAND",
-        ),
-        ("request 1 1 unmount now", "unexpected word 'now': unmount"),
-        (
-            "request 1 1 copy 1 1 a/b 0 -",
-            "name expected, got 'a/b': 1 to 20 printable bytes, and no slash",
-        ),
-        (
-            "request 1 1 copy 1 1 a 0",
-            "a word is missing: copy SOURCE PARENT NAME OFFSET HEX",
-        ),
-        (
-            "request 1 1 write /a 0 6",
-            "hex expected, got '6': the number of its digits is odd",
-        ),
-        (
-            "request 1 1 writer",
-            "unknown command 'writer'; commands are mkdir, create, write, fill, truncate, rename, remove, copy and unmount",
-        ),
-    ] {
+/// Each line stands fourth in a script that was sound before it.
+fn stops<Rt: Abort + Files + AllocGlobal>(rt: &Rt, rows: &[(&str, &str)]) -> Result<(), Fail> {
+    for (line, wanted) in rows {
         let script = format!(in rt.alloc();
             "# A comment.\n\nfuse 1 All Nothing\n{line}\nfuse 1 All Nothing\n"
         )?;
         let mut input = script.as_bytes();
         let mut out = Vec::new(rt.alloc());
         let mut errors = Vec::new(rt.alloc());
-        let ended = run_replay(&rt, &[], &mut input, &mut out, &mut errors);
+        let ended = run_replay(rt, &[], &mut input, &mut out, &mut errors);
         assert_eq!(rt; ended, 2, "of {line}");
         assert_eq!(rt; out.as_slice(), b"ready\n".as_slice(), "of {line}");
         let wanted = format!(in rt.alloc(); "jffs_replay: line 4: {wanted}\n")?;
         assert_eq!(rt; errors.as_slice(), wanted.as_str().as_bytes());
     }
     Ok(())
+}
+
+#[test]
+fn what_is_no_operation_stops_a_replay(rt: HostRuntime) -> Result<(), Fail> {
+    stops(
+        &rt,
+        &[
+            ("mount", "there is no flash yet"),
+            ("image", "there is no flash yet"),
+            ("request 1 1 create /a", "nothing is mounted"),
+            ("clean_oldest", "nothing is mounted"),
+            ("flash 6", "a word is missing: flash S Z"),
+            ("flash 6 1k", "number expected, got '1k'"),
+            (
+                "frobnicate",
+                "unknown operation 'frobnicate'; operations are flash, image, fuse, mount, request, clean_oldest and erase_dead",
+            ),
+            ("mount now", "unexpected word 'now': mount"),
+            (
+                "fuse 1 Reads Half",
+                "'Writes' or 'All' expected, got 'Reads'",
+            ),
+            (
+                "fuse 1 All Much",
+                "'Nothing' or 'Half' expected, got 'Much'",
+            ),
+            ("image no_such_file 6 1024", "the file can't be read"),
+            (
+                "image f 6",
+                "a word is missing: image FILE S Z, or image alone",
+            ),
+        ],
+    )
+}
+
+#[test]
+fn what_is_no_request_stops_a_replay(rt: HostRuntime) -> Result<(), Fail> {
+    stops(
+        &rt,
+        &[
+            (
+                "request 65536 1 create /a",
+                "number from 0 to 65535 expected, got '65536'",
+            ),
+            (
+                "request 1 1",
+                "a word is missing: request WRITER SEQ COMMAND",
+            ),
+            ("request 1 1 unmount now", "unexpected word 'now': unmount"),
+            (
+                "request 1 1 copy 1 1 a/b 0 -",
+                "name expected, got 'a/b': 1 to 20 printable bytes, and no slash",
+            ),
+            (
+                "request 1 1 copy 1 1 a 0",
+                "a word is missing: copy SOURCE PARENT NAME OFFSET HEX",
+            ),
+            (
+                "request 1 1 write /a 0 6",
+                "hex expected, got '6': the number of its digits is odd",
+            ),
+            (
+                "request 1 1 writer",
+                "unknown command 'writer'; commands are mkdir, create, write, fill, truncate, rename, remove, copy and unmount",
+            ),
+        ],
+    )
 }
 
 #[test]

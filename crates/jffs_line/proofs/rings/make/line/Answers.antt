@@ -34,7 +34,7 @@ returns-clause-senders c =
     let hs = c.in_ok-hands.hands.items in
     let f = c.in_ok-cleaner.cleaner in
     let g = c.new-2.result.hand in
-    let first = sym (numbers_are c.in_ok-hands.rings.items hs (sym c.in_ok-hands.ensures.ends)) ∙ c.in_ok-hands.ensures.numbers in
+    let first = sym (numbers_are c.in_ok-hands.rings.items hs (sym c.in_ok-hands.ensures.fresh.ends)) ∙ c.in_ok-hands.ensures.numbers in
     let ten : g.number ≡ 10 = ap (λ (h : RingHand). h.number) c.new-2.ensures ∙ c.in_ok-control.ensures.ends.1 in
     map-append (λ (h : RingHand). h.number) hs (f ∷ g ∷ []) ∙ ap (λ (l : List ℕ). l ++ f.number ∷ g.number ∷ []) first
     ∙ ap₂ (λ (m k : ℕ). range_with_len 1 c.args.writers ++ m ∷ k ∷ []) c.in_ok-cleaner.ensures.ends.1 ten
@@ -46,7 +46,7 @@ returns-clause-fresh c =
     let g = c.in_ok-control in
     let last : P c.new-2.result.hand = subst P (sym c.new-2.ensures) (g.ensures.fresh.0, g.ensures.fresh.1) in
     let rest : List RingHand = c.new-2.result.hand ∷ [] in
-    All-append P c.in_ok-hands.hands.items (f.cleaner ∷ rest) c.in_ok-hands.ensures.fresh
+    All-append P c.in_ok-hands.hands.items (f.cleaner ∷ rest) c.in_ok-hands.ensures.fresh.none_accepted
     (All-cons P f.cleaner rest (f.ensures.fresh.0, f.ensures.fresh.1) (All-cons P c.new-2.result.hand [] last (All-nil P)))
 
 pub returns-clause-taken : goal.returns-clause-taken
@@ -54,6 +54,6 @@ returns-clause-taken c = λ w.
     let P : Ring → Type 0 = λ r. ring_taken r ≡ [] in
     let a = c.in_ok-cleaner in
     let b = c.in_ok-control in
-    let one : All P c.push.new.self.items = subst (All P) (sym c.in_ok-push.ensures.items) (All-push P c.in_ok-hands.rings.items a.of_cleaner c.in_ok-hands.ensures.taken a.ensures.fresh.2) in
+    let one : All P c.push.new.self.items = subst (All P) (sym c.in_ok-push.ensures.items) (All-push P c.in_ok-hands.rings.items a.of_cleaner c.in_ok-hands.ensures.fresh.none_taken a.ensures.fresh.2) in
     let two : All P c.push-2.new.self.items = subst (All P) (sym c.in_ok-push-2.ensures.items) (All-push P c.push.new.self.items b.of_control one b.ensures.fresh.2) in
     taken_of_fresh c.push-2.new.self.items w two

@@ -4,8 +4,6 @@ use Rattle.jffs_line.proofs.rings.make.writer_rings.Goals as goal
 
 pub loop-index-preserved : goal.loop-index-preserved
 loop-index-preserved c = record {
-  ends = c.in_ok-add.ensures.ends;
-  numbers = c.in_ok-add.ensures.numbers ∙ ap (λ (l : List ℕ). l ++ (c.loop-index.index + 1) ∷ []) c.loop-index.invariant.numbers ∙ sym (range_more c.loop-index.index);
   fresh = c.in_ok-add.ensures.fresh;
-  taken = c.in_ok-add.ensures.taken;
+  numbers = c.in_ok-add.ensures.numbers ∙ ap (λ (l : List ℕ). l ++ (c.loop-index.index + 1) ∷ []) c.loop-index.invariant.numbers ∙ sym (range_more c.loop-index.index);
 }

@@ -18,7 +18,7 @@ all_ends c =
     let hs = c.in_ok-hands.hands.items in
     let cleaner = c.in_ok-cleaner.cleaner in
     subst (λ (h : SharedHand). map shared_end (hs ++ cleaner ∷ h ∷ []) ≡ map (named line) (senders c.args.writers)) (sym c.new.ensures)
-    (ends_all line hs cleaner c.in_ok-control.control c.args.writers c.in_ok-hands.ensures.ends c.in_ok-cleaner.ensures.hand.0 c.in_ok-control.ensures.hand.0)
+    (ends_all line hs cleaner c.in_ok-control.control c.args.writers c.in_ok-hands.ensures.writers.ends c.in_ok-cleaner.ensures.hand.0 c.in_ok-control.ensures.hand.0)
 
 pub returns-clause-ends : goal.returns-clause-ends
 returns-clause-ends c = rw c.in_ok-sends.ensures.0 (sym (all_ends c))
@@ -35,5 +35,5 @@ returns-clause-fresh c =
     let last : Q c.new.result.hand = subst Q (sym c.new.ensures) (control.ensures.hand.1, control.ensures.hand.2) in
     let rest : List SharedHand = c.new.result.hand ∷ [] in
     All-weaker Q P (λ h q. (q.0, q.1 ∙ c.in_ok-sends.ensures.1)) (c.in_ok-hands.hands.items ++ cleaner.cleaner ∷ rest)
-    (All-append Q c.in_ok-hands.hands.items (cleaner.cleaner ∷ rest) c.in_ok-hands.ensures.fresh
+    (All-append Q c.in_ok-hands.hands.items (cleaner.cleaner ∷ rest) c.in_ok-hands.ensures.writers.fresh
     (All-cons Q cleaner.cleaner rest (cleaner.ensures.hand.1, cleaner.ensures.hand.2) (All-cons Q c.new.result.hand [] last (All-nil Q))))

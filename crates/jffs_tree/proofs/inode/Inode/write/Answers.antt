@@ -16,8 +16,8 @@ write_over-requires-clause-fits c =
     let now : length c.args.self.now.entry.bytes ≡ c.self.inside.size = ap (λ (h : Held). length h.entry.bytes) (sym c.self.view_is) ∙ long in
     record {
       small = c.self.invariant.small;
-      node = c.requires.small;
-      offsets = λ moves. let p = c.requires.offsets moves in omega arith;
+      node = c.requires.writable.small;
+      offsets = λ moves. let p = c.requires.writable.offsets moves in omega arith;
     }
 
 pub write_over-requires-clause-marked : goal.write_over-requires-clause-marked
@@ -34,7 +34,7 @@ returns-clause-ok c =
     let was = c.self.inside.fragments.entries in
     let now = c.write_over.new.fragments.entries in
     ap (λ b. held_of (record { kind = n.kind; parent = n.parent; name = c.args.name; size = c.in_ok-self-inside.field-0; fragments = c.write_over.new.fragments; newest = n.version; states_size = b })) c.is_some-self-inside.ensures
-    ∙ held_written n c.args.name (held_of c.self.inside) (map byte_of (laid 0 c.in_ok-self-inside.field-0 now)) (map writer_of (laid 0 c.in_ok-self-inside.field-0 now)) c.requires.named
+    ∙ held_written n c.args.name (held_of c.self.inside) (map byte_of (laid 0 c.in_ok-self-inside.field-0 now)) (map writer_of (laid 0 c.in_ok-self-inside.field-0 now)) c.requires.writable.named
     (bytes_written n c.self.inside.size c.in_ok-self-inside.field-0 was now file) (writers_written n c.self.inside.size c.in_ok-self-inside.field-0 was now file)
     ∙ ap (λ (h : Held). held_after n (Some h)) c.self.view_is
 

@@ -173,7 +173,7 @@ module _ (takes : CopiesTakeOver) (total z weight left before : ℕ) (two : 2 �
   some_handled (n ∷ done) rest s w = some_handled done rest (handled z n s) (one_handled n (done ++ rest) s w).1
 
 -- What goes with the oldest sector.
-newer_all : (P : List Node → Type 0) (sectors : List (List Node)) → AllByRecursion P sectors → AllByRecursion P (without_oldest sectors)
+pub newer_all : (P : List Node → Type 0) (sectors : List (List Node)) → AllByRecursion P sectors → AllByRecursion P (without_oldest sectors)
 newer_all P [] h = tt
 newer_all P (s ∷ sectors) h = h.1
 

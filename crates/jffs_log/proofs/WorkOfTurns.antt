@@ -16,7 +16,7 @@ use Rattle.jffs_log.proofs.Sectors.{used-cons, used_by, used_by_is, by_none, by_
 use Rattle.jffs_log.proofs.SectorSpellings.{record_long}
 use Rattle.jffs_log.proofs.Turn.{live-append}
 use Rattle.jffs_log.proofs.Cleanings.{newer_all}
-use Rattle.jffs_log.proofs.Puts.{map_all, put_by}
+use Rattle.jffs_log.proofs.Puts.{map_all, put_by, handled_by}
 use Rattle.jffs_log.proofs.Parts.{logs_weigh_less}
 use Rattle.jffs_log.proofs.Work.{newest_are, of_first}
 
@@ -216,10 +216,9 @@ module _ (takes : CopiesTakeOver) (z left : ℕ) where
 
   one_spent : (n : Node) (s : GcState) → IsTurning (suc left) s → Among n (oldest_records s.log.sectors) → IsOneSpent (suc left) s (handled z n s)
   unfolding lives
-  one_spent n s w among = ⊎_elim
-      (λ live. subst (λ t. IsOneSpent (suc left) s (cond t (with_copy z n s) s)) (sym live) (copy_spent n s w among live))
-      (λ off. subst (λ t. IsOneSpent (suc left) s (cond t (with_copy z n s) s)) (sym off) (record { spent = spent_none (suc left) s; turning = w; stays = λ m a. a }))
-      (cases_Bool (is_live s.past n.version))
+  one_spent n s w among = handled_by (IsOneSpent (suc left) s) z n s
+      (λ live. copy_spent n s w among live)
+      (λ off. record { spent = spent_none (suc left) s; turning = w; stays = λ m a. a })
 
   each_spent : (nodes : List Node) (s : GcState) → IsTurning (suc left) s → AllByRecursion (λ n. Among n (oldest_records s.log.sectors)) nodes
       → IsSpent (suc left) (suc left) s (handled_each z nodes s) × IsTurning (suc left) (handled_each z nodes s)

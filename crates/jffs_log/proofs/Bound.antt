@@ -9,12 +9,12 @@ use Rattle.jffs_log.specs.declared.room.Room.{Room}
 use Rattle.jffs_log.specs.declared.room.Room.TheVariants.{Fresh, Unmount}
 use Rattle.jffs_log.specs.declared.room.Room.TheVariants as rooms
 use Rattle.jffs_log.specs.Room.{heavy, has_room, tail_need}
-use Rattle.jffs_log.specs.Cleaning.{GcState, is_history, put, copied, with_copy, handled, cleaned, fresh_has_room, room_made, cleanings, oldest_records, handled_each}
+use Rattle.jffs_log.specs.Cleaning.{GcState, is_history, put, copied, handled, cleaned, fresh_has_room, room_made, cleanings, oldest_records, handled_each}
 use Rattle.std.specs.List.{AllByRecursion}
 use Rattle.jffs_log.specs.RoomLaws.{Among, CopiesKeepSound, HandledAreDead, IsSound, CopiesTakeOver, UnmountNodesAreDead, CleaningHasRoom, CleaningMayStop, PutsKeepErased, FreshKeepsTwo, PutsKeepSound, ErasingKeepsSound, MakingRoomKeepsSound, FullLogsFill, FullLogsAreHeavy, CleaningsAreFew, UnmountHasRoom}
 use Rattle.jffs_log.proofs.Sectors.{needs_more, needs_itself}
 use Rattle.jffs_log.proofs.Turn.{charged, charged_live, full_at, IsFull, full_counts}
-use Rattle.jffs_log.proofs.Puts.{map_all, put_by, next_erased, enough_erased, tail_sound, next_sound, quarter_fits}
+use Rattle.jffs_log.proofs.Puts.{map_all, put_by, handled_live, handled_dead, next_erased, enough_erased, tail_sound, next_sound, quarter_fits}
 use Rattle.jffs_log.proofs.Cleanings.{live_in, charged_in, IsUnderWay, IsTurn, begun, some_handled, turn_cleaned, sound_erased}
 
 -- At the start of a turn.
@@ -171,7 +171,7 @@ module _ (takes : CopiesTakeOver) where
   one_kept z n s h a = ⊎_elim
       (λ live.
       let over = takes s.past n h a live in
-      let is : (handled z n s).past ≡ copied s.past n ∷ s.past = ap (λ t. (cond t (with_copy z n s) s).past) live in
+      let is : (handled z n s).past ≡ copied s.past n ∷ s.past = ap (λ t. t.past) (handled_live z n s live) in
       record {
         history = ap is_history is ∙ over.history;
         known = λ m b. subst (Among m) (sym is) (inr b);
@@ -179,7 +179,7 @@ module _ (takes : CopiesTakeOver) where
         dead = ap (λ past. is_live past n.version) is ∙ over.obsolete;
       })
       (λ off.
-      let is : (handled z n s).past ≡ s.past = ap (λ t. (cond t (with_copy z n s) s).past) off in
+      let is : (handled z n s).past ≡ s.past = ap (λ t. t.past) (handled_dead z n s off) in
       record {
         history = ap is_history is ∙ h;
         known = λ m b. subst (Among m) (sym is) b;

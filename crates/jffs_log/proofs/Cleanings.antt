@@ -1,5 +1,5 @@
 -- One cleaning, and a turn of cleanings.
-use Rattle.std.proofs.Common.{◌≡◌, ℕ, suc, ◌+◌, ◌-◌, ◌/◌, ◌≤◌, ◌<◌, Bool, true, false, cond, not, leb, List, [], ◌∷◌, ◌++◌, length, ◌⊎◌, inl, inr, ⊎_elim, refl, sym, ap, subst, arith}
+use Rattle.std.proofs.Common.{◌≡◌, ℕ, suc, ◌+◌, ◌-◌, ◌/◌, ◌≤◌, ◌<◌, Bool, true, false, not, leb, List, [], ◌∷◌, ◌++◌, length, ◌⊎◌, inl, inr, ⊎_elim, refl, sym, ap, subst, arith}
 use Rattle.std.specs.List.{AllByRecursion}
 use Rattle.std.proofs.lemmas.Bool.{le-leb, and_from, or_left, or_right, cases_Bool}
 use Rattle.jffs_node.specs.declared.node.Node.{Node}
@@ -11,7 +11,7 @@ use Rattle.jffs_log.specs.Cleaning.{GcState, copied, with_copy, handled, handled
 use Rattle.jffs_log.specs.RoomLaws.{Among, IsSound, TakesOver, CopiesTakeOver, UnmountNodesAreDead}
 use Rattle.jffs_log.proofs.Sectors.{used_by, by-cons-true, by-cons-false, NoOther, by_fewer, needs_more, all_among, each_among, stands_among, leaves_room}
 use Rattle.jffs_log.proofs.Turn.{charged, charged_in_last, charged_in_next, charged_fewer_one, newer_charged, IsOldest, oldest_in_last, oldest_in_next, of_oldest, IsFull, full_in_last, full_in_next}
-use Rattle.jffs_log.proofs.Puts.{map_all, put_by, tail_sound, next_sound, quarter_fits}
+use Rattle.jffs_log.proofs.Puts.{map_all, put_by, handled_live, handled_dead, tail_sound, next_sound, quarter_fits}
 
 pub live_in : List Node → Node → Bool
 live_in past n = is_live past n.version
@@ -152,11 +152,11 @@ module _ (takes : CopiesTakeOver) (total z weight left before : ℕ) (two : 2 �
   one_handled n rest s w = ⊎_elim
       (λ live. (
         or_right (not (is_live s.past n.version)) (has_room Copy (record_len (copied s.past n)) s.log.free s.log.erased) (room n rest s w live),
-        subst (λ t. UnderWay rest (cond t (with_copy z n s) s)) (sym live) (after n rest s w live),
+        subst (UnderWay rest) (sym (handled_live z n s live)) (after n rest s w live),
       ))
       (λ off. (
         or_left (not (is_live s.past n.version)) (has_room Copy (record_len (copied s.past n)) s.log.free s.log.erased) (ap not off),
-        subst (λ t. UnderWay rest (cond t (with_copy z n s) s)) (sym off) (skipped n rest s w off),
+        subst (UnderWay rest) (sym (handled_dead z n s off)) (skipped n rest s w off),
       ))
       (cases_Bool (is_live s.past n.version))
 
@@ -173,7 +173,7 @@ module _ (takes : CopiesTakeOver) (total z weight left before : ℕ) (two : 2 �
   some_handled (n ∷ done) rest s w = some_handled done rest (handled z n s) (one_handled n (done ++ rest) s w).1
 
 -- What goes with the oldest sector.
-newer_all : (P : List Node → Type 0) (sectors : List (List Node)) → AllByRecursion P sectors → AllByRecursion P (without_oldest sectors)
+pub newer_all : (P : List Node → Type 0) (sectors : List (List Node)) → AllByRecursion P sectors → AllByRecursion P (without_oldest sectors)
 newer_all P [] h = tt
 newer_all P (s ∷ sectors) h = h.1
 

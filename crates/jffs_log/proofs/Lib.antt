@@ -10,6 +10,7 @@ pub mod Parts
 pub mod MountedLog
 pub mod Loop
 pub mod Work
+pub mod WorkOfTurns
 pub mod Ring
 pub mod Volume
 pub mod Open

@@ -1,14 +1,12 @@
 -- The records of the oldest sector, one after another.
-use Rattle.std.proofs.Common.{◌≡◌, ℕ, ◌≤◌, cond, ◌&&◌, List, [], ◌∷◌, ◌++◌, length, ⊎_elim, refl, ap, subst, sym, ◌∙◌, arith}
+use Rattle.std.proofs.Common.{◌≡◌, ℕ, ◌≤◌, ◌&&◌, List, [], ◌∷◌, ◌++◌, length, refl, ap, sym, ◌∙◌, arith}
 use Rattle.std.proofs.Math.Bool.{and_assoc}
-use Rattle.std.proofs.lemmas.Bool.{cases_Bool}
 use Rattle.jffs_node.specs.declared.node.Node.{Node}
-use Rattle.jffs_tree.specs.Origin.{is_live}
 use Rattle.jffs_log.specs.declared.room.Room.TheVariants.{Copy}
-use Rattle.jffs_log.specs.Cleaning.{GcState, in_last, copied, with_copy, handled, handled_each, copy_has_room, copies_have_room, oldest_records}
+use Rattle.jffs_log.specs.Cleaning.{GcState, in_last, copied, handled, handled_each, copy_has_room, copies_have_room, oldest_records}
 use Rattle.jffs_log.specs.RoomLaws.{HandledInParts, OldestStays}
 use Rattle.jffs_log.proofs.Sectors.{length_in_last, length_in_next}
-use Rattle.jffs_log.proofs.Puts.{put_by}
+use Rattle.jffs_log.proofs.Puts.{put_by, handled_by}
 
 pub handled_in_parts : HandledInParts
 handled_in_parts z [] rest s = (refl, refl)
@@ -31,11 +29,9 @@ stays_in_next n [] h = absurd (omega arith)
 stays_in_next n (s ∷ sectors) h = (refl, (let e = length_in_next n (s ∷ sectors) in omega arith))
 
 stays_one : (z : ℕ) (n : Node) (s : GcState) → 2 ≤ length s.log.sectors → Stays s.log.sectors (handled z n s).log.sectors
-stays_one z n s h = ⊎_elim
-    (λ live. subst (λ t. Stays s.log.sectors (cond t (with_copy z n s) s).log.sectors) (sym live)
-    (put_by (λ l. Stays s.log.sectors l.sectors) z Copy (copied s.past n) s.log (λ fits. stays_in_last (copied s.past n) s.log.sectors h) (λ less. stays_in_next (copied s.past n) s.log.sectors h)))
-    (λ off. subst (λ t. Stays s.log.sectors (cond t (with_copy z n s) s).log.sectors) (sym off) (refl, h))
-    (cases_Bool (is_live s.past n.version))
+stays_one z n s h = handled_by (λ t. Stays s.log.sectors t.log.sectors) z n s
+    (λ live. put_by (λ l. Stays s.log.sectors l.sectors) z Copy (copied s.past n) s.log (λ fits. stays_in_last (copied s.past n) s.log.sectors h) (λ less. stays_in_next (copied s.past n) s.log.sectors h))
+    (λ off. (refl, h))
 
 pub oldest_stays : OldestStays
 oldest_stays z [] s h = (refl, h)

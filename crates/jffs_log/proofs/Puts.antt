@@ -1,16 +1,17 @@
 -- A put keeps a log lawful.
-use Rattle.std.proofs.Common.{◌≡◌, ℕ, ◌+◌, ◌/◌, ◌≤◌, ◌<◌, true, cond, leb, List, [], ◌∷◌, length, inl, inr, ⊎_elim, refl, sym, subst, arith}
+use Rattle.std.proofs.Common.{◌≡◌, ℕ, ◌+◌, ◌/◌, ◌≤◌, ◌<◌, true, false, cond, leb, List, [], ◌∷◌, length, inl, inr, ⊎_elim, refl, sym, subst, arith}
 use Rattle.std.specs.List.{AllByRecursion}
-use Rattle.std.proofs.lemmas.Bool.{eqb-true, leb-true, le-leb, lt-leb, cases_lt}
+use Rattle.std.proofs.lemmas.Bool.{eqb-true, leb-true, le-leb, lt-leb, cases_lt, cases_Bool, cond-true, cond-false}
 use Rattle.std.proofs.Math.Nat.{mul-div-le}
 use Rattle.jffs_node.specs.declared.node.Node.{Node}
 use Rattle.jffs_node.specs.Record.{record_len}
+use Rattle.jffs_tree.specs.Origin.{is_live}
 use Rattle.jffs_node.proofs.Each.{each_append}
 use Rattle.jffs_node.proofs.Fitting.{or_second}
 use Rattle.jffs_log.specs.declared.room.Room.{Room}
 use Rattle.jffs_log.specs.declared.room.Room.TheVariants as rooms
 use Rattle.jffs_log.specs.Room.{tail_need, erased_need, has_room}
-use Rattle.jffs_log.specs.Cleaning.{Layout, GcState, put, in_tail, in_next, in_last, stands_from, last_fits, is_history}
+use Rattle.jffs_log.specs.Cleaning.{Layout, GcState, handled, with_copy, put, in_tail, in_next, in_last, stands_from, last_fits, is_history}
 use Rattle.jffs_log.specs.RoomLaws.{Among, IsSound}
 use Rattle.jffs_log.proofs.Sectors.{Needs, stands_more, each_in_last, last_in_last, last_in_next, free_small, length_in_last, length_in_next}
 
@@ -24,6 +25,19 @@ put_by P z room n log tail next = ⊎_elim
     (λ less. subst (λ t. P (cond t (in_tail n log) (in_next z n log))) (sym (lt-leb (tail_need room (record_len n)) log.free less)) (next less))
     (λ enough. subst (λ t. P (cond t (in_tail n log) (in_next z n log))) (sym (le-leb (tail_need room (record_len n)) log.free enough)) (tail enough))
     (cases_lt log.free (tail_need room (record_len n)))
+
+-- A live record is copied at its turn, a dead one is skipped.
+pub handled_live : (z : ℕ) (n : Node) (s : GcState) → is_live s.past n.version ≡ true → handled z n s ≡ with_copy z n s
+handled_live z n s live = cond-true _ _ _ live
+
+pub handled_dead : (z : ℕ) (n : Node) (s : GcState) → is_live s.past n.version ≡ false → handled z n s ≡ s
+handled_dead z n s off = cond-false _ _ _ off
+
+pub handled_by : (P : GcState → Type 0) (z : ℕ) (n : Node) (s : GcState) → (is_live s.past n.version ≡ true → P (with_copy z n s)) → (is_live s.past n.version ≡ false → P s) → P (handled z n s)
+handled_by P z n s copy skip = ⊎_elim
+    (λ live. subst P (sym (handled_live z n s live)) (copy live))
+    (λ off. subst P (sym (handled_dead z n s off)) (skip off))
+    (cases_Bool (is_live s.past n.version))
 
 -- where there is room but none in the tail, enough sectors are erased
 pub next_erased : (room : Room) (len free erased : ℕ) → has_room room len free erased ≡ true → free < tail_need room len → erased_need room ≤ erased

@@ -10,7 +10,7 @@ use Rattle.jffs_log.specs.Cleaning.{GcState, used, is_history, stands_from, copi
 use Rattle.jffs_log.specs.RoomLaws.{Among, IsSound, CopiesTakeOver, UnmountNodesAreDead}
 use Rattle.jffs_log.specs.Work.{copies, CleaningsCopyTheLive, CleaningsFitASector}
 use Rattle.jffs_log.proofs.Sectors.{used_more, used_by, used_by_is, by-cons-true, by-cons-false, NoOther, by_fewer, leaves_room}
-use Rattle.jffs_log.proofs.Puts.{map_all}
+use Rattle.jffs_log.proofs.Puts.{map_all, handled_live, handled_dead}
 
 -- The newest nodes of a longer list are those before the others.
 take_front : (new past : List Node) → take (length new) (new ++ past) ≡ new
@@ -63,7 +63,7 @@ module _ (takes : CopiesTakeOver) (z : ℕ) where
       let long = over.shorter in
       let bytes = later.bytes in
       let count = later.count in
-      subst (λ t. IsCopied (n ∷ nodes) s (handled_each z nodes (cond t (with_copy z n s) s))) (sym live) (record {
+      subst (λ t. IsCopied (n ∷ nodes) s (handled_each z nodes t)) (sym (handled_live z n s live)) (record {
         new = later.new ++ c ∷ [];
         past = later.past ∙ sym (append_assoc later.new (c ∷ []) s.past);
         bytes = let e = used_more later.new c in let f = by-cons-true (Lives s.past) n nodes live in omega arith;
@@ -73,7 +73,7 @@ module _ (takes : CopiesTakeOver) (z : ℕ) where
       let later = each_copied nodes s h known.1 in
       let bytes = later.bytes in
       let count = later.count in
-      subst (λ t. IsCopied (n ∷ nodes) s (handled_each z nodes (cond t (with_copy z n s) s))) (sym off) (record {
+      subst (λ t. IsCopied (n ∷ nodes) s (handled_each z nodes t)) (sym (handled_dead z n s off)) (record {
         new = later.new;
         past = later.past;
         bytes = let f = by-cons-false (Lives s.past) n nodes off in omega arith;

@@ -1,9 +1,10 @@
 -- How much work cleaning is: what it copies.
-use Rattle.std.specs.Prelude.{◌≡◌, ℕ, ◌+◌, ◌-◌, ◌≤◌, List, ◌++◌, length, take, filter}
+use Rattle.std.specs.Prelude.{◌≡◌, ℕ, ◌+◌, ◌-◌, ◌*◌, ◌≤◌, List, ◌++◌, length, take, filter}
 use Rattle.jffs_node.specs.declared.node.Node.{Node}
 use Rattle.jffs_tree.specs.Origin.{is_live}
-use Rattle.jffs_log.specs.Cleaning.{GcState, used, live_used, oldest_records, cleaned}
-use Rattle.jffs_log.specs.RoomLaws.{IsSound}
+use Rattle.jffs_log.specs.Room.{weight}
+use Rattle.jffs_log.specs.Cleaning.{GcState, used, live_used, oldest_records, cleaned, room_made}
+use Rattle.jffs_log.specs.RoomLaws.{IsSound, live_weight, Holds}
 
 -- The copies that were made between two states: the nodes newer than those that were there.
 abbrev pub copies : GcState → GcState → List Node
@@ -37,3 +38,28 @@ abbrev pub CleaningsFitASector : Type 0
 CleaningsFitASector =
     (sectors sector_size : ℕ) (s : GcState) → 64 ≤ sector_size → IsSound sectors sector_size s
     → copied_bytes s (cleaned sector_size s) + 64 ≤ sector_size
+
+-- The copies of a whole turn take no more bytes than the live records of the log did at its start,
+-- with what was free in the tail: a copy that is put there may be copied once more.
+pub record CopiesTheLog (before after : GcState) : Type 0 where
+  pub past : after.past ≡ copies before after ++ before.past
+  pub bytes : copied_bytes before after ≤ live_weight before + before.log.free
+
+-- So little is copied to make room in a lawful log, by at most as many cleanings as it has sectors.
+abbrev pub MakingRoomCopiesLittle : Type 0
+MakingRoomCopiesLittle =
+    (sectors sector_size len most : ℕ) (s : GcState) → IsSound sectors sector_size s
+    → most ≤ length s.log.sectors → CopiesTheLog s (room_made sector_size len most s)
+
+-- Where the log holds the newest part of the history, that is at most the weight of it, with what
+-- was free in the tail.
+abbrev pub MakingRoomCopiesTheWeight : Type 0
+MakingRoomCopiesTheWeight =
+    (sectors sector_size len most : ℕ) (s : GcState) (gone : List Node)
+    → IsSound sectors sector_size s → most ≤ length s.log.sectors → Holds s gone
+    → copied_bytes s (room_made sector_size len most s) ≤ weight s.past + s.log.free
+
+-- Each copy takes 64 bytes at least.
+abbrev pub CopiesAreFew : Type 0
+CopiesAreFew =
+    (before after : GcState) → 64 * length (copies before after) ≤ copied_bytes before after

@@ -11,6 +11,8 @@ ghost use Rattle.jffs_log.specs.RoomLaws.{FullLogsAreHeavy, FullLogsFill, LogsWe
 ghost use Rattle.jffs_log.specs.RoomLaws.{PutsAreNewest, ErasedAreOldest, VersionsFollow};
 ghost use Rattle.jffs_log.specs.RoomLaws.{MountsAreSound};
 ghost use Rattle.jffs_log.specs.Work.{CleaningsCopyTheLive, CleaningsFitASector};
+ghost use Rattle.jffs_log.specs.Work.{MakingRoomCopiesLittle, MakingRoomCopiesTheWeight};
+ghost use Rattle.jffs_log.specs.Work.{CopiesAreFew};
 ghost use Rattle.jffs_log.specs.History.{MountsAreHistories, HistoriesAreScanned};
 ghost use Rattle.jffs_log.specs.History.{AppendsKeepHistory, CutsKeepHistory, ErasingKeepsHistory};
 ghost use Rattle.jffs_log.specs.Wear.{WearIsEven, TurnsGoOn};
@@ -75,10 +77,15 @@ pub fn histories_stay_lawful()
 {}
 
 /// A cleaning copies no more bytes than the live records of the oldest sector take, and no more
-/// records than are live there; so it copies less than a sector holds.
+/// records than are live there; so it copies less than a sector holds. All cleanings that make room
+/// for one node copy no more bytes than the live records of the log took, with what was free in the
+/// tail: a copy that is put there may be copied once more.
 pub fn cleanings_copy_little()
     ensures copies { CleaningsCopyTheLive }
     ensures fits { CleaningsFitASector }
+    ensures turn { MakingRoomCopiesLittle }
+    ensures weighs { MakingRoomCopiesTheWeight }
+    ensures few { CopiesAreFew }
 {}
 
 /// Erased one after another around the ring, no sector is erased more than once more often than

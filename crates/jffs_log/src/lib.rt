@@ -20,7 +20,9 @@ mod sector;
 mod weighing;
 mod writing;
 
-pub use examples::{example_is_cleaned, example_is_erased_in_turn, examples_are_scanned};
+pub use examples::{
+    example_is_cleaned, example_is_copied_again, example_is_erased_in_turn, examples_are_scanned,
+};
 pub use laws::{
     cleaning_keeps_room, cleanings_copy_little, copies_take_over, full_logs_are_heavy,
     histories_stay_lawful, mounts_are_sound, puts_keep_room, wear_is_even, weight_is_kept,

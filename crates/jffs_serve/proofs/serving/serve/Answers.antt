@@ -34,10 +34,10 @@ pub returns-in-Err-clause-served : goal.returns-in-Err-clause-served
 returns-in-Err-clause-served g c = record {
   replies =
       let steps = (all_put c.loop.publisher).steps in
-          then_more c.args.session.now c.loop.session c.answer_next.new.session
-          (all_put c.args.publisher.now).steps steps steps
-          (g.T.Taker.taken c.args.taker.now) (g.T.Taker.taken c.loop.taker) (g.T.Taker.taken c.answer_next.new.taker)
-          None (Some c.in-Err.served) c.loop.invariant.replies (c.in-Err.ensures.replies steps);
+      then_more c.args.session.now c.loop.session c.answer_next.new.session
+      (all_put c.args.publisher.now).steps steps steps
+      (g.T.Taker.taken c.args.taker.now) (g.T.Taker.taken c.loop.taker) (g.T.Taker.taken c.answer_next.new.taker)
+      None (Some c.in-Err.served) c.loop.invariant.replies (c.in-Err.ensures.replies steps);
   published = search rules;
   index = search rules;
   opening = search rules;
@@ -47,10 +47,10 @@ pub returns-in_default-send_pending-clause-served : goal.returns-in_default-send
 returns-in_default-send_pending-clause-served g c = record {
   replies =
       let taken = g.T.Taker.taken c.answer_next.new.taker in
-          then_more c.args.session.now c.answer_next.new.session c.send_pending.new.session
-          (all_put c.args.publisher.now).steps (all_put c.loop.publisher).steps (all_put c.send_pending.new.publisher).steps
-          (g.T.Taker.taken c.args.taker.now) taken taken
-          None None (answered g (goal.at.returns-in_default-send_pending-clause-served g c).In_default) (c.in_default-send_pending.ensures.replies taken);
+      then_more c.args.session.now c.answer_next.new.session c.send_pending.new.session
+      (all_put c.args.publisher.now).steps (all_put c.loop.publisher).steps (all_put c.send_pending.new.publisher).steps
+      (g.T.Taker.taken c.args.taker.now) taken taken
+      None None (answered g (goal.at.returns-in_default-send_pending-clause-served g c).In_default) (c.in_default-send_pending.ensures.replies taken);
   published = search rules;
   index = search rules;
   opening = search rules;
@@ -60,7 +60,7 @@ pub returns-in-Some-ending-clause-served : goal.returns-in-Some-ending-clause-se
 returns-in-Some-ending-clause-served g c = record {
   replies =
       subst (λ (e : Option Served). RepliesMore c.args.session.now (all_put c.args.publisher.now).steps (g.T.Taker.taken c.args.taker.now) c.tidy.new.self (all_put c.send_pending.new.publisher).steps (g.T.Taker.taken c.answer_next.new.taker) e)
-          c.in-Some-ending.is (tidied g (goal.at.returns-in-Some-ending-clause-served g c).After-tidy (answered g (goal.at.returns-in-Some-ending-clause-served g c).In_default));
+      c.in-Some-ending.is (tidied g (goal.at.returns-in-Some-ending-clause-served g c).After-tidy (answered g (goal.at.returns-in-Some-ending-clause-served g c).In_default));
   published = search rules;
   index = search rules;
   opening = search rules;

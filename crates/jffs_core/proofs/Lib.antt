@@ -18,3 +18,4 @@ pub mod Called
 pub mod Scanning
 pub mod Handed
 pub mod Done
+pub mod Working

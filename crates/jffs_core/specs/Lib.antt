@@ -15,3 +15,4 @@ pub mod Nodes
 pub mod Trees
 pub mod Jobs
 pub mod Done
+pub mod Work

@@ -9,6 +9,7 @@ ghost use Rattle.jffs_core.specs.Finding.{DeviceScansFind, StoppedScansFind};
 ghost use Rattle.jffs_core.specs.Done.{AnswersAreDone, AnswersAreFree, TreesAreDone};
 ghost use Rattle.jffs_core.specs.Done.{DeviceIsDoneOrNot};
 ghost use Rattle.jffs_core.specs.Run.{RunsGoOn, LawfulRunsGrow};
+ghost use Rattle.jffs_core.specs.Work.{AnswersCopyLittle};
 
 /// A run that nothing has closed may go on by one request and its answer.
 pub fn runs_go_on()
@@ -45,6 +46,12 @@ pub fn scans_find_contents()
 /// While a core works, and so after each of its appends and erases, at least one sector is erased.
 pub fn one_sector_is_erased()
     ensures { OneIsErased }
+{}
+
+/// For a node that is appended no more bytes are copied than the live records of the log took when
+/// its request was taken, with what was free in the tail; each copy takes 64 bytes at least.
+pub fn answers_copy_little()
+    ensures { AnswersCopyLittle }
 {}
 
 /// What is answered Appended is done, in words of files and directories, and no other answer

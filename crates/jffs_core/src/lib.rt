@@ -20,8 +20,8 @@ mod mounted;
 pub use answer::{Answer, Answered};
 pub use cleaning::Cleaned;
 pub use laws::{
-    answers_are_done, cleaning_is_lawful, contents_are_kept, one_sector_is_erased, runs_go_on,
-    scans_find_contents,
+    answers_are_done, answers_copy_little, cleaning_is_lawful, contents_are_kept,
+    one_sector_is_erased, runs_go_on, scans_find_contents,
 };
 pub use mounted::Core;
 

@@ -10,6 +10,7 @@ pub mod Scanning
 pub mod Unmounting
 pub mod Turns
 pub mod Wear
+pub mod Work
 pub mod Heavy
 pub mod Done
 pub mod Sessions

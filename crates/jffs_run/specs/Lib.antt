@@ -11,6 +11,7 @@ pub mod Scanned
 pub mod Unmounted
 pub mod Turns
 pub mod Wear
+pub mod Work
 pub mod Seen
 pub mod Heavy
 pub mod Done

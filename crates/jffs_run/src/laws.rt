@@ -9,6 +9,7 @@ ghost use Rattle.jffs_run.specs.Scanned.{RunsLeaveContents, FailedRunsLeaveHisto
 ghost use Rattle.jffs_run.specs.Scanned.{RunsWithoutFaults};
 ghost use Rattle.jffs_run.specs.Unmounted.{RunsEndUnmounted};
 ghost use Rattle.jffs_run.specs.Wear.{RunsWearEvenly};
+ghost use Rattle.jffs_run.specs.Work.{RunsWorkLittle};
 
 /// What the contract of `run_threads` says of the core, said of the device: the answers are lawful
 /// for their requests, and a scan finds what the fresh nodes appended since the mount made. Where
@@ -70,6 +71,13 @@ pub fn answers_are_durable()
 /// other.
 pub fn runs_wear_evenly()
     ensures { RunsWearEvenly }
+{}
+
+/// For a node that `run_threads` appends for a request it copies no more bytes than the live
+/// records of the log took when the request was taken, with what was free in the tail, in copies of
+/// 64 bytes at least, and erases no more sectors than held the log.
+pub fn runs_work_little()
+    ensures { RunsWorkLittle }
 {}
 
 /// What a reader of a run read is what its path had once the request that it waited for was

@@ -32,7 +32,7 @@ pub use jffs_text::{DumpFault, Script, ScriptFault, ScriptWhy, dump};
 pub use laws::{
     answers_are_durable, failed_stays_failed, granted_is_done, no_space_means_no_room,
     readers_see_answers, runs_end_unmounted, runs_have_room, runs_leave_contents, runs_wear_evenly,
-    runs_without_faults, sessions_are_done, space_is_sure,
+    runs_without_faults, runs_work_little, sessions_are_done, space_is_sure,
 };
 pub use outcome::{AcceptedBy, Run};
 pub use program::{run_called, run_program, run_program_on_file};

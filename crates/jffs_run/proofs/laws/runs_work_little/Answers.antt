@@ -1,0 +1,5 @@
+use Rattle.jffs_run.proofs.Work.{runs_work_little}
+use Rattle.jffs_run.proofs.laws.runs_work_little.Goals as goal
+
+pub returns : goal.returns
+returns c = runs_work_little

@@ -27,7 +27,7 @@ use Rattle.jffs_core.specs.Answering.{IsNodeOf, turn_of}
 use Rattle.jffs_log.specs.Cleaning.{room_made}
 use Rattle.jffs_log.specs.RoomLaws.{suits_room}
 use Rattle.jffs_log.specs.History.{KeepsRules}
-use Rattle.jffs_log.proofs.Appended.{sizes_small}
+use Rattle.jffs_log.proofs.append.Appended.{sizes_small}
 use Rattle.jffs_core.proofs.Deciding.{may_put, put_short, is_made_fresh, limits_given, limits_stay, decision_stays}
 use Rattle.jffs_core.proofs.Contents.{copy_given}
 

@@ -1,12 +1,12 @@
 -- What the calls that clean and erase leave.
-use Rattle.std.proofs.Common.{◌≡◌, ℕ, zero, suc, ◌≤◌, false, List, [], length, Result, Ok, Err, IfErr, refl, sym, ap, subst, ◌∙◌, arith}
+use Rattle.std.proofs.Common.{◌≡◌, ℕ, zero, suc, ◌≤◌, false, List, [], length, refl, sym, ap, subst, ◌∙◌, arith}
 use Rattle.jffs_node.specs.declared.node.Node.{Node}
 use Rattle.jffs_tree.specs.declared.wish.Cause.{Cause}
 use Rattle.jffs_tree.specs.declared.wish.Cause.TheVariants as causes
 use Rattle.jffs_log.specs.LogIndex.{layout_in}
 use Rattle.jffs_log.specs.Cleaning.{Layout, GcState, cleaned}
-use Rattle.jffs_log.proofs.Copied.{copies_take_over, unmounts_are_dead}
-use Rattle.jffs_log.proofs.Bound.{cleaning_has_room}
+use Rattle.jffs_log.proofs.rooms.Copied.{copies_take_over, unmounts_are_dead}
+use Rattle.jffs_log.proofs.rooms.Bound.{cleaning_has_room}
 use Rattle.jffs_core.specs.CoreState.{CoreState}
 use Rattle.jffs_core.specs.Run.{OnlyCopies}
 use Rattle.jffs_core.specs.declared.cleaning.Cleaned.{Cleaned}

@@ -3,7 +3,7 @@ use Rattle.std.proofs.Common.{◌≡◌, ◌⊎◌, inl, inr, ℕ, zero, suc, �
 use Rattle.std.specs.List.{AllByRecursion}
 use Rattle.std.specs.Int.{from_bool}
 use Rattle.std.proofs.Math.Seq.{take-suc}
-use Rattle.std.proofs.lemmas.List.{take-append-drop}
+use Rattle.std.proofs.lemmas.List.{append-nil, take-append-drop}
 use Rattle.std.proofs.lemmas.Bool.{and_parts, and_from, both_ways, false_from_ne_true}
 use Rattle.jffs_node.specs.declared.node.Node.{Node}
 use Rattle.jffs_node.specs.Record.{record_len, dsize, fits_rest}
@@ -15,16 +15,16 @@ use Rattle.jffs_log.specs.Image.{nodes_of}
 use Rattle.jffs_log.specs.LogIndex.{HasSizes, layout_in, oldest_in, lives_in}
 use Rattle.jffs_log.specs.Cleaning.{GcState, handled, handled_each, copy_has_room, copies_have_room, oldest_records, erase_oldest, stands_from}
 use Rattle.jffs_log.specs.RoomLaws.{Among}
-use Rattle.jffs_log.proofs.Sectors.{stands_among}
-use Rattle.jffs_log.proofs.SectorSpellings.{rest_fits, record_long}
+use Rattle.jffs_log.proofs.ring.Sectors.{stands_among}
+use Rattle.jffs_log.proofs.ring.SectorSpellings.{rest_fits, record_long}
 use Rattle.jffs_log.proofs.Histories.{dead_as}
-use Rattle.jffs_log.proofs.Copied.{copies_take_over, unmounts_are_dead}
-use Rattle.jffs_log.proofs.Loop.{handled_in_parts, oldest_stays}
-use Rattle.jffs_log.proofs.Bound.{cleaning_has_room, handled_are_dead}
+use Rattle.jffs_log.proofs.rooms.Copied.{copies_take_over, unmounts_are_dead}
+use Rattle.jffs_log.proofs.rooms.Loop.{handled_in_parts, oldest_stays}
+use Rattle.jffs_log.proofs.rooms.Bound.{cleaning_has_room, handled_are_dead}
 use Rattle.jffs_core.specs.CoreState.{CoreState}
 use Rattle.jffs_core.specs.History.{IsOwnCopy}
 use Rattle.jffs_core.specs.Past.{RepresentsWorking, gc_state}
-use Rattle.jffs_core.specs.Cleaning.{HasHandled, CopyStopped, HasCopied, HasCleaned, HasErased, SectorStopped, copies_would_fit}
+use Rattle.jffs_core.specs.Cleaning.{HasHandled, CopyStopped, HasCopied, HasCleaned, HasErased, SectorStopped, EraseStopped, copies_would_fit}
 use Rattle.jffs_core.proofs.Lawful.{copies_along}
 use Rattle.jffs_core.proofs.RoomMade.{oldest_known}
 use Rattle.jffs_core.proofs.Refusing.{refused_along}
@@ -148,6 +148,12 @@ copying_has_room nodes past after k copies node cause old middle new known oldes
         let sizes = sizes_low old.index.sectors z known.history.sizes in
         both_ways _ (without e) (cleaning_has_room copies_take_over unmounts_are_dead old.index.sectors z s sizes.1 known.sound two several).0;
   };
+  handled = record {
+    done = take k nodes;
+    rest = drop k nodes;
+    are = sym oldest ∙ sym (take-append-drop k nodes);
+    turn = ap (λ (x : GcState). x.past) h.turn;
+  };
   wants = record {
     at_turn = without;
     to_copy = λ e. (node, subst (Among node) oldest (subst (λ n. Among n nodes) (sym is) (at_among nodes k node below)), stopped.live);
@@ -202,3 +208,22 @@ module _ (nodes past after : List Node) (copies : ℕ) (old middle : CoreState) 
     room = ap (λ ns. copies_have_room old.index.sector_size ns (gc_state past old)) (sym oldest) ∙ h.room;
     counted = h.counted;
   }
+
+  pub then_stopped : (cause : Cause) (new : CoreState) → EraseStopped cause middle new → SectorStopped cause past after old new
+  then_stopped cause new e =
+      let other = not_for_copy cause (inr e.cause_is) in
+      record {
+        several = several;
+        stopped = record {
+          copies = h.added;
+          stands = refused_along (IsOwnCopy after) cause after old middle new h.stands.faults (e.history after h.stands.represents);
+          no_room = λ is. absurd (other.0 is);
+        };
+        handled = record {
+          done = nodes;
+          rest = [];
+          are = sym oldest ∙ sym (append-nil nodes);
+          turn = ap (λ (x : GcState). x.past) h.turn;
+        };
+        wants = record { at_turn = λ is. absurd (other.0 is); to_copy = λ is. absurd (other.1 is) };
+      }

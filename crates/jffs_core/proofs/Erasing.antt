@@ -19,8 +19,9 @@ use Rattle.jffs_core.specs.Past.{IsPast, RepresentsWorking}
 use Rattle.jffs_core.specs.Calls.{WorksOn}
 use Rattle.jffs_core.specs.Cleaning.{ErasesOldest, IsDeadOldest, AreDead, erased_times}
 use Rattle.jffs_log.specs.Wear.{ErasedInTurn}
-use Rattle.jffs_log.proofs.Wear.{in_turn_none, turns_go_on}
-use Rattle.jffs_core.specs.Erases.{ErasesAtMost, Leaves, StaysBounded}
+use Rattle.jffs_log.proofs.erase.Wear.{in_turn_none, turns_go_on}
+use Rattle.jffs_log.proofs.erase.WearOverSessions.{images_fix_first}
+use Rattle.jffs_core.specs.Erases.{ErasesAtMost, Leaves, StaysBounded, MountsGoOn}
 use Rattle.jffs_core.proofs.RoomMade.{oldest_known}
 use Rattle.jffs_core.proofs.Sweeping.{held_is, oldest_is}
 
@@ -187,3 +188,12 @@ erasing_goes_on count old middle new h oldest erased leaves one =
           subst (λ k. AreDead past (take k log.sectors)) more
           (dead_so_far past count log (omega arith) (h.dead past known) (subst (λ (l : Layout). NoneLive past (oldest_records l.sectors)) h.log now));
     }
+
+pub mounts_go_on : MountsGoOn
+mounts_go_on mounted past left next given stands works some fresh same sizes =
+    let known = stands.stands.working works in
+    let found = fresh.stands in
+    let again = found.stands.working fresh.works in
+    let device = fresh.device_is in
+    let index = subst (λ (image : List ℕ). IsLogIndex image next.index) (sym device.image_is ∙ same) again.index in
+    images_fix_first left.image left.index next.index known.index index (sym sizes.0 ∙ device.sizes.0, sym sizes.1 ∙ device.sizes.1) some

@@ -13,9 +13,9 @@ use Rattle.jffs_log.specs.Image.{log_sectors}
 use Rattle.jffs_log.specs.Volume.{sectors_in}
 use Rattle.jffs_log.specs.Cleaning.{fresh_has_room, room_made}
 use Rattle.jffs_log.specs.RoomLaws.{Holds}
-use Rattle.jffs_log.proofs.MountedLog.{log_nodes}
-use Rattle.jffs_log.proofs.Copied.{copies_take_over, unmounts_are_dead}
-use Rattle.jffs_log.proofs.Bound.{full_logs_are_heavy}
+use Rattle.jffs_log.proofs.scans.MountedLog.{log_nodes}
+use Rattle.jffs_log.proofs.rooms.Copied.{copies_take_over, unmounts_are_dead}
+use Rattle.jffs_log.proofs.rooms.Bound.{full_logs_are_heavy}
 use Rattle.jffs_log.proofs.Parts.{logs_weigh_less}
 use Rattle.jffs_core.proofs.Deciding.{sector_sizes}
 

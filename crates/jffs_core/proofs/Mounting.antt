@@ -15,11 +15,11 @@ use Rattle.jffs_log.specs.ScanFound.{IsFound, IsMounted}
 use Rattle.jffs_log.specs.Live.{live_log}
 use Rattle.jffs_log.specs.LogIndex.{log_in, layout_in}
 use Rattle.jffs_log.specs.RoomLaws.{IsSound}
-use Rattle.jffs_log.proofs.Appended.{described_inside}
-use Rattle.jffs_log.proofs.Ring.{Numbered}
-use Rattle.jffs_log.proofs.Volume.{length-split}
-use Rattle.jffs_log.proofs.MountedLog.{mounts_are_sound, ok_same, nodes_mapped, placed_nodes}
-use Rattle.jffs_log.proofs.MountHistory.{mounts_are_histories}
+use Rattle.jffs_log.proofs.append.Appended.{described_inside}
+use Rattle.jffs_log.proofs.ring.Ring.{Numbered}
+use Rattle.jffs_log.proofs.ring.Volume.{length-split}
+use Rattle.jffs_log.proofs.scans.MountedLog.{mounts_are_sound, ok_same, nodes_mapped, placed_nodes}
+use Rattle.jffs_log.proofs.scans.MountHistory.{mounts_are_histories}
 use Rattle.jffs_log.proofs.Histories.{histories_are_scanned, turned_round}
 use Rattle.jffs_core.specs.CoreState.{CoreState}
 use Rattle.jffs_core.specs.Step.{ends_with_unmount}
@@ -48,6 +48,7 @@ found_past image b tree clean limits h =
     let sound = mounts_are_sound len (split count len image) scanned (whole_sectors count len image h.index.whole h.bytes) h.answer in
     record {
       history = history;
+      index = h.index;
       sound = subst (λ k. IsSound k len (record { past = past; log = layout_in image b })) (length-split count len image) sound;
       tree_is = ap (λ (s : Scanned). s.tree) same;
       limits_are = h.limits_are;

@@ -20,8 +20,8 @@ use Rattle.jffs_log.specs.LogIndex.{HasSizes, IsLogIndex, IsSameLogIndex, layout
 use Rattle.jffs_log.specs.Cleaning.{Layout, put, is_history, versions_fall, keeps_length}
 use Rattle.jffs_log.specs.RoomLaws.{IsSound, suits_room}
 use Rattle.jffs_log.specs.History.{IsHistory, IsLawfulHistory, KeepsRules}
-use Rattle.jffs_log.proofs.MountedLog.{lawful_keeps}
-use Rattle.jffs_log.proofs.Bound.{puts_keep_sound}
+use Rattle.jffs_log.proofs.scans.MountedLog.{lawful_keeps}
+use Rattle.jffs_log.proofs.rooms.Bound.{puts_keep_sound}
 use Rattle.jffs_tree.specs.declared.wish.Cause.{Cause}
 use Rattle.jffs_tree.specs.declared.wish.Cause.TheVariants.{NoSpace, Device}
 use Rattle.jffs_core.specs.CoreState.{CoreState}
@@ -101,6 +101,7 @@ mid_index old mid tree limits clean same h = record {
     past_is : (past : List Node) → IsPast past old.device.image old.index tree limits clean → IsPast past mid.device.image mid.index tree limits clean
     past_is past p = record {
       history = mid_history past old mid same p.history;
+      index = described p.index;
       sound = rw (mid_layout old mid same, same.index.sectors, same.index.sector_size) p.sound;
       tree_is = p.tree_is;
       limits_are = rw same.index.sector_size p.limits_are;
@@ -110,13 +111,14 @@ mid_index old mid tree limits clean same h = record {
 -- A node was put.
 module _ (past : List Node) (room : Room) (n : Node) (old new : List ℕ) (b c d : LogIndex) (before after : Tree) (limits next : Limits) (was clean : Bool)
     (h : IsPast past old b before limits was) (may : MayPut past b.sector_size room n) (same : IsSameLogIndex b c) (sizes : HasSizes c.sectors c.sector_size d) where
-  pub put_past : has_room room (record_len n) (layout_in old b).free (layout_in old b).erased ≡ true → IsHistory new d (n ∷ past) → layout_in new d ≡ put c.sector_size room n (layout_in old c) → after ≡ tree_of (n ∷ past)
+  pub put_past : has_room room (record_len n) (layout_in old b).free (layout_in old b).erased ≡ true → IsHistory new d (n ∷ past) → IsLogIndex new d → layout_in new d ≡ put c.sector_size room n (layout_in old c) → after ≡ tree_of (n ∷ past)
       → next ≡ limits_of b.sector_size (n ∷ past) → clean ≡ is_clean_in new d → IsPast (n ∷ past) new d after next clean
-  put_past had_room history log tree numbers ends =
+  put_past had_room history told log tree numbers ends =
       let sound = puts_keep_sound b.sectors b.sector_size room n (record { past = past; log = layout_in old b }) h.sound (rules_history (n ∷ past) may.rules) may.suits may.short had_room in
       let there = put_log log in
       record {
         history = history;
+        index = told;
         sound =
             subst (λ k. IsSound d.sectors k (record { past = n ∷ past; log = layout_in new d })) (sym same.sector_size ∙ sizes.1)
             (subst (λ k. IsSound k b.sector_size (record { past = n ∷ past; log = layout_in new d })) (sym same.sectors ∙ sizes.0)
@@ -136,7 +138,7 @@ pub put_known : (past : List Node) (room : Room) (n : Node) (old mid new : LogSt
 put_known past room n old mid new before after limits next was clean h may same had e tree numbers ends =
     let image : mid.device.image ≡ old.device.image = ap (λ (d : FlashDevice). d.image) same.device in
     put_past past room n old.device.image new.device.image old.index mid.index new.index before after limits next was clean h may same.index e.numbers.sizes had
-    (e.history past (mid_history past old mid same h.history) may.rules)
+    (e.history past (mid_history past old mid same h.history) may.rules) e.works.told
     (e.layout_is ∙ ap (λ (xs : List ℕ). put mid.index.sector_size room n (layout_in xs mid.index)) image)
     tree numbers (ends ∙ sym e.clean)
 

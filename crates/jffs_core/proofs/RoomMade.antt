@@ -7,23 +7,25 @@ use Rattle.jffs_node.specs.Record.{record_len}
 use Rattle.jffs_tree.specs.Origin.{is_live}
 use Rattle.jffs_tree.proofs.Copies.{cleaning_copies_are_true}
 use Rattle.jffs_log.specs.Room.{next_version, weight}
-use Rattle.jffs_log.specs.Cleaning.{GcState, version_after, copied, with_copy, handled, handled_each, cleaned, oldest_records, copies_have_room, fresh_has_room, room_made, is_history}
+use Rattle.jffs_log.specs.Cleaning.{GcState, version_after, copied, with_copy, handled, handled_each, cleaned, oldest_records, copies_have_room, fresh_has_room, room_made, is_history, used}
+use Rattle.jffs_log.specs.Work.{live_and_free}
 use Rattle.jffs_log.specs.RoomLaws.{Among}
-use Rattle.jffs_log.proofs.Puts.{map_all}
-use Rattle.jffs_log.proofs.Copied.{copies_take_over, unmounts_are_dead, live_present}
-use Rattle.jffs_log.proofs.Cleanings.{IsTurn, turn_cleaned}
-use Rattle.jffs_log.proofs.Bound.{start, no_room, one_kept, full_logs_are_heavy}
+use Rattle.jffs_log.proofs.append.Puts.{map_all}
+use Rattle.jffs_log.proofs.rooms.Copied.{copies_take_over, unmounts_are_dead, live_present}
+use Rattle.jffs_log.proofs.rooms.Cleanings.{IsTurn, turn_cleaned}
+use Rattle.jffs_log.proofs.rooms.Bound.{start, no_room, one_kept, full_logs_are_heavy}
 use Rattle.jffs_node.proofs.Each.{each_front}
 use Rattle.jffs_log.proofs.Parts.{versions_follow, logs_weigh_less}
 use Rattle.jffs_core.specs.History.{AreOwnCopies}
 use Rattle.jffs_core.specs.Run.{OnlyCopies}
 use Rattle.jffs_core.specs.RoomSteps.{CleaningOnlyCopies, StoppedOnlyCopies, MakingRoomOnlyCopies, NoSpaceIsAStep}
-use Rattle.jffs_core.specs.Step.{HadNoRoom, gets_room, room_can_be_made}
+use Rattle.jffs_core.specs.Step.{session_of, HadNoRoom, gets_room, room_can_be_made}
 use Rattle.jffs_tree.specs.Decide.{with}
 use Rattle.jffs_tree.specs.declared.wish.Cause.TheVariants as causes
 use Rattle.jffs_tree.specs.declared.wish.Outcome.{Outcome}
 use Rattle.jffs_tree.specs.declared.wish.Outcome.TheVariants.{Refused}
 use Rattle.jffs_core.proofs.Lawful.{copies_along, none_made}
+use Rattle.jffs_core.proofs.Working.{turn_is_little}
 
 grown : (past copies : List Node) → AreOwnCopies past copies → version_after past ≤ version_after (copies ++ past)
 grown past [] h = omega arith
@@ -128,6 +130,8 @@ no_space_is_a_step t q n s gone taken held low enough two takes decided fresh sh
     let same_past : t.past ≡ s.past = ap (λ (x : GcState). x.past) taken.session in
     let whole : weight t.past ≡ weight s.past = ap weight same_past in
     let made = subst (λ past. OnlyCopies past (room_made z len (length s.log.sectors) s).past) (sym same_past) (making_room_only_copies total z len s low enough taken.sound (omega arith) few) in
+    let little : used made.copies ≤ live_and_free (session_of t) =
+    subst (λ (x : GcState). used made.copies ≤ live_and_free x) (sym taken.session) (turn_is_little total z len s made.copies taken.sound (made.joined ∙ ap (λ (past : List Node). made.copies ++ past) same_past)) in
     let no : HadNoRoom t q n = record { decided = decided; none = had } in
     let full : gets_room t n ≡ false =
     ap (λ (x : GcState). room_can_be_made z len (length x.log.sectors) x) taken.session
@@ -138,6 +142,7 @@ no_space_is_a_step t q n s gone taken held low enough two takes decided fresh sh
       joined = made.joined;
       copies_are_true = made.true_copies;
       copies_make_room = inr (n, no, fresh);
+      copies_are_little = little;
       clean_is_so = taken.clean;
       failed_says_so = ((λ f. absurd (both_ways t.failed taken.standing f)), (λ f. absurd (not_failed f)));
       outcome = ((takes, (n, no, (λ f two. omega arith), (λ f. full))), refl);

@@ -27,14 +27,16 @@ use Rattle.jffs_core.specs.Past.{RepresentsWorking, RepresentsPast, HasFailed, g
 use Rattle.jffs_core.specs.Calls.{RefusedWith, KeepsTwo}
 use Rattle.jffs_core.specs.Appending.{MayPut, HasPut, PutRefused}
 use Rattle.jffs_core.specs.Answering.{IsNodeOf, HasAnswered, AnswersWith, KeepsAnswer, keeps_two, turn_of}
-use Rattle.jffs_log.specs.Cleaning.{GcState, Layout}
-use Rattle.jffs_log.proofs.Bound.{fresh_keeps_two}
+use Rattle.jffs_log.specs.Cleaning.{GcState, Layout, used}
+use Rattle.jffs_log.specs.Work.{live_and_free}
+use Rattle.jffs_log.proofs.rooms.Bound.{fresh_keeps_two}
 use Rattle.jffs_core.proofs.Deciding.{is_of_tree}
 use Rattle.jffs_core.proofs.Contents.{grows_along, step_grows}
 use Rattle.jffs_core.proofs.Mounting.{clean_ends}
 use Rattle.jffs_core.proofs.Refusing.{works_past, by_refusal, refused_past, fails_as, works_on_faults, same_cause, device_left, refused_keeps}
 use Rattle.jffs_core.proofs.Asked.{decision_is, unmount_is, its_version, its_room, by_length, own_in_hand}
 use Rattle.jffs_core.proofs.RoomMade.{room_at_once}
+use Rattle.jffs_core.proofs.Working.{none_is_little}
 
 -- The causes of a decision, by the decision.
 pub by_tree : (cause : Cause) (t : Turn) (q : Request) → is_of_tree cause ≡ true → takes_no_node t q ≡ false → decision t q ≡ Err cause → RefusedBy cause t q []
@@ -80,13 +82,14 @@ module _ (past : List Node) (old new : CoreState) (q : Request) (works : old.fai
 
   -- an answer that isn't Failed, after own copies and an own node, which lead to this history
   abbrev step_to : (o : Outcome) (copies own after : List Node) → after ≡ own ++ copies ++ past → (◌≡◌ {A = Outcome} o (Refused causes.Failed) → ⊥) → AreOwnCopies past copies → (copies ≡ []) ⊎ MakesRoom (turn_of past old new) q
-      → OutcomeIs o (turn_of past old new) q copies own → IsStep (turn_of past old new) q o after
-  step_to o copies own after joined other true_copies room outcome = record {
+      → used copies ≤ live_and_free (gc_state past old) → OutcomeIs o (turn_of past old new) q copies own → IsStep (turn_of past old new) q o after
+  step_to o copies own after joined other true_copies room little outcome = record {
     copies = copies;
     own = own;
     joined = joined;
     copies_are_true = true_copies;
     copies_make_room = room;
+    copies_are_little = little;
     clean_is_so = clean_so;
     failed_says_so = ((λ f. absurd (both_ways old.failed works f)), (λ f. absurd (other f)));
     outcome = outcome;
@@ -94,14 +97,17 @@ module _ (past : List Node) (old new : CoreState) (q : Request) (works : old.fai
 
   -- the same, to the history that they make
   abbrev step_of : (o : Outcome) (copies own : List Node) → (◌≡◌ {A = Outcome} o (Refused causes.Failed) → ⊥) → AreOwnCopies past copies → (copies ≡ []) ⊎ MakesRoom (turn_of past old new) q
-      → OutcomeIs o (turn_of past old new) q copies own → IsStep (turn_of past old new) q o (own ++ copies ++ past)
-  step_of o copies own other true_copies room outcome = step_to o copies own (own ++ copies ++ past) refl other true_copies room outcome
+      → used copies ≤ live_and_free (gc_state past old) → OutcomeIs o (turn_of past old new) q copies own → IsStep (turn_of past old new) q o (own ++ copies ++ past)
+  step_of o copies own other true_copies room little outcome = step_to o copies own (own ++ copies ++ past) refl other true_copies room little outcome
+
+  no_work : used [] ≤ live_and_free (gc_state past old)
+  no_work = none_is_little (gc_state past old)
 
   pub already_closed : new ≡ old → is_unmount_wish q.wish ≡ true → old.clean ≡ true → HasAnswered past old new q Closed None
   already_closed same unmounts clean = record {
     after = past;
     stands = subst (RepresentsPast past) (sym same) (works_past past old works known);
-    step = step_of Closed [] [] (λ e. cc) tt (inl refl) (unmounts, refl, inl (clean, refl));
+    step = step_of Closed [] [] (λ e. cc) tt (inl refl) no_work (unmounts, refl, inl (clean, refl));
     own = refl;
     fails = ap (λ (c : CoreState). c.failed) same ∙ works;
     faults = λ w. ap (λ (c : CoreState). c.faults) same;
@@ -113,8 +119,8 @@ module _ (past : List Node) (old new : CoreState) (q : Request) (works : old.fai
   pub decided_against : (cause : Cause) → new ≡ old → takes_no_node (turn_of past old new) q ≡ false → ((cause ≡ causes.Memory) × ((n : NewNode) × (decide_on old.tree old.limits q.wish ≡ Ok n))) ⊎ ((is_of_tree cause ≡ true) × (decide_on old.tree old.limits q.wish ≡ Err cause)) → HasAnswered past old new q (Refused cause) None
   decided_against cause same takes why =
       let step : IsStep (turn_of past old new) q (Refused cause) past = elim why [
-        | inl memory ↦ subst (λ c. IsStep (turn_of past old new) q (Refused c) past) (sym memory.0) (step_of (Refused causes.Memory) [] [] (λ e. cc) tt (inl refl) ((takes, (memory.1.0, decision_is past old q known ∙ memory.1.1)), refl))
-        | inr tree ↦ step_of (Refused cause) [] [] (not_failed cause tree.0) tt (inl refl) (by_tree cause (turn_of past old new) q tree.0 takes (decision_is past old q known ∙ tree.1), refl)
+        | inl memory ↦ subst (λ c. IsStep (turn_of past old new) q (Refused c) past) (sym memory.0) (step_of (Refused causes.Memory) [] [] (λ e. cc) tt (inl refl) no_work ((takes, (memory.1.0, decision_is past old q known ∙ memory.1.1)), refl))
+        | inr tree ↦ step_of (Refused cause) [] [] (not_failed cause tree.0) tt (inl refl) no_work (by_tree cause (turn_of past old new) q tree.0 takes (decision_is past old q known ∙ tree.1), refl)
       ] in
       record {
         after = past;
@@ -135,7 +141,7 @@ module _ (past : List Node) (old new : CoreState) (q : Request) (works : old.fai
   put_copy node of copies is may h = record {
     after = node ∷ past;
     stands = works_past (node ∷ past) new h.works (h.represents past known may);
-    step = step_of (Copied node.version) [] (node ∷ []) (λ e. cc) tt (inl refl)
+    step = step_of (Copied node.version) [] (node ∷ []) (λ e. cc) tt (inl refl) no_work
         (of.new, copies, decision_is past old q known ∙ of.decided, refl, its_version past old q node known of, ap (λ (m : Node). m ∷ []) of.is, its_room past old q node known of new rooms.Fresh true is h.had_room);
     own = refl;
     fails = h.works;
@@ -148,7 +154,7 @@ module _ (past : List Node) (old new : CoreState) (q : Request) (works : old.fai
   put_unmount node of unmounts is may h = record {
     after = node ∷ past;
     stands = works_past (node ∷ past) new h.works (h.represents past known may);
-    step = step_of Closed [] (node ∷ []) (λ e. cc) tt (inl refl)
+    step = step_of Closed [] (node ∷ []) (λ e. cc) tt (inl refl) no_work
         (unmounts, refl, inr (dirty, (of.new, node.version, decision_is past old q known ∙ of.decided, its_version past old q node known of, ap (λ (m : Node). m ∷ []) of.is, its_room past old q node known of new rooms.Unmount true is h.had_room)));
     own = refl;
     fails = h.works;
@@ -194,10 +200,10 @@ module _ (past : List Node) (old new : CoreState) (q : Request) (works : old.fai
       by_cause c h r none =
           by_refusal P past old new (λ c. PutRefused room node c old new → (c ≡ causes.NoSpace → is_fresh (with of.new 0 0 0) ≡ true → ⊥) → IsStep (turn_of past old new) q (Refused c) past)
           (λ w spent h none. absurd (no_next spent))
-          (λ w h none. step_of (Refused causes.Memory) [] [] (λ e. cc) tt (inl refl) ((of.takes_node, (of.new, decision_is past old q known ∙ of.decided)), refl))
-          (λ w h none. step_of (Refused causes.NoSpace) [] [] (λ e. cc) tt (inl refl)
+          (λ w h none. step_of (Refused causes.Memory) [] [] (λ e. cc) tt (inl refl) no_work ((of.takes_node, (of.new, decision_is past old q known ∙ of.decided)), refl))
+          (λ w h none. step_of (Refused causes.NoSpace) [] [] (λ e. cc) tt (inl refl) no_work
           ((of.takes_node, (of.new, record { decided = decision_is past old q known ∙ of.decided; none = its_room past old q node known of new room false is (h.no_room refl) }, (λ f two. absurd (none refl f)), (λ f. absurd (none refl f)))), refl))
-          (λ d h none. step_of (Refused causes.Device) [] [] (λ e. cc) tt (inl refl) (lt-ltb old.faults new.faults d.faults, refl))
+          (λ d h none. step_of (Refused causes.Device) [] [] (λ e. cc) tt (inl refl) no_work (lt-ltb old.faults new.faults d.faults, refl))
           c r h none
 
   -- a fresh record was put at once
@@ -209,7 +215,7 @@ module _ (past : List Node) (old new : CoreState) (q : Request) (works : old.fai
       record {
         after = node ∷ past;
         stands = stands;
-        step = step_of (Appended node.inode node.version) [] (node ∷ []) (λ e. cc) tt (inl refl)
+        step = step_of (Appended node.inode node.version) [] (node ∷ []) (λ e. cc) tt (inl refl) no_work
             (of.new, decision_is past old q known ∙ of.decided, fresh, ap (λ (m : Node). m.inode) (sym of.is), its_version past old q node known of, ap (λ (m : Node). m ∷ []) of.is, room.0, sym (ap (λ (s : GcState). s.past) room.1));
         own = refl;
         fails = now_works;
@@ -220,11 +226,11 @@ module _ (past : List Node) (old new : CoreState) (q : Request) (works : old.fai
 
   -- a fresh record was put, after own copies
   pub put_fresh : (node next : Node) (after : List Node) (of : IsNodeOf old q node) → is_fresh (with of.new 0 0 0) ≡ true → (copies : OnlyCopies past after) → (copies.copies ≡ []) ⊎ MakesRoom (turn_of past old new) q
-      → (gets_room (turn_of past old new) of.new ≡ true) × (after ≡ past_with_room (turn_of past old new) of.new) → next ≡ with of.new next.version q.writer q.seq → next_version after ≡ Some next.version → new.failed ≡ false → new.faults ≡ old.faults → KeepsTwo old new → RepresentsPast (next ∷ after) new → HasAnswered past old new q (Appended next.inode next.version) (Some next)
-  put_fresh node next after of fresh copies room gets is version now_works no_fault two stands = record {
+      → used copies.copies ≤ live_and_free (gc_state past old) → (gets_room (turn_of past old new) of.new ≡ true) × (after ≡ past_with_room (turn_of past old new) of.new) → next ≡ with of.new next.version q.writer q.seq → next_version after ≡ Some next.version → new.failed ≡ false → new.faults ≡ old.faults → KeepsTwo old new → RepresentsPast (next ∷ after) new → HasAnswered past old new q (Appended next.inode next.version) (Some next)
+  put_fresh node next after of fresh copies room little gets is version now_works no_fault two stands = record {
     after = next ∷ after;
     stands = stands;
-    step = step_to (Appended next.inode next.version) copies.copies (next ∷ []) (next ∷ after) (ap (λ (nodes : List Node). next ∷ nodes) copies.joined) (λ e. cc) copies.true_copies room
+    step = step_to (Appended next.inode next.version) copies.copies (next ∷ []) (next ∷ after) (ap (λ (nodes : List Node). next ∷ nodes) copies.joined) (λ e. cc) copies.true_copies room little
         (of.new, decision_is past old q known ∙ of.decided, fresh, ap (λ (m : Node). m.inode) (sym is), ap next_version (sym copies.joined) ∙ version, ap (λ (m : Node). m ∷ []) is, gets.0, sym copies.joined ∙ gets.1);
     own = refl;
     fails = now_works;
@@ -235,9 +241,9 @@ module _ (past : List Node) (old new : CoreState) (q : Request) (works : old.fai
 
   -- room couldn't be made
   pub make_stopped : (P : Node → Type 0) (node : Node) (cause : Cause) (after : List Node) (of : IsNodeOf old q node) → ((m : Node) → P m → IsInHand (turn_of past old new) q after m × MayFollow after m)
-      → is_fresh (with of.new 0 0 0) ≡ true → had_room (turn_of past old new) of.new ≡ false → OnlyCopies past after → RefusedWith P cause after old new
+      → is_fresh (with of.new 0 0 0) ≡ true → had_room (turn_of past old new) of.new ≡ false → (copies : OnlyCopies past after) → used copies.copies ≤ live_and_free (gc_state past old) → RefusedWith P cause after old new
       → (cause ≡ causes.NoSpace → 2 ≤ (layout_in old.image old.index).erased → heavy old.index.sectors old.index.sector_size ≤ weight past) → (cause ≡ causes.NoSpace → gets_room (turn_of past old new) of.new ≡ false) → (cause ≡ causes.NoSpace → KeepsTwo old new) → HasAnswered past old new q (Refused cause) None
-  make_stopped P node cause after of in_hand fresh none copies r bound full two =
+  make_stopped P node cause after of in_hand fresh none copies little r bound full two =
       let step : IsStep (turn_of past old new) q (Refused cause) after = subst (IsStep (turn_of past old new) q (Refused cause)) (sym copies.joined) (by_cause cause r bound full) in
       record {
         after = after;
@@ -261,10 +267,10 @@ module _ (past : List Node) (old new : CoreState) (q : Request) (works : old.fai
       by_cause c r bound full =
           by_refusal P after old new
           (λ c. (c ≡ causes.NoSpace → 2 ≤ (layout_in old.image old.index).erased → heavy old.index.sectors old.index.sector_size ≤ weight past) → (c ≡ causes.NoSpace → gets_room (turn_of past old new) of.new ≡ false) → IsStep (turn_of past old new) q (Refused c) (copies.copies ++ past))
-          (λ w spent bound full. step_of (Refused causes.VersionsSpent) copies.copies [] (λ e. cc) copies.true_copies (inr made) ((of.takes_node, inr (made, ap next_version (sym copies.joined) ∙ spent)), refl))
-          (λ w bound full. step_of (Refused causes.Memory) copies.copies [] (λ e. cc) copies.true_copies (inr made) ((of.takes_node, (of.new, no_room.decided)), refl))
-          (λ w bound full. step_of (Refused causes.NoSpace) copies.copies [] (λ e. cc) copies.true_copies (inr made) ((of.takes_node, (of.new, no_room, (λ f two. bound refl two), (λ f. full refl))), refl))
-          (λ d bound full. step_of (Refused causes.Device) copies.copies [] (λ e. cc) copies.true_copies (inr made) (lt-ltb old.faults new.faults d.faults, refl))
+          (λ w spent bound full. step_of (Refused causes.VersionsSpent) copies.copies [] (λ e. cc) copies.true_copies (inr made) little ((of.takes_node, inr (made, ap next_version (sym copies.joined) ∙ spent)), refl))
+          (λ w bound full. step_of (Refused causes.Memory) copies.copies [] (λ e. cc) copies.true_copies (inr made) little ((of.takes_node, (of.new, no_room.decided)), refl))
+          (λ w bound full. step_of (Refused causes.NoSpace) copies.copies [] (λ e. cc) copies.true_copies (inr made) little ((of.takes_node, (of.new, no_room, (λ f two. bound refl two), (λ f. full refl))), refl))
+          (λ d bound full. step_of (Refused causes.Device) copies.copies [] (λ e. cc) copies.true_copies (inr made) little (lt-ltb old.faults new.faults d.faults, refl))
           c r bound full
 
 -- the answer in other words
@@ -287,6 +293,7 @@ failed_answer past c q fails h = record {
     joined = refl;
     copies_are_true = tt;
     copies_make_room = inl refl;
+    copies_are_little = none_is_little (gc_state past c);
     clean_is_so = (h.broken fails).clean;
     failed_says_so = ((λ f. refl), (λ e. fails));
     outcome = ((fails, refl), refl);

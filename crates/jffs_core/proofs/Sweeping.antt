@@ -25,12 +25,12 @@ use Rattle.jffs_log.specs.LogIndex.{IsLogIndex, HasSizes, layout_in, oldest_in}
 use Rattle.jffs_log.specs.History.{IsHistory}
 use Rattle.jffs_log.specs.Cleaning.{Layout, copied, with_copy, version_after, versions_fall, oldest_records, erase_oldest}
 use Rattle.jffs_log.specs.RoomLaws.{Among, IsSound}
-use Rattle.jffs_log.proofs.Ring.{Numbered, ring_log}
-use Rattle.jffs_log.proofs.MountedLog.{placed_nodes}
+use Rattle.jffs_log.proofs.ring.Ring.{Numbered, ring_log}
+use Rattle.jffs_log.proofs.scans.MountedLog.{placed_nodes}
 use Rattle.jffs_log.proofs.Histories.{own}
-use Rattle.jffs_log.proofs.Copied.{copies_take_over, live_present}
+use Rattle.jffs_log.proofs.rooms.Copied.{copies_take_over, live_present}
 use Rattle.jffs_log.proofs.Parts.{versions_follow}
-use Rattle.jffs_log.proofs.Bound.{erasing_keeps_sound}
+use Rattle.jffs_log.proofs.rooms.Bound.{erasing_keeps_sound}
 use Rattle.jffs_core.specs.CoreState.{CoreState}
 use Rattle.jffs_core.specs.History.{IsOwnCopy}
 use Rattle.jffs_core.specs.Past.{IsPast, RepresentsWorking, is_clean_in, gc_state}
@@ -58,10 +58,11 @@ pub oldest_is : (image : List ℕ) (b : LogIndex) → map (λ (p : Placed). p.no
 oldest_is image b = first_nodes (log_sectors (sectors_in b.sectors b.sector_size image))
 
 -- The oldest sector was erased.
-pub erased_past : (past : List Node) (old new : List ℕ) (b d : LogIndex) (tree : Tree) (limits : Limits) (clean : Bool) → IsPast past old b tree limits clean → IsHistory new d past → layout_in new d ≡ erase_oldest (layout_in old b)
+pub erased_past : (past : List Node) (old new : List ℕ) (b d : LogIndex) (tree : Tree) (limits : Limits) (clean : Bool) → IsPast past old b tree limits clean → IsHistory new d past → IsLogIndex new d → layout_in new d ≡ erase_oldest (layout_in old b)
     → is_clean_in new d ≡ is_clean_in old b → HasSizes b.sectors b.sector_size d → 2 ≤ length (layout_in old b).sectors → IsPast past new d tree limits clean
-erased_past past old new b d tree limits clean h history log same sizes two = record {
+erased_past past old new b d tree limits clean h history told log same sizes two = record {
   history = history;
+  index = told;
   sound =
       let sound = erasing_keeps_sound b.sectors b.sector_size (record { past = past; log = layout_in old b }) h.sound two in
       subst (λ k. IsSound d.sectors k (record { past = past; log = layout_in new d })) sizes.1

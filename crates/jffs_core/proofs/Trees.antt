@@ -11,7 +11,6 @@ use Rattle.jffs_tree.specs.Origin.{Held, Tree, state_in, tree_of}
 use Rattle.jffs_tree.specs.Check.{each_fits, check}
 use Rattle.jffs_tree.specs.After.{held_in, held_after, tree_after, can_apply, keeps_kind_in, keeps_offsets_in}
 use Rattle.jffs_tree.specs.declared.wish.Cause.{Cause}
-use Rattle.jffs_tree.specs.declared.wish.Cause.TheVariants as causes
 use Rattle.jffs_tree.specs.declared.wish.Outcome.{Outcome}
 use Rattle.jffs_tree.specs.declared.wish.Outcome.TheVariants.{Appended, Copied, Closed, Refused}
 use Rattle.jffs_tree.proofs.Entries.{fits_parts}

@@ -1,23 +1,37 @@
 -- What is copied for an answer.
-use Rattle.std.proofs.Common.{◌≡◌, ℕ, ◌+◌, ◌-◌, ◌*◌, ◌≤◌, List, ◌++◌, length, take, sym, ap, subst, ◌∙◌, arith}
+use Rattle.std.proofs.Common.{◌≡◌, ⊎_elim, ℕ, ◌≤◌, List, [], ◌++◌, length, sym, ap, ◌∙◌, arith}
 use Rattle.jffs_node.specs.declared.node.Node.{Node}
-use Rattle.jffs_node.specs.Record.{record_len}
-use Rattle.jffs_tree.specs.Decide.{with}
 use Rattle.jffs_log.specs.Cleaning.{GcState, used, room_made}
-use Rattle.jffs_log.specs.Work.{copies}
-use Rattle.jffs_log.proofs.Work.{newest_are}
-use Rattle.jffs_log.proofs.Copied.{copies_take_over}
-use Rattle.jffs_log.proofs.WorkOfTurns.{making_room_copies_little, copies_are_few}
-use Rattle.jffs_core.specs.Step.{session_of}
-use Rattle.jffs_core.specs.Work.{AreLittle, AnswersCopyLittle}
+use Rattle.jffs_log.specs.RoomLaws.{IsSound}
+use Rattle.jffs_log.specs.Work.{copies, live_and_free}
+use Rattle.jffs_log.proofs.rooms.Work.{newest_are}
+use Rattle.jffs_log.proofs.rooms.Copied.{copies_take_over}
+use Rattle.jffs_log.proofs.rooms.WorkOfTurns.{making_room_copies_little, each_long}
+use Rattle.jffs_core.specs.CoreState.{CoreState}
+use Rattle.jffs_core.specs.Past.{RepresentsWorking, gc_state}
+use Rattle.jffs_core.specs.Cleaning.{HasMadeRoom}
+use Rattle.jffs_core.specs.Work.{AnswersCopyLittle, RefusedAddNothing}
 
 pub answers_copy_little : AnswersCopyLittle
-answers_copy_little t q inode version after sound step =
-    let n = step.outcome.0 in
-    let s = session_of t in
-    let z = t.volume.sector_size in
-    let made : GcState = room_made z (record_len (with n 0 0 0)) (length t.log) s in
-    let are : copies s made ≡ step.copies = newest_are step.copies t.past made.past (sym step.outcome.7) in
-    let little = making_room_copies_little copies_take_over t.volume.sectors z (record_len (with n 0 0 0)) (length t.log) s sound (omega arith) in
-    let few = copies_are_few s made in
-    subst (AreLittle t) are (record { bytes = little.bytes; count = few })
+answers_copy_little t q o after step = record { bytes = step.copies_are_little; count = each_long step.copies }
+
+pub refused_add_nothing : RefusedAddNothing
+refused_add_nothing t q cause after step no_room =
+    let none : step.copies ≡ [] = ⊎_elim (λ e. e) (λ m. absurd (no_room m)) step.copies_make_room in
+    step.joined ∙ ap (λ (own : List Node). own ++ step.copies ++ t.past) step.outcome.1 ∙ ap (λ (made : List Node). made ++ t.past) none
+
+-- The copies of a whole turn are little.
+pub turn_is_little : (sectors z len : ℕ) (s : GcState) (made : List Node) → IsSound sectors z s → (room_made z len (length s.log.sectors) s).past ≡ made ++ s.past → used made ≤ live_and_free s
+turn_is_little sectors z len s made sound are =
+    let after = room_made z len (length s.log.sectors) s in
+    let little = making_room_copies_little copies_take_over sectors z len (length s.log.sectors) s sound (omega arith) in
+    let bytes = little.bytes in
+    let same : used (copies s after) ≡ used made = ap used (newest_are made s.past after.past are) in
+    omega arith
+
+pub made_is_little : (len : ℕ) (past after : List Node) (old new : CoreState) → RepresentsWorking past old → (h : HasMadeRoom len past after old new) → used h.copies.copies ≤ live_and_free (gc_state past old)
+made_is_little len past after old new known h =
+    turn_is_little old.index.sectors old.index.sector_size len (gc_state past old) h.copies.copies known.sound (sym (ap (λ (s : GcState). s.past) h.turn) ∙ h.copies.joined)
+
+pub none_is_little : (s : GcState) → used [] ≤ live_and_free s
+none_is_little s = omega arith

@@ -1,6 +1,6 @@
 -- The oldest sector is cleaned, and dead ones are erased.
 use Rattle.std.specs.Prelude.{◌≡◌, ◌⊎◌, ℕ, zero, suc, ◌+◌, ◌/◌, ◌<◌, ◌≤◌, Bool, true, false, List}
-use Rattle.std.specs.Prelude.{length, take, if◌then◌else◌}
+use Rattle.std.specs.Prelude.{◌++◌, length, take, if◌then◌else◌}
 use Rattle.std.specs.List.{AllByRecursion}
 use Rattle.jffs_node.specs.declared.node.Node.{Node}
 use Rattle.jffs_node.specs.Record.{record_len}
@@ -11,7 +11,8 @@ use Rattle.jffs_tree.specs.Laws.{NoneLive}
 use Rattle.jffs_log.specs.LogIndex.{layout_in, lives_in, oldest_in}
 use Rattle.jffs_log.specs.Cleaning.{Layout, handled, handled_each, copy_has_room, copies_have_room}
 use Rattle.jffs_log.specs.Cleaning.{oldest_records, cleaned, erase_oldest, fresh_has_room}
-use Rattle.jffs_log.specs.Cleaning.{room_made}
+use Rattle.jffs_log.specs.Cleaning.{room_made, used}
+use Rattle.jffs_log.specs.Work.{live_and_free}
 use Rattle.jffs_log.specs.RoomLaws.{Among}
 use Rattle.jffs_core.specs.declared.cleaning.Cleaned.{Cleaned}
 use Rattle.jffs_core.specs.declared.cleaning.Cleaned.TheVariants.{Erased, OneSector}
@@ -117,13 +118,14 @@ pub record CleaningStopped (cause : Cause) (past after : List Node) (old new : C
   pub no_room : cause ≡ NoSpace → 2 ≤ (layout_in old.image old.index).erased → ⊥
 
 -- No more room was made for a fresh record of `len` bytes, with this cause: NoSpace only where none
--- could be.
+-- could be. The copies that were made so far are little.
 pub record MakingStopped (len : ℕ) (cause : Cause) (past after : List Node) (old new : CoreState) :
     Type 0 where
   pub stopped : CleaningStopped cause past after old new
   pub none : cause ≡ NoSpace
       → room_can_be_made old.index.sector_size len (length (layout_in old.image old.index).sectors)
       (gc_state past old) ≡ false
+  pub little : used stopped.copies.copies ≤ live_and_free (gc_state past old)
 
 -- one of these records is live
 abbrev pub OneLives : List Node → List Node → Type 0
@@ -136,11 +138,19 @@ pub record WantsCopy (cause : Cause) (past after : List Node) (c : CoreState) : 
   pub to_copy : cause ≡ VersionsSpent
       → OneLives after (oldest_records (layout_in c.image c.index).sectors)
 
+-- Some of the oldest sector's records were handled, from its first on.
+pub record HandledFirst (past after : List Node) (c : CoreState) : Type 0 where
+  pub done : List Node
+  pub rest : List Node
+  pub are : oldest_records (layout_in c.image c.index).sectors ≡ done ++ rest
+  pub turn : after ≡ (handled_each c.index.sector_size done (gc_state past c)).past
+
 -- The cleaning of one sector stopped, which isn't the log's only one.
 pub record SectorStopped (cause : Cause) (past after : List Node) (old new : CoreState) :
     Type 0 where
   pub several : 2 ≤ length (layout_in old.image old.index).sectors
   pub stopped : CleaningStopped cause past after old new
+  pub handled : HandledFirst past after old
   pub wants : WantsCopy cause past after old
 
 -- What a cleaning answers: the sector that was cleaned, or that the log has at most one, and

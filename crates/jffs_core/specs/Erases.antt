@@ -1,10 +1,11 @@
 -- How often a call erases, in which order, and that a sector stays erased.
 use Rattle.std.specs.Prelude.{◌≡◌, ℕ, ◌+◌, ◌≤◌, false, List}
 use Rattle.jffs_node.specs.declared.node.Node.{Node}
+use Rattle.jffs_flash.specs.Device.{Device}
 use Rattle.jffs_log.specs.LogIndex.{HasSizes, layout_in}
 use Rattle.jffs_log.specs.Wear.{ErasedInTurn}
 use Rattle.jffs_core.specs.CoreState.{CoreState, SameAnswers}
-use Rattle.jffs_core.specs.Past.{Represents}
+use Rattle.jffs_core.specs.Past.{Represents, IsFresh}
 
 -- Each erase takes a sector from the log, and a sector that is begun gives it one: erases and,
 -- while the core works, the sectors that hold the log, counted together, rise by at most so many.
@@ -35,3 +36,12 @@ abbrev pub OneIsErased : Type 0
 OneIsErased =
     (mounted past : List Node) (c : CoreState) → Represents mounted past c → c.failed ≡ false
     → 1 ≤ (layout_in c.image c.index).erased
+
+-- A mount of the bytes that a working core left finds the log begin with the sector that it began
+-- with there, where any sector held it. So over sessions too the sectors are erased in turn.
+abbrev pub MountsGoOn : Type 0
+MountsGoOn =
+    (mounted past : List Node) (left next : CoreState) (given : Device)
+    → Represents mounted past left → left.failed ≡ false → 1 ≤ left.index.held
+    → IsFresh given next → given.image ≡ left.image
+    → HasSizes given.sectors given.sector_size left.index → next.index.first ≡ left.index.first

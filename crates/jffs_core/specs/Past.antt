@@ -23,10 +23,12 @@ use Rattle.jffs_core.specs.Step.{ends_with_unmount}
 abbrev pub is_clean_in : List ℕ → LogIndex → Bool
 is_clean_in image b = is_clean (sectors_in b.sectors b.sector_size image)
 
--- What a core that works has is what this history makes, of which the image holds the newest part.
+-- What a core that works has is what this history makes, of which the image holds the newest part,
+-- where the index says.
 pub record IsPast (past : List Node) (image : List ℕ) (b : LogIndex) (tree : Tree) (limits : Limits)
     (clean : Bool) : Type 0 where
   pub history : IsHistory image b past
+  pub index : IsLogIndex image b
   pub sound : IsSound b.sectors b.sector_size (record { past = past; log = layout_in image b })
   pub tree_is : tree ≡ tree_of past
   pub limits_are : limits ≡ limits_of b.sector_size past

@@ -13,6 +13,8 @@ use Rattle.jffs_log.specs.RoomLaws.{IsSound, Holds}
 use Rattle.jffs_core.specs.Run.{OnlyCopies}
 use Rattle.jffs_core.specs.Step.{Turn, IsStep, decision, takes_no_node, had_room, session_of}
 use Rattle.jffs_core.specs.Step.{ends_with_unmount}
+use Rattle.jffs_node.specs.declared.layout.TheConstants.{HEADER_LEN}
+use Rattle.jffs_flash.specs.declared.sizes.TheConstants.{MIN_SECTORS}
 
 -- the versions up to here fit 32 bits
 abbrev pub HasVersions : GcState → Type 0
@@ -34,7 +36,7 @@ StoppedOnlyCopies =
 
 abbrev pub MakingRoomOnlyCopies : Type 0
 MakingRoomOnlyCopies =
-    (sectors sector_size len : ℕ) (s : GcState) → 64 ≤ sector_size → 6 ≤ sectors
+    (sectors sector_size len : ℕ) (s : GcState) → HEADER_LEN ≤ sector_size → MIN_SECTORS ≤ sectors
     → IsSound sectors sector_size s → 2 ≤ s.log.erased
     → HasVersions (room_made sector_size len (length s.log.sectors) s)
     → OnlyCopies s.past (room_made sector_size len (length s.log.sectors) s).past
@@ -50,7 +52,8 @@ pub record TakenIn (t : Turn) (s : GcState) : Type 0 where
 abbrev pub NoSpaceIsAStep : Type 0
 NoSpaceIsAStep =
     (t : Turn) (q : Request) (n : NewNode) (s : GcState) (gone : List Node) → TakenIn t s
-    → Holds s gone → 64 ≤ t.volume.sector_size → 6 ≤ t.volume.sectors → 2 ≤ t.erased
+    → Holds s gone → HEADER_LEN ≤ t.volume.sector_size → MIN_SECTORS ≤ t.volume.sectors
+    → 2 ≤ t.erased
     → takes_no_node t q ≡ false → decision t q ≡ Ok n → is_fresh (with n 0 0 0) ≡ true
     → record_len (with n 0 0 0) ≤ t.volume.sector_size / 4 → had_room t n ≡ false
     → fresh_has_room (record_len (with n 0 0 0))

@@ -14,7 +14,8 @@ use Rattle.jffs_log.specs.declared.room.Room.{Room}
 use Rattle.jffs_log.specs.declared.room.Room.TheVariants as rooms
 use Rattle.jffs_log.specs.Room.{has_room, limits, next_version, weight, heavy}
 use Rattle.jffs_log.specs.Cleaning.{GcState, oldest_records, copies_have_room, cleaned}
-use Rattle.jffs_log.specs.Cleaning.{fresh_has_room, room_made}
+use Rattle.jffs_log.specs.Cleaning.{fresh_has_room, room_made, used}
+use Rattle.jffs_log.specs.Work.{live_and_free}
 use Rattle.jffs_core.specs.History.{HasNextVersion, IsOwnCopy, AreOwnCopies}
 
 pub record Volume : Type 0 where
@@ -143,6 +144,7 @@ pub record IsStep (t : Turn) (q : Request) (o : Outcome) (after : List Node) : T
   pub joined : after ≡ own ++ copies ++ t.past
   pub copies_are_true : AreOwnCopies t.past copies
   pub copies_make_room : (copies ≡ []) ⊎ MakesRoom t q
+  pub copies_are_little : used copies ≤ live_and_free (session_of t)
   pub clean_is_so : t.clean ≡ true → ends_with_unmount t.past ≡ true
   pub failed_says_so : IsTrue t.failed ↔ (o ≡ Refused causes.Failed)
   pub outcome : OutcomeIs o t q copies own

@@ -1,21 +1,29 @@
--- How much is programmed for an answer.
-use Rattle.std.specs.Prelude.{◌≡◌, ℕ, ◌+◌, ◌*◌, ◌≤◌, List, length}
+-- How much is copied for an answer.
+use Rattle.std.specs.Prelude.{◌≡◌, ◌*◌, ◌≤◌, List, length}
 use Rattle.jffs_node.specs.declared.node.Node.{Node}
-use Rattle.jffs_tree.specs.declared.wish.Outcome.TheVariants.{Appended}
+use Rattle.jffs_tree.specs.declared.wish.Cause.{Cause}
+use Rattle.jffs_tree.specs.declared.wish.Outcome.{Outcome}
+use Rattle.jffs_tree.specs.declared.wish.Outcome.TheVariants.{Refused}
 use Rattle.jffs_line.specs.declared.request.Request.{Request}
 use Rattle.jffs_log.specs.Cleaning.{used}
-use Rattle.jffs_log.specs.RoomLaws.{IsSound, live_weight}
-use Rattle.jffs_core.specs.Step.{Turn, IsStep, session_of}
+use Rattle.jffs_log.specs.Work.{live_and_free}
+use Rattle.jffs_core.specs.Step.{Turn, IsStep, MakesRoom, session_of}
+use Rattle.jffs_node.specs.declared.layout.TheConstants.{HEADER_LEN}
 
 -- These copies take no more bytes than the live records of the log did when the request was taken,
 -- with what was free in the tail; each takes 64 bytes at least.
 pub record AreLittle (t : Turn) (copies : List Node) : Type 0 where
-  pub bytes : used copies ≤ live_weight (session_of t) + t.free
-  pub count : 64 * length copies ≤ used copies
+  pub bytes : used copies ≤ live_and_free (session_of t)
+  pub count : HEADER_LEN * length copies ≤ used copies
 
--- So little is copied for a node that is appended, in a lawful log.
+-- So little is copied before any answer.
 abbrev pub AnswersCopyLittle : Type 0
 AnswersCopyLittle =
-    (t : Turn) (q : Request) (inode version : ℕ) (after : List Node)
-    → IsSound t.volume.sectors t.volume.sector_size (session_of t)
-    → (step : IsStep t q (Appended inode version) after) → AreLittle t step.copies
+    (t : Turn) (q : Request) (o : Outcome) (after : List Node) (step : IsStep t q o after)
+    → AreLittle t step.copies
+
+-- A request that is refused adds no node, unless it was to make room for a fresh one.
+abbrev pub RefusedAddNothing : Type 0
+RefusedAddNothing =
+    (t : Turn) (q : Request) (cause : Cause) (after : List Node)
+    → IsStep t q (Refused cause) after → (MakesRoom t q → ⊥) → after ≡ t.past

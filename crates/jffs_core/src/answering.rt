@@ -9,7 +9,7 @@ ghost use Rattle.jffs_core.specs.Answering.{is_closed};
 ghost use Rattle.jffs_core.specs.Nodes.{HasNode};
 
 use crate::answer::{Answer, Answered};
-use crate::mounted::Core;
+use crate::mounted_core::Core;
 use jffs_flash::Flash;
 use jffs_line::Request;
 use jffs_log::Room;
@@ -75,12 +75,12 @@ impl<F: Flash> Core<F> {
         } else {
             self.act(&request)
         };
-        self.keep_answer(request.writer, request.seq, answered.outcome);
+        self.push_answer(request.writer, request.seq, answered.outcome);
         answered
     }
 
-    /// Keeps an answer, for which capacity is reserved.
-    fn keep_answer(&mut self, writer: u16, seq: u32, outcome: Outcome)
+    /// Adds an answer to the list, for which capacity is reserved.
+    fn push_answer(&mut self, writer: u16, seq: u32, outcome: Outcome)
         requires reserved { length self.old.answers < self.old.capacity }
         ensures kept { KeepsAnswer writer seq outcome self.old self.new }
         ensures held { self.new.failed ≡ false → self.new.index.held ≤ self.new.index.sectors }
@@ -127,11 +127,11 @@ impl<F: Flash> Core<F> {
             unreachable!()
         };
         let node = new.with(version, request.writer, request.seq);
-        self.take(request, node)
+        self.append_decided(request, node)
     }
 
     /// Appends the node that was decided on.
-    fn take(&mut self, request: &Request, node: Node) -> Result<Answered, Cause>
+    fn append_decided(&mut self, request: &Request, node: Node) -> Result<Answered, Cause>
         requires working { self.old.failed ≡ false }
         requires decided { IsNodeOf self.old request.now node }
         ensures acted { (past : List Node) → RepresentsWorking past self.old
@@ -139,19 +139,19 @@ impl<F: Flash> Core<F> {
         ensures leaves { Leaves self.old.index.held self.old self.new }
     {
         if request.wish.is_unmount() {
-            return self.end(request, node);
+            return self.append_unmount(request, node);
         }
         if request.wish.is_copy() {
-            return self.keep_copy(request, node);
+            return self.append_copy(request, node);
         }
         if !self.has_room(Room::Fresh, record_len(&node)) {
             return self.clean_for(request, node);
         }
-        self.keep_fresh(request, node)
+        self.append_fresh(request, node)
     }
 
     /// Appends an unmount node.
-    fn end(&mut self, request: &Request, node: Node) -> Result<Answered, Cause>
+    fn append_unmount(&mut self, request: &Request, node: Node) -> Result<Answered, Cause>
         requires working { self.old.failed ≡ false }
         requires decided { IsNodeOf self.old request.now node }
         requires unmounts { is_unmount_wish request.now.wish ≡ true }
@@ -167,7 +167,7 @@ impl<F: Flash> Core<F> {
     }
 
     /// Appends a copy that a sender handed in.
-    fn keep_copy(&mut self, request: &Request, node: Node) -> Result<Answered, Cause>
+    fn append_copy(&mut self, request: &Request, node: Node) -> Result<Answered, Cause>
         requires working { self.old.failed ≡ false }
         requires decided { IsNodeOf self.old request.now node }
         requires copies { is_copy_wish request.now.wish ≡ true }
@@ -185,7 +185,7 @@ impl<F: Flash> Core<F> {
     }
 
     /// Appends a fresh node that has room.
-    fn keep_fresh(&mut self, request: &Request, node: Node) -> Result<Answered, Cause>
+    fn append_fresh(&mut self, request: &Request, node: Node) -> Result<Answered, Cause>
         requires working { self.old.failed ≡ false }
         requires decided { IsNodeOf self.old request.now node }
         requires fresh { WantsFresh request.now.wish }

@@ -3,7 +3,7 @@
 ghost use Rattle.std.specs.Prelude.{◌≡◌, ℕ, List, false, OnOk, IfErr, max};
 ghost use Rattle.jffs_log.specs.Room.{following};
 
-use crate::mounted::Core;
+use crate::mounted_core::Core;
 use jffs_flash::Flash;
 use jffs_log::Room;
 use jffs_node::{Node, record_len};

@@ -4,7 +4,7 @@ ghost use Rattle.std.specs.Prelude.{◌≡◌, ◌≤◌, ◌<◌, ◌+◌, ◌/
 ghost use Rattle.std.specs.Prelude.{◌↔◌, ◌⊎◌, IsTrue, OnOk, IfOk, IfErr, Err};
 ghost use Rattle.jffs_tree.specs.Look.{holds_version};
 
-use crate::mounted::Core;
+use crate::mounted_core::Core;
 use jffs_flash::Flash;
 use jffs_log::Room;
 use jffs_node::Node;
@@ -25,7 +25,8 @@ impl<F: Flash> Core<F> {
     ghost use Rattle.jffs_log.specs.RoomLaws.{Among};
     ghost use Rattle.jffs_core.specs.Past.{RepresentsWorking, Represents};
     ghost use Rattle.jffs_core.specs.Calls.{RefusedAt};
-    ghost use Rattle.jffs_core.specs.Cleaning.{Cleans, Stops, ErasesDead, HasErasedDead, ErasingStopped};
+    ghost use Rattle.jffs_core.specs.Cleaning.{Cleans, Stops, ErasesDead, HasErasedDead};
+    ghost use Rattle.jffs_core.specs.Cleaning.{ErasingStopped};
     ghost use Rattle.jffs_core.specs.Cleaning.{IsDeadOldest, DidClean, HasHandled, CopyStopped};
     ghost use Rattle.jffs_core.specs.Cleaning.{HasCopied, HasMadeRoom, MakingStopped, ErasesOldest};
     ghost use Rattle.jffs_core.specs.Cleaning.{SectorStopped, EraseStopped, IsSource, AreOldest};

@@ -4,7 +4,7 @@ ghost use Rattle.std.specs.Prelude.{◌≡◌, ◌≤◌, List, false, IfOk, OnO
 ghost use Rattle.jffs_log.specs.Volume.{sector_bytes};
 ghost use Rattle.jffs_core.specs.Jobs.{wants_cleaning, ReadRefused};
 
-use crate::mounted::Core;
+use crate::mounted_core::Core;
 use jffs_flash::Flash;
 use jffs_tree::Cause;
 

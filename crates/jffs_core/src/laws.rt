@@ -1,6 +1,6 @@
 //! Laws over the definitions. The functions do nothing: their contracts are the laws.
 
-ghost use Rattle.jffs_core.specs.Erases.{OneIsErased};
+ghost use Rattle.jffs_core.specs.Erases.{OneIsErased, MountsGoOn};
 ghost use Rattle.jffs_core.specs.History.{ContentsAreState};
 ghost use Rattle.jffs_core.specs.RoomSteps.{CleaningOnlyCopies, StoppedOnlyCopies};
 ghost use Rattle.jffs_core.specs.RoomSteps.{MakingRoomOnlyCopies, NoSpaceIsAStep, UnmountsHaveRoom};
@@ -9,7 +9,7 @@ ghost use Rattle.jffs_core.specs.Finding.{DeviceScansFind, StoppedScansFind};
 ghost use Rattle.jffs_core.specs.Done.{AnswersAreDone, AnswersAreFree, TreesAreDone};
 ghost use Rattle.jffs_core.specs.Done.{DeviceIsDoneOrNot};
 ghost use Rattle.jffs_core.specs.Run.{RunsGoOn, LawfulRunsGrow};
-ghost use Rattle.jffs_core.specs.Work.{AnswersCopyLittle};
+ghost use Rattle.jffs_core.specs.Work.{AnswersCopyLittle, RefusedAddNothing};
 
 /// A run that nothing has closed may go on by one request and its answer.
 pub fn runs_go_on()
@@ -48,10 +48,18 @@ pub fn one_sector_is_erased()
     ensures { OneIsErased }
 {}
 
-/// For a node that is appended no more bytes are copied than the live records of the log took when
-/// its request was taken, with what was free in the tail; each copy takes 64 bytes at least.
+/// A mount of what a working core left finds the log begin with the same sector, where any held it:
+/// so the next session erases on from there.
+pub fn mounts_go_on()
+    ensures { MountsGoOn }
+{}
+
+/// Before an answer no more bytes are copied than the live records of the log took when the request
+/// was taken, with what was free in the tail; each copy takes 64 bytes at least. A request that is
+/// refused adds no node, unless it was to make room.
 pub fn answers_copy_little()
-    ensures { AnswersCopyLittle }
+    ensures copies { AnswersCopyLittle }
+    ensures refused { RefusedAddNothing }
 {}
 
 /// What is answered Appended is done, in words of files and directories, and no other answer

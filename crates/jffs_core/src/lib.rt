@@ -15,15 +15,15 @@ mod appending;
 mod cleaning;
 mod jobs;
 mod laws;
-mod mounted;
+mod mounted_core;
 
 pub use answer::{Answer, Answered};
 pub use cleaning::Cleaned;
 pub use laws::{
-    answers_are_done, answers_copy_little, cleaning_is_lawful, contents_are_kept,
+    answers_are_done, answers_copy_little, cleaning_is_lawful, contents_are_kept, mounts_go_on,
     one_sector_is_erased, runs_go_on, scans_find_contents,
 };
-pub use mounted::Core;
+pub use mounted_core::Core;
 
 #[cfg(test)]
 mod tests;

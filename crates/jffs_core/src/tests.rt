@@ -6,11 +6,13 @@ mod durable;
 mod examples;
 mod faults;
 mod images;
+mod metered;
 mod refusals;
 mod session;
 mod sweeps;
 mod wear;
 mod wishes;
+mod work;
 
 use crate::answer::Answer;
 use crate::tests::images::{

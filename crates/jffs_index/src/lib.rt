@@ -18,7 +18,7 @@ mod tests;
 mod view;
 
 pub use laws::{latest_outcomes_count, views_show_answers};
-pub use open::{IndexFault, READERS_MAX, publish_index};
+pub use open::{IndexFault, PLACES_MAX, publish_index};
 pub use publisher::Publisher;
 pub use reader::{Reader, Told};
 pub use rule::History;

@@ -12,8 +12,8 @@ use std::marker::Model;
 ///
 /// The numbers of a sender follow one another, so all its blocks but the last are full, and an
 /// outcome takes about 28 bytes. A number without neighbours takes a block of its own. Blocks stand
-/// in the nodes of the map, which so are few and large: small nodes, of which each thread that frees
-/// memory keeps some for itself, would hold on to all memory below them.
+/// in the nodes of the map, which so are few and large. Of small nodes each thread that frees
+/// memory keeps some for itself, and these would hold on to all memory below them.
 #[derive(Drop)]
 pub(crate) struct Outcomes {
     // By the sender, and the block's number among those of the sender.

@@ -8,6 +8,7 @@ use Rattle.jffs_line.specs.declared.request.Request.{Request}
 use Rattle.jffs_line.specs.declared.knows.Sent.{Sent}
 use Rattle.jffs_line.specs.declared.knows.Knows.{Knows}
 use Rattle.jffs_line.specs.Requests.{of}
+use Rattle.jffs_line.specs.declared.hand.TheConstants.{CLEANER, CONTROL, MOST_WRITERS}
 
 abbrev pub sent_by : ℕ → List Request → Sent
 sent_by w rs = record { sender = w; accepted = rs }
@@ -36,7 +37,7 @@ Fits holder taker taken waiting pass v =
 
 -- senders are numbered 1 to 10
 abbrev pub IsStranger : ℕ → Type 0
-IsStranger w = (w ≡ 0) ⊎ (10 < w)
+IsStranger w = (w ≡ 0) ⊎ (CONTROL < w)
 
 -- each sender has one pass that speaks for it and knows what it handed in: what was taken of it and
 -- then what waits of it
@@ -57,7 +58,7 @@ pub record Learned (v : Knows) (waiting : List Request) : Type 0 where
 
 -- the maker's pass speaks for all senders: the cleaner, the control and eight writers
 abbrev pub maker_knows : Knows
-maker_knows = knows true [] (sent_by 9 [] ∷ sent_by 10 [] ∷ silent 1 8)
+maker_knows = knows true [] (sent_by CLEANER [] ∷ sent_by CONTROL [] ∷ silent 1 MOST_WRITERS)
 
 -- what a step tells: of the pass before, the request, and the pass after
 abbrev pub HandsIn : Knows → Request → Knows → Type 0

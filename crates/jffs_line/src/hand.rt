@@ -74,13 +74,17 @@ pub trait Taker: Drop {
     /// The requests of a sender that were taken, in order.
     ghost taken: { Self → ℕ → List Request };
 
+    /// What is so of a taker that gave `None`. Only `take` can show it.
+    ghost ran_out: { Self → Type 0 };
+
     /// Takes a request; waits for one where none is there. `None` where no hand is left: nothing is
     /// changed.
     fn take<R: Wait>(&mut self, rt: &R) -> Option<Request>
         ensures ends { ends self.new ≡ ends self.old }
         ensures taken { IfSome result
             (λ r. (w : ℕ) → taken self.new w ≡ taken self.old w ++ of w (r ∷ [])) }
-        ensures none { IfNone result ((w : ℕ) → taken self.new w ≡ taken self.old w) };
+        ensures none { IfNone result ((w : ℕ) → taken self.new w ≡ taken self.old w) }
+        ensures ran_out { IfNone result (ran_out self.new) };
 }
 
 /// The control's hand, which asks for the unmount.
@@ -96,14 +100,14 @@ impl<H: Hand> Control<H> {
     ghost use Rattle.jffs_tree.specs.declared.wish.Wish.TheVariants.{Unmount};
 
     /// The control over its hand.
-    pub fn new(hand: H) -> Control<H>
+    pub(crate) fn new(hand: H) -> Control<H>
         ensures { result.hand ≡ hand }
     {
         Control { hand }
     }
 
     /// The hand itself.
-    pub fn into_hand(self) -> H
+    pub(crate) fn into_hand(self) -> H
         ensures { result ≡ self.hand }
     {
         let Control { hand } = self;

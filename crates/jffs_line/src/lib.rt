@@ -1,8 +1,8 @@
 //! The line between the senders of requests and the log: one shared queue, or a ring for each
 //! sender.
 //!
-//! Both forms have the same traits, with the same words: a [`hand::Hand`] hands in the wishes of
-//! one sender, a [`hand::Taker`] takes requests, and [`hand::Settle`] takes all ends back and gives
+//! Both forms have the same traits, with the same words: a [`Hand`] hands in the wishes of
+//! one sender, a [`Taker`] takes requests, and [`Settle`] takes all ends back and gives
 //! what nobody took. `settle` carries the line's promise: of each sender, what was taken and then
 //! what waits is what it accepted, numbered
 //! 1, 2, 3, .. The shared form is one channel of `crossbeam_channel`, where each end holds a pass
@@ -10,11 +10,11 @@
 //! the other has a ring of `rtrb` for each sender.
 #![tactic(auto)]
 
-pub mod hand;
-pub mod knows;
-pub mod request;
-pub mod rings;
-pub mod shared;
+mod hand;
+mod knows;
+mod request;
+mod rings;
+mod shared;
 #[cfg(test)]
 mod tests;
 

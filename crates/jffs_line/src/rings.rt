@@ -21,7 +21,7 @@ use std::sync::Wait;
 
 /// A wish with its number among its sender's.
 #[derive(Drop)]
-pub struct Note {
+pub(crate) struct Note {
     pub seq: u32,
     pub wish: Wish,
 }
@@ -147,7 +147,7 @@ impl Hand for RingHand {
 
 /// The end of a sender's ring that takes.
 #[derive(Drop)]
-pub struct Ring {
+pub(crate) struct Ring {
     consumer: Consumer<Note>,
     number: u16,
     // Wakes the hand where it sleeps.
@@ -313,6 +313,9 @@ impl Taker for RingTaker {
     ghost ends = { rings_ends };
 
     ghost taken = { rings_taken };
+
+    // The contracts of a ring tell nothing of its other end.
+    ghost ran_out = { λ _. Unit {0} };
 
     // A hand that pushes or goes leaves a token at the sleeper, so no sleep misses what came after
     // the last look.

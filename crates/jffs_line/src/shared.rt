@@ -22,7 +22,7 @@ pub use settling::settle;
 use std::sync::Wait;
 
 /// The rule of the shared line: each sender's requests are taken in order, whole and once.
-pub struct EachInOrder;
+pub(crate) struct EachInOrder;
 
 impl Protocol<Request, Knows> for EachInOrder {
     ghost use Rattle.jffs_line.specs.InOrder.{InOrder, maker_knows};
@@ -269,12 +269,16 @@ impl Taker for SharedTaker {
 
     ghost taken = { shared_taken };
 
+    // What the rule says of an empty line.
+    ghost ran_out = { WasEmpty };
+
     fn take<R: Wait>(&mut self, rt: &R) -> Option<Request>
         ensures ends { shared_ends self.new ≡ shared_ends self.old }
         ensures taken { IfSome result
             (λ r. (w : ℕ) → shared_taken self.new w ≡ shared_taken self.old w ++ of w (r ∷ [])) }
         ensures none { IfNone result ((w : ℕ) → shared_taken self.new w ≡ shared_taken self.old w) }
         ensures empty { IfNone result (WasEmpty self.old) }
+        ensures ran_out { IfNone result (WasEmpty self.new) }
     {
         let backoff = Backoff::new();
         for _ in 0..TRIES {

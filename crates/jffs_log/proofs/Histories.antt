@@ -22,12 +22,12 @@ use Rattle.jffs_log.specs.Cleaning.{versions_fall}
 use Rattle.jffs_log.specs.RoomLaws.{Among}
 use Rattle.jffs_log.specs.declared.log_index.LogIndex.{LogIndex}
 use Rattle.jffs_log.specs.LogIndex.{IsLogIndex, HasSizes, IsCut, log_in, lives_in}
-use Rattle.jffs_log.proofs.Appended.{described_readable}
+use Rattle.jffs_log.proofs.append.Appended.{described_readable}
 use Rattle.jffs_log.specs.History.{KeepsRules, IsLawfulHistory, IsHistory, HistoriesAreScanned, AppendsKeepHistory, CutsKeepHistory, ErasingKeepsHistory}
-use Rattle.jffs_log.proofs.MountedLog.{reversed, nodes_mapped, among_left, among_reversed}
-use Rattle.jffs_log.proofs.Copied.{all_test}
-use Rattle.jffs_log.proofs.Sectors.{all_among}
-use Rattle.jffs_log.proofs.Live.{scan_reads}
+use Rattle.jffs_log.proofs.scans.MountedLog.{reversed, nodes_mapped, among_left, among_reversed}
+use Rattle.jffs_log.proofs.rooms.Copied.{all_test}
+use Rattle.jffs_log.proofs.ring.Sectors.{all_among}
+use Rattle.jffs_log.proofs.ring.Live.{scan_reads}
 use Rattle.jffs_log.proofs.Staying.{all_stay_dead}
 
 -- Parts of a history.

@@ -6,8 +6,8 @@ use Rattle.jffs_node.specs.declared.node.Node.{Node}
 use Rattle.jffs_log.specs.Room.{weight}
 use Rattle.jffs_log.specs.Cleaning.{live_used, in_last, without_oldest, oldest_records}
 use Rattle.jffs_log.specs.RoomLaws.{LogsWeighLess, VersionsFollow, Holds, PutsAreNewest, ErasedAreOldest}
-use Rattle.jffs_log.proofs.Turn.{live-append}
-use Rattle.jffs_log.proofs.Puts.{put_by}
+use Rattle.jffs_log.proofs.rooms.Turn.{live-append}
+use Rattle.jffs_log.proofs.append.Puts.{put_by}
 
 pub live_reversed : (past nodes : List Node) → live_used past (reverse nodes) ≡ live_used past nodes
 live_reversed past [] = refl

@@ -8,6 +8,7 @@ use Rattle.jffs_node.specs.declared.read.Read.TheVariants.{Closed, Free, Torn, B
 use Rattle.jffs_log.specs.Image.{Sector, Placed, log_of, is_one_run}
 use Rattle.jffs_log.specs.Sector.{HoldsNodes}
 use Rattle.jffs_log.specs.Volume.{sectors_in, sector_bytes}
+use Rattle.jffs_flash.specs.Image.{erased_byte}
 
 -- the records of a flat image, the oldest first
 abbrev pub live_log : ℕ → ℕ → List ℕ → List Placed
@@ -31,4 +32,4 @@ pub record IsOpenSector (count len : ℕ) (image : List ℕ) (k : ℕ) (nodes : 
     Type 0 where
   pub whole : length image ≡ count * len
   pub below : k < count
-  pub holds : HoldsNodes (sector_bytes len k image) nodes (replicate free 255)
+  pub holds : HoldsNodes (sector_bytes len k image) nodes (replicate free erased_byte)

@@ -9,6 +9,7 @@ use Rattle.jffs_log.specs.Image.{tail_of, free_of_tail, erased_count}
 use Rattle.jffs_log.specs.Volume.{sectors_in}
 use Rattle.jffs_log.specs.declared.room.Room.{Room}
 use Rattle.jffs_log.specs.declared.room.Room.TheVariants.{Fresh, Unmount}
+use Rattle.jffs_node.specs.declared.layout.TheConstants.{HEADER_LEN}
 
 -- the sum of the record lengths of the live nodes
 abbrev pub weight : List Node → ℕ
@@ -16,12 +17,12 @@ weight past = sum_by record_len (filter (λ n. is_live past n.version) past)
 
 -- from this weight on a volume of these sizes is heavy
 abbrev pub heavy : ℕ → ℕ → ℕ
-heavy sectors sector_size = (sectors - 4) * (3 * sector_size / 4 - 64)
+heavy sectors sector_size = (sectors - 4) * (3 * sector_size / 4 - HEADER_LEN)
 
 -- what a record needs in the tail, and the erased sectors that it needs otherwise
 abbrev pub tail_need : Room → ℕ → ℕ
-tail_need Unmount len = 64
-tail_need _ len = len + 64
+tail_need Unmount len = HEADER_LEN
+tail_need _ len = len + HEADER_LEN
 
 -- the erased sectors that a record needs to open the next one
 abbrev pub erased_need : Room → ℕ
@@ -53,7 +54,7 @@ next_inode past = following (fold (λ most n. max most n.inode) 1 past)
 
 -- the most bytes of data that a record of a quarter of a sector has
 abbrev pub data_max : ℕ → ℕ
-data_max sector_size = sector_size / 4 - 64
+data_max sector_size = sector_size / 4 - HEADER_LEN
 
 -- what a decision has to know of the log
 abbrev pub limits : ℕ → List Node → Limits

@@ -15,6 +15,8 @@ use Rattle.jffs_log.specs.Cleaning.{layout_of, Layout, GcState, live_used, put, 
 use Rattle.jffs_log.specs.Cleaning.{copied, with_copy, handled_each, copies_have_room, cleaned}
 use Rattle.jffs_log.specs.Cleaning.{fresh_has_room, room_made, cleanings, oldest_records}
 use Rattle.jffs_log.specs.Cleaning.{stands_from, last_fits, is_history, version_after}
+use Rattle.jffs_node.specs.declared.layout.TheConstants.{HEADER_LEN}
+use Rattle.jffs_flash.specs.declared.sizes.TheConstants.{MIN_SECTORS}
 
 -- one of these
 abbrev pub Among : Node → List Node → Type 0
@@ -55,8 +57,8 @@ UnmountNodesAreDead =
 -- sector, so it leaves as many erased, or more.
 abbrev pub CleaningHasRoom : Type 0
 CleaningHasRoom =
-    (sectors sector_size : ℕ) (s : GcState) → 64 ≤ sector_size → IsSound sectors sector_size s
-    → 2 ≤ s.log.erased → 2 ≤ length s.log.sectors
+    (sectors sector_size : ℕ) (s : GcState) → HEADER_LEN ≤ sector_size
+    → IsSound sectors sector_size s → 2 ≤ s.log.erased → 2 ≤ length s.log.sectors
     → (copies_have_room sector_size (oldest_records s.log.sectors) s ≡ true)
     × IsSound sectors sector_size (cleaned sector_size s)
     × (s.log.erased ≤ (cleaned sector_size s).log.erased)
@@ -65,7 +67,7 @@ CleaningHasRoom =
 -- erased sector fewer.
 abbrev pub CleaningMayStop : Type 0
 CleaningMayStop =
-    (sectors sector_size : ℕ) (s : GcState) (done rest : List Node) → 64 ≤ sector_size
+    (sectors sector_size : ℕ) (s : GcState) (done rest : List Node) → HEADER_LEN ≤ sector_size
     → IsSound sectors sector_size s → 2 ≤ s.log.erased → 2 ≤ length s.log.sectors
     → oldest_records s.log.sectors ≡ done ++ rest
     → IsSound sectors sector_size (handled_each sector_size done s)
@@ -108,7 +110,7 @@ ErasingKeepsSound =
 -- With 2 sectors erased, making room leaves a lawful log with 2 sectors erased.
 abbrev pub MakingRoomKeepsSound : Type 0
 MakingRoomKeepsSound =
-    (sectors sector_size len : ℕ) (s : GcState) → 64 ≤ sector_size → 6 ≤ sectors
+    (sectors sector_size len : ℕ) (s : GcState) → HEADER_LEN ≤ sector_size → MIN_SECTORS ≤ sectors
     → IsSound sectors sector_size s → 2 ≤ s.log.erased
     → IsSound sectors sector_size (room_made sector_size len (length s.log.sectors) s)
     × (2 ≤ (room_made sector_size len (length s.log.sectors) s).log.erased)
@@ -121,7 +123,7 @@ live_weight s = live_used s.past (flat_map (λ nodes. nodes) s.log.sectors)
 -- the log was cleaned, the log was heavy.
 abbrev pub FullLogsAreHeavy : Type 0
 FullLogsAreHeavy =
-    (sectors sector_size len : ℕ) (s : GcState) → 64 ≤ sector_size → 6 ≤ sectors
+    (sectors sector_size len : ℕ) (s : GcState) → HEADER_LEN ≤ sector_size → MIN_SECTORS ≤ sectors
     → len ≤ sector_size / 4 → IsSound sectors sector_size s → 2 ≤ s.log.erased
     → fresh_has_room len (room_made sector_size len (length s.log.sectors) s) ≡ false
     → heavy sectors sector_size ≤ live_weight s
@@ -130,10 +132,10 @@ FullLogsAreHeavy =
 -- free in each.
 abbrev pub FullLogsFill : Type 0
 FullLogsFill =
-    (sectors sector_size len : ℕ) (s : GcState) → 64 ≤ sector_size → 6 ≤ sectors
+    (sectors sector_size len : ℕ) (s : GcState) → HEADER_LEN ≤ sector_size → MIN_SECTORS ≤ sectors
     → len ≤ sector_size / 4 → IsSound sectors sector_size s → 2 ≤ s.log.erased
     → fresh_has_room len (room_made sector_size len (length s.log.sectors) s) ≡ false
-    → (sectors - 3) * (3 * sector_size / 4 - 64) ≤ live_weight s
+    → (sectors - 3) * (3 * sector_size / 4 - HEADER_LEN) ≤ live_weight s
 
 -- Making room erases no more sectors than held the log, and so at most all.
 abbrev pub CleaningsAreFew : Type 0
@@ -143,7 +145,8 @@ CleaningsAreFew =
 
 -- With 2 sectors erased an unmount node has room.
 abbrev pub UnmountHasRoom : Type 0
-UnmountHasRoom = (log : Layout) → 2 ≤ log.erased → has_room Unmount 64 log.free log.erased ≡ true
+UnmountHasRoom =
+    (log : Layout) → 2 ≤ log.erased → has_room Unmount HEADER_LEN log.free log.erased ≡ true
 
 -- What is live in the log weighs no more than the history, of which the log holds the newest part.
 abbrev pub LogsWeighLess : Type 0

@@ -1,8 +1,9 @@
 -- How often each sector is erased. The oldest sector of the log is erased each time, so the ring of
 -- sectors wears evenly.
-use Rattle.std.specs.Prelude.{◌≡◌, ℕ, zero, suc, ◌+◌, ◌-◌, ◌^◌, ◌<◌, ◌≤◌, ◌==◌, min}
-use Rattle.std.specs.Prelude.{if◌then◌else◌}
+use Rattle.std.specs.Prelude.{◌≡◌, ℕ, zero, suc, ◌+◌, ◌-◌, ◌^◌, ◌<◌, ◌≤◌, ◌==◌, min, List, []}
+use Rattle.std.specs.Prelude.{◌∷◌, if◌then◌else◌}
 use Rattle.jffs_log.specs.declared.log_index.LogIndex.{LogIndex}
+use Rattle.jffs_log.specs.LogIndex.{IsLogIndex, HasSizes}
 
 -- the sector after this one, where the first comes after the last
 abbrev pub sector_after : ℕ → ℕ → ℕ
@@ -36,6 +37,27 @@ WearIsEven = (count first many j k : ℕ) → first < count → j < count → k 
 abbrev pub TurnsGoOn : Type 0
 TurnsGoOn = (old middle new : LogIndex) → ErasedInTurn old middle → ErasedInTurn middle new
     → ErasedInTurn old new
+
+-- An image fixes the sector that its log begins with, where any holds the log: so a scan finds the
+-- first sector as it was when the log was left. Where all sectors are erased any may be the first.
+abbrev pub ImagesFixFirst : Type 0
+ImagesFixFirst =
+    (image : List ℕ) (left found : LogIndex) → IsLogIndex image left → IsLogIndex image found
+    → HasSizes left.sectors left.sector_size found → 1 ≤ left.held → found.first ≡ left.first
+
+-- how often sector `k` was erased in all over sessions, in which so many sectors were erased, each
+-- session from the sector on that came next after those of the one before
+abbrev pub erases_over : ℕ → ℕ → List ℕ → ℕ → ℕ
+erases_over count first [] k = 0
+erases_over count first (many ∷ sessions) k =
+    erases_of count first many k + erases_over count (sector_after_each count first many) sessions k
+
+-- So of any two sectors the one was erased at most once more often than the other, over any number
+-- of sessions.
+abbrev pub SessionsWearEvenly : Type 0
+SessionsWearEvenly =
+    (count first : ℕ) (sessions : List ℕ) (j k : ℕ) → first < count → j < count → k < count
+    → erases_over count first sessions j ≤ erases_over count first sessions k + 1
 
 -- Five erases of four sectors from sector 2 on: it comes first again.
 pub record FiveErases : Type 0 where

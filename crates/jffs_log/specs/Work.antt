@@ -5,6 +5,7 @@ use Rattle.jffs_tree.specs.Origin.{is_live}
 use Rattle.jffs_log.specs.Room.{weight}
 use Rattle.jffs_log.specs.Cleaning.{GcState, used, live_used, oldest_records, cleaned, room_made}
 use Rattle.jffs_log.specs.RoomLaws.{IsSound, live_weight, Holds}
+use Rattle.jffs_node.specs.declared.layout.TheConstants.{HEADER_LEN}
 
 -- The copies that were made between two states: the nodes newer than those that were there.
 abbrev pub copies : GcState → GcState → List Node
@@ -36,14 +37,19 @@ CleaningsCopyTheLive =
 -- It copies 64 bytes less than a sector at most.
 abbrev pub CleaningsFitASector : Type 0
 CleaningsFitASector =
-    (sectors sector_size : ℕ) (s : GcState) → 64 ≤ sector_size → IsSound sectors sector_size s
-    → copied_bytes s (cleaned sector_size s) + 64 ≤ sector_size
+    (sectors sector_size : ℕ) (s : GcState) → HEADER_LEN ≤ sector_size
+    → IsSound sectors sector_size s
+    → copied_bytes s (cleaned sector_size s) + HEADER_LEN ≤ sector_size
+
+-- what is live in the log, with what is free in the tail
+abbrev pub live_and_free : GcState → ℕ
+live_and_free s = live_weight s + s.log.free
 
 -- The copies of a whole turn take no more bytes than the live records of the log did at its start,
 -- with what was free in the tail: a copy that is put there may be copied once more.
 pub record CopiesTheLog (before after : GcState) : Type 0 where
   pub past : after.past ≡ copies before after ++ before.past
-  pub bytes : copied_bytes before after ≤ live_weight before + before.log.free
+  pub bytes : copied_bytes before after ≤ live_and_free before
 
 -- So little is copied to make room in a lawful log, by at most as many cleanings as it has sectors.
 abbrev pub MakingRoomCopiesLittle : Type 0
@@ -62,4 +68,4 @@ MakingRoomCopiesTheWeight =
 -- Each copy takes 64 bytes at least.
 abbrev pub CopiesAreFew : Type 0
 CopiesAreFew =
-    (before after : GcState) → 64 * length (copies before after) ≤ copied_bytes before after
+    (before after : GcState) → HEADER_LEN * length (copies before after) ≤ copied_bytes before after

@@ -1,41 +1,16 @@
-//! The oldest sector: its bytes, and how it is erased.
+//! How the oldest sector is erased.
 
-ghost use Rattle.std.specs.Prelude.{◌≡◌, ◌≤◌, false, IfOk, OnOk, IfErr};
+ghost use Rattle.std.specs.Prelude.{◌≡◌, ◌≤◌, false, OnOk, IfErr};
 ghost use Rattle.jffs_log.specs.LogIndex.{from_other};
 
 use crate::log::{Log, failure, sector_at};
 use crate::log_index::RecordRef;
-use jffs_flash::{ERASED_BYTE, Flash};
+use jffs_flash::Flash;
 use jffs_tree::{Cause, Tree};
-use std::alloc::Global;
 use std::collections::VecDeque;
 
 impl<F: Flash> Log<F> {
-    ghost use Rattle.jffs_log.specs.LogState.{OldestIsDead, ErasedOldest, EraseFailed, ReadStopped};
-    ghost use Rattle.jffs_log.specs.Volume.{sector_bytes};
-
-    /// The bytes of the sector that was begun first. Precondition: no call of the device failed,
-    /// and the log has a sector.
-    ///
-    /// `Memory` if allocation failed: nothing is changed. `Device` if the read failed: no byte is
-    /// changed, and the log is failed from then on.
-    pub fn oldest_image(&mut self, alloc: Global) -> Result<Vec<u8>, Cause>
-        requires working { self.old.failed ≡ false }
-        requires some { 1 ≤ self.old.index.held }
-        ensures bytes { IfOk result
-            (λ bytes. bytes.items
-            ≡ sector_bytes self.old.index.sector_size self.old.index.first
-            self.old.device.image) }
-        ensures same { OnOk result (self.new ≡ self.old) }
-        ensures stopped { IfErr result (λ cause. ReadStopped cause self.old self.new) }
-    {
-        let sector_size = self.index.sector_size;
-        let mut bytes = vec![in alloc; ERASED_BYTE; sector_size as usize]?;
-        match self.flash.read(self.index.first * sector_size, &mut bytes) {
-            Ok(()) => Ok(bytes),
-            Err(fault) => Err(failure(&mut self.failed, fault)),
-        }
-    }
+    ghost use Rattle.jffs_log.specs.LogState.{OldestIsDead, ErasedOldest, EraseFailed};
 
     /// Erases the sector that was begun first. The call counts in `erases`, failed or not. Takes no
     /// memory.

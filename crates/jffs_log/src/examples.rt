@@ -17,8 +17,8 @@ pub fn example_is_cleaned()
     ensures { FullVolume }
 {}
 
-/// Where making room takes two cleanings, the second may copy a copy that the first made, as on this
-/// example.
+/// Where making room takes two cleanings, the second may copy a copy that the first made, as in
+/// this example.
 pub fn example_is_copied_again()
     ensures { CopiedAgain }
 {}

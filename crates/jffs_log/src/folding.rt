@@ -10,6 +10,7 @@ ghost use Rattle.jffs_tree.specs.After.{can_apply, keeps_offsets_in};
 ghost use Rattle.jffs_log.specs.Scan.{versions_rise};
 ghost use Rattle.jffs_log.specs.Room.{following};
 ghost use Rattle.jffs_log.specs.ScanFound.{last_version, greatest_inode, keeps_form_after};
+ghost use Rattle.jffs_node.specs.declared.layout.TheConstants.{HEADER_LEN};
 
 use crate::scanning::ScanWhy;
 use crate::sector::RECORDS_PER_SECTOR;
@@ -19,16 +20,16 @@ use std::alloc::Global;
 
 /// The greatest numbers of a log.
 #[derive(Clone, Copy)]
-pub(crate) struct Numbers {
+pub(crate) struct GreatestNumbers {
     /// The last version, 0 where the log is empty.
     version: u32,
     /// The greatest inode, at least that of the root.
     inode: u32,
 }
 
-impl Numbers {
+impl GreatestNumbers {
     /// The greatest numbers of the nodes; `BadOrder` where their versions don't rise.
-    pub(crate) fn of(nodes: &[Node]) -> Result<Numbers, ScanWhy>
+    pub(crate) fn of(nodes: &[Node]) -> Result<GreatestNumbers, ScanWhy>
         requires { AllByRecursion (λ n. IsTrue (is_lawful n)) nodes.now }
         ensures rise { IfOk result (λ _. versions_rise nodes.now ≡ true) }
         ensures version { IfOk result (λ numbers. numbers.version ≡ last_version nodes.now) }
@@ -36,7 +37,7 @@ impl Numbers {
         ensures refused { IfErr result
             (λ why. (why ≡ ScanWhy.BadOrder) × (versions_rise nodes.now ≡ false)) }
     {
-        let mut numbers = Numbers {
+        let mut numbers = GreatestNumbers {
             version: 0,
             inode: ROOT_INODE,
         };
@@ -52,7 +53,7 @@ impl Numbers {
 
     /// The longest data of a node, and the numbers that come next; none where they are used up.
     pub(crate) fn limits(self, sector_size: u32) -> Limits
-        ensures data_max { result.data_max ≡ sector_size / 4 - 64 }
+        ensures data_max { result.data_max ≡ sector_size / 4 - HEADER_LEN }
         ensures inode { result.next_inode ≡ following self.inode }
         ensures version { result.next_version ≡ following self.version }
     {

@@ -15,7 +15,8 @@ ghost use Rattle.jffs_log.specs.Work.{MakingRoomCopiesLittle, MakingRoomCopiesTh
 ghost use Rattle.jffs_log.specs.Work.{CopiesAreFew};
 ghost use Rattle.jffs_log.specs.History.{MountsAreHistories, HistoriesAreScanned};
 ghost use Rattle.jffs_log.specs.History.{AppendsKeepHistory, CutsKeepHistory, ErasingKeepsHistory};
-ghost use Rattle.jffs_log.specs.Wear.{WearIsEven, TurnsGoOn};
+ghost use Rattle.jffs_log.specs.Wear.{WearIsEven, TurnsGoOn, ImagesFixFirst};
+ghost use Rattle.jffs_log.specs.Wear.{SessionsWearEvenly};
 
 /// What is erased without live nodes weighed nothing.
 pub fn weight_is_kept()
@@ -89,8 +90,11 @@ pub fn cleanings_copy_little()
 {}
 
 /// Erased one after another around the ring, no sector is erased more than once more often than
-/// another.
+/// another. A scan finds the log begin with the sector that it began with when it was left, where
+/// any held it; so it is over any number of sessions, of which each goes on where the last stopped.
 pub fn wear_is_even()
     ensures even { WearIsEven }
     ensures on { TurnsGoOn }
+    ensures fixed { ImagesFixFirst }
+    ensures sessions { SessionsWearEvenly }
 {}

@@ -8,11 +8,11 @@
 mod dead;
 mod erasing;
 mod examples;
-mod finding;
 mod folding;
 mod laws;
 mod log;
 mod log_index;
+mod log_sectors;
 mod oldest;
 mod room;
 mod scanning;
@@ -31,6 +31,7 @@ pub use log::Log;
 pub use log_index::{LogIndex, RecordRef};
 pub use room::Room;
 pub use scanning::{Mounted, ScanFault, ScanWhy, scan};
+pub use sector::RECORDS_PER_SECTOR;
 pub use writing::RECORD_MAX;
 
 #[cfg(test)]

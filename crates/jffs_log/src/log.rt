@@ -4,6 +4,7 @@ ghost use Rattle.std.specs.Prelude.{◌≡◌, ◌+◌, ◌-◌, ◌^◌, ◌<�
 ghost use Rattle.std.specs.Prelude.{nat_le, IsTrue, OnOk, IfErr};
 ghost use Rattle.std.specs.VecDeque.{deque_len, deque_capacity};
 ghost use Rattle.jffs_log.specs.Ring.{IsAt};
+ghost use Rattle.jffs_flash.specs.declared.sizes.TheConstants.{MAX_SECTORS};
 
 use crate::log_index::{LogIndex, RecordRef};
 use crate::room::Room;
@@ -232,7 +233,7 @@ pub(crate) fn failure(failed: &mut bool, _: FlashFault) -> Cause
 pub(crate) fn sector_at(first: u32, steps: u32, sectors: u32) -> u32
     requires first_in { first < sectors }
     requires steps_in { steps < sectors }
-    requires few { sectors ≤ 64 }
+    requires few { sectors ≤ MAX_SECTORS }
     ensures { IsAt first sectors steps result }
 {
     let at = first + steps;

@@ -2,9 +2,9 @@
 
 ghost use Rattle.std.specs.Prelude.{◌≡◌, ◌≤◌, ◌/◌, ◌↔◌, false, map, IsTrue, IfOk, OnOk, IfErr};
 
-use crate::log::Log;
+use crate::log::{Log, failure};
 use crate::sector::read_sector;
-use jffs_flash::Flash;
+use jffs_flash::{ERASED_BYTE, Flash};
 use jffs_node::Node;
 use jffs_tree::{Cause, Tree};
 use std::alloc::Global;
@@ -12,6 +12,7 @@ use std::alloc::Global;
 impl<F: Flash> Log<F> {
     ghost use Rattle.jffs_log.specs.LogIndex.{oldest_in};
     ghost use Rattle.jffs_log.specs.LogState.{OldestIsDead, ReadStopped};
+    ghost use Rattle.jffs_log.specs.Volume.{sector_bytes};
 
     /// How many sectors the device has.
     pub fn sectors(&self) -> u32
@@ -56,6 +57,29 @@ impl<F: Flash> Log<F> {
         ensures { IsTrue result ↔ ((2 ≤ self.now.index.held) × OldestIsDead tree.now self.now) }
     {
         self.index.held >= 2 && self.oldest_has_no_live(tree)
+    }
+
+    /// The bytes of the sector that was begun first. Precondition: no call of the device failed,
+    /// and the log has a sector.
+    ///
+    /// `Memory` if allocation failed: nothing is changed. `Device` if the read failed: no byte is
+    /// changed, and the log is failed from then on.
+    pub fn oldest_image(&mut self, alloc: Global) -> Result<Vec<u8>, Cause>
+        requires working { self.old.failed ≡ false }
+        requires some { 1 ≤ self.old.index.held }
+        ensures bytes { IfOk result
+            (λ bytes. bytes.items
+            ≡ sector_bytes self.old.index.sector_size self.old.index.first
+            self.old.device.image) }
+        ensures same { OnOk result (self.new ≡ self.old) }
+        ensures stopped { IfErr result (λ cause. ReadStopped cause self.old self.new) }
+    {
+        let sector_size = self.index.sector_size;
+        let mut bytes = vec![in alloc; ERASED_BYTE; sector_size as usize]?;
+        match self.flash.read(self.index.first * sector_size, &mut bytes) {
+            Ok(()) => Ok(bytes),
+            Err(fault) => Err(failure(&mut self.failed, fault)),
+        }
     }
 
     /// The nodes of the oldest sector in their order, read from the device. Precondition: no call

@@ -4,10 +4,10 @@ ghost use Rattle.std.specs.Prelude.{◌≡◌, IfOk, IfErr};
 ghost use Rattle.jffs_flash.specs.Device.{Unchanged};
 ghost use Rattle.jffs_log.specs.ScanFound.{IsFound, IsMounted, IsRefused};
 
-use crate::finding::{Tail, is_clean, keep_log, list_records, nodes_of, oldest, read_sectors};
-use crate::folding::{Numbers, tree_of_log};
+use crate::folding::{GreatestNumbers, tree_of_log};
 use crate::log::Log;
 use crate::log_index::LogIndex;
+use crate::log_sectors::{Tail, is_clean, keep_log, list_records, nodes_of, oldest, read_sectors};
 use jffs_flash::{Flash, FlashFault, is_geometry};
 use jffs_node::{NoMemory, Why};
 use jffs_tree::{Limits, Tree};
@@ -112,7 +112,7 @@ pub fn scan<F: Flash>(alloc: Global, mut flash: F) -> Result<Mounted<F>, ScanFau
     ensures found { IfOk result (λ m. IsMounted (F.device flash) m.log m.tree m.clean m.limits) }
     ensures refused { IfErr result (λ f. IsRefused (F.device flash) f.why (F.device f.flash)) }
 {
-    match find(alloc, &mut flash) {
+    match find_log(alloc, &mut flash) {
         Ok(found) => Ok(Mounted {
             log: Log {
                 flash,
@@ -129,7 +129,7 @@ pub fn scan<F: Flash>(alloc: Global, mut flash: F) -> Result<Mounted<F>, ScanFau
 
 /// What a scan finds, apart from the device.
 #[derive(Drop)]
-struct Found {
+struct FoundLog {
     index: LogIndex,
     tree: Tree,
     clean: bool,
@@ -137,7 +137,7 @@ struct Found {
 }
 
 /// The steps of a scan, in the order of its refusals.
-fn find<F: Flash>(alloc: Global, flash: &mut F) -> Result<Found, ScanWhy>
+fn find_log<F: Flash>(alloc: Global, flash: &mut F) -> Result<FoundLog, ScanWhy>
     ensures found { IfOk result
         (λ found. IsFound (F.device flash.old).sectors (F.device flash.old).sector_size
         (F.device flash.old).image
@@ -159,7 +159,7 @@ fn find<F: Flash>(alloc: Global, flash: &mut F) -> Result<Found, ScanWhy>
     let clean = is_clean(&held);
     let records = list_records(alloc, &held)?;
     let nodes = nodes_of(alloc, held)?;
-    let numbers = Numbers::of(&nodes)?;
+    let numbers = GreatestNumbers::of(&nodes)?;
     let tree = tree_of_log(alloc, &nodes)?;
     let index = LogIndex {
         sectors,
@@ -172,7 +172,7 @@ fn find<F: Flash>(alloc: Global, flash: &mut F) -> Result<Found, ScanWhy>
         erases: 0,
         records,
     };
-    Ok(Found {
+    Ok(FoundLog {
         index,
         tree,
         clean,

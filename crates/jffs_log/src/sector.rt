@@ -15,7 +15,7 @@ use std::collections::VecDeque;
 use std::marker::Model;
 
 /// A record takes at most a quarter of a sector, so a sector has room for at least this many.
-pub(crate) const RECORDS_PER_SECTOR: u32 = 4;
+pub const RECORDS_PER_SECTOR: u32 = 4;
 
 /// A sector with its number: the nodes of its records, one after another, and what follows them.
 #[derive(Drop)]

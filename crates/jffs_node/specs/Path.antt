@@ -6,6 +6,8 @@ use Rattle.jffs_node.specs.declared.path.PathFault.{PathFault}
 use Rattle.jffs_node.specs.declared.path.PathFault.TheVariants.{NoSlash, NameEmpty, NameLong}
 use Rattle.jffs_node.specs.declared.path.PathFault.TheVariants.{NameByte, Deep}
 use Rattle.jffs_node.specs.Name.{is_name, is_name_byte}
+use Rattle.jffs_node.specs.declared.name.TheConstants.{NAME_MAX}
+use Rattle.jffs_node.specs.declared.path.TheConstants.{PATH_DEPTH_MAX}
 
 -- what stands between the slashes after the first; `/` alone is the root
 abbrev pub names_in : List ℕ → List (List ℕ)
@@ -15,7 +17,7 @@ names_in (b ∷ text) = slice_split (λ c. c == 47) (b ∷ text)
 abbrev pub name_fault : List ℕ → Option PathFault
 name_fault name =
     if length name == 0 then Some NameEmpty else (
-    if nat_lt 20 (length name) then Some NameLong else (
+    if nat_lt NAME_MAX (length name) then Some NameLong else (
     if list_all is_name_byte name then None else Some NameByte))
 
 abbrev pub or_else : Option PathFault → Option PathFault → Option PathFault
@@ -34,11 +36,11 @@ unless_fault names (Some fault) = Err fault
 abbrev pub checked_names : List (List ℕ) → Result (List (List ℕ)) PathFault
 checked_names names =
     unless_fault names (or_else (names_fault names)
-    (if nat_lt 8 (length names) then Some Deep else None))
+    (if nat_lt PATH_DEPTH_MAX (length names) then Some Deep else None))
 
 -- at most eight names
 pub record IsPath (names : List (List ℕ)) : Type 0 where
-  pub short : length names ≤ 8
+  pub short : length names ≤ PATH_DEPTH_MAX
   pub each : AllByRecursion (λ name. IsTrue (is_name name)) names
 
 -- the names of a path, or its first fault
@@ -69,4 +71,4 @@ abbrev pub answer_after : List (List ℕ) → Bool → List (List ℕ) → Resul
 answer_after names deep pieces =
     unless_fault (names ++ pieces)
     (or_else (names_fault pieces)
-    (if deep || nat_lt 8 (length names + length pieces) then Some Deep else None))
+    (if deep || nat_lt PATH_DEPTH_MAX (length names + length pieces) then Some Deep else None))

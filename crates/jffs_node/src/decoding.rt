@@ -1,5 +1,6 @@
 //! Reading of what stands at a position of a sector.
 
+ghost use Rattle.jffs_node.specs.declared.layout.TheConstants.{HEADER_LEN, GATE_AT, GATE_CLOSED};
 ghost use Rattle.std.specs.Prelude.{◌≡◌, ◌^◌, ◌<◌, ◌≤◌, ◌==◌, ◌||◌, not, nat_lt, length};
 ghost use Rattle.std.specs.Prelude.{if◌then◌else◌, IfOk, OnErr};
 ghost use Rattle.jffs_node.specs.Record.{len_of_data};
@@ -38,7 +39,8 @@ pub fn decode(alloc: Global, rest: &[u8], record_max: u32) -> Result<Read, NoMem
 
 /// Whether a header fits whose gate is closed.
 fn is_closed(rest: &[u8]) -> bool
-    ensures { result ≡ not (nat_lt (length rest.now) 64 || not (byte_at 7 rest.now == 0)) }
+    ensures { result ≡ not (nat_lt (length rest.now) HEADER_LEN
+        || not (byte_at GATE_AT rest.now == GATE_CLOSED)) }
 {
     rest.len() >= HEADER_LEN && rest[GATE_AT] == GATE_CLOSED
 }
@@ -79,7 +81,7 @@ fn with_data(alloc: Global, rest: &[u8], head: Head) -> Result<Read, NoMemory>
 /// The head of a closed record, or the first rule that the record breaks.
 #[tactic(none)]
 fn head_of(rest: &[u8], record_max: u32) -> Result<Head, Why>
-    requires { 64 ≤ length rest.now }
+    requires { HEADER_LEN ≤ length rest.now }
     ensures { result ≡ head_or_why rest.now (broken_rule record_max rest.now) }
 {
     let labels = labels_of(rest)?;

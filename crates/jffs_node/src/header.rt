@@ -1,6 +1,7 @@
 //! Reading the header of a closed record, rule by rule: each function gives what it read, or the
 //! rule that is broken.
 
+ghost use Rattle.jffs_node.specs.declared.layout.TheConstants.{HEADER_LEN};
 ghost use Rattle.std.specs.Prelude.{◌≡◌, ◌==◌, ◌≤◌, length, Ok, Err, bytes_eq, is_some, take};
 ghost use Rattle.jffs_node.specs.Record.{magic, is_unmount};
 ghost use Rattle.jffs_node.specs.Reading.{kind_at, flags_hold, name_holds, form_holds, form_at};
@@ -35,7 +36,7 @@ pub(crate) struct Labels {
 /// What a header says besides its numbers, or the first rule on it that is broken.
 #[tactic(none)]
 pub(crate) fn labels_of(rest: &[u8]) -> Result<Labels, Why>
-    requires { 64 ≤ length rest.now }
+    requires { HEADER_LEN ≤ length rest.now }
     ensures { result ≡ labels_or_why rest.now (first_broken (label_rules rest.now)) }
 {
     check_magic(rest)?;
@@ -54,7 +55,7 @@ pub(crate) fn labels_of(rest: &[u8]) -> Result<Labels, Why>
 
 /// The node of a header, still without its data.
 pub(crate) fn node_of(rest: &[u8], labels: Labels) -> Node
-    requires long { 64 ≤ length rest.now }
+    requires long { HEADER_LEN ≤ length rest.now }
     requires labels { labels ≡ labels_at rest.now }
     ensures { result ≡ (head_at rest.now).node }
 {
@@ -77,7 +78,7 @@ pub(crate) fn node_of(rest: &[u8], labels: Labels) -> Node
 
 /// The record begins with the magic.
 fn check_magic(rest: &[u8]) -> Result<(), Why>
-    requires { 64 ≤ length rest.now }
+    requires { HEADER_LEN ≤ length rest.now }
     ensures { result ≡ checked (bytes_eq (take 4 rest.now) magic) Why.Magic tt }
 {
     if &rest[..KIND_AT] == MAGIC.as_slice() {
@@ -89,7 +90,7 @@ fn check_magic(rest: &[u8]) -> Result<(), Why>
 
 /// The kind is one of the three.
 fn kind_of(rest: &[u8]) -> Result<Kind, Why>
-    requires { 64 ≤ length rest.now }
+    requires { HEADER_LEN ≤ length rest.now }
     ensures { result ≡ checked (is_some (kind_at rest.now)) Why.Kind (node_at rest.now).kind }
 {
     match rest[KIND_AT] {
@@ -109,7 +110,7 @@ pub(crate) struct Flags {
 
 /// At most one flag is set, and none in an unmount record.
 fn flags_of(kind: Kind, rest: &[u8]) -> Result<Flags, Why>
-    requires long { 64 ≤ length rest.now }
+    requires long { HEADER_LEN ≤ length rest.now }
     requires kind { kind ≡ (node_at rest.now).kind }
     ensures { result ≡ checked (flags_hold rest.now) Why.Flags (flags_at rest.now) }
 {
@@ -133,7 +134,7 @@ fn flags_of(kind: Kind, rest: &[u8]) -> Result<Flags, Why>
 
 /// The name field holds a name and then zeros; in an unmount record zeros alone.
 fn name_of(kind: Kind, rest: &[u8]) -> Result<Option<Name>, Why>
-    requires long { 64 ≤ length rest.now }
+    requires long { HEADER_LEN ≤ length rest.now }
     requires kind { kind ≡ (node_at rest.now).kind }
     ensures { result ≡ checked (name_holds rest.now) Why.Name (node_at rest.now).name }
 {
@@ -153,7 +154,7 @@ fn name_of(kind: Kind, rest: &[u8]) -> Result<Option<Name>, Why>
 
 /// Whether the record states a size: the second form does, and is for files that are there.
 fn states_size(kind: Kind, deleted: bool, rest: &[u8]) -> Result<bool, Why>
-    requires long { 64 ≤ length rest.now }
+    requires long { HEADER_LEN ≤ length rest.now }
     requires kind { kind ≡ (node_at rest.now).kind }
     requires deleted { deleted ≡ (node_at rest.now).deleted }
     ensures { result ≡ checked (form_holds rest.now) Why.Form (form_at rest.now == 2) }
@@ -167,7 +168,7 @@ fn states_size(kind: Kind, deleted: bool, rest: &[u8]) -> Result<bool, Why>
 
 /// The size that the record states, or zeros instead.
 fn size_of(stated: bool, rest: &[u8]) -> Result<Option<u32>, Why>
-    requires long { 64 ≤ length rest.now }
+    requires long { HEADER_LEN ≤ length rest.now }
     requires stated { stated ≡ (form_at rest.now == 2) }
     ensures { result ≡ checked (spare_holds rest.now) Why.Spare (node_at rest.now).size }
 {

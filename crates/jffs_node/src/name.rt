@@ -1,5 +1,6 @@
 //! Names of files and directories.
 
+ghost use Rattle.jffs_node.specs.declared.name.TheConstants.{NAME_MAX};
 ghost use Rattle.std.specs.Prelude.{◌≡◌, ◌≤◌, length, Some, None, if◌then◌else◌, refl, bytes_eq};
 ghost use Rattle.std.specs.Prelude.{IsTrue};
 ghost use Rattle.jffs_node.specs.Name.{is_name, is_name_byte as name_byte_test};
@@ -58,7 +59,7 @@ impl Name {
     pub fn bytes(&self) -> &[u8]
         ensures value { result.now ≡ self.now }
         ensures lawful { IsTrue (is_name self.now) }
-        ensures short { length result.now ≤ 20 }
+        ensures short { length result.now ≤ NAME_MAX }
     {
         &self.bytes[..self.length as usize]
     }

@@ -1,5 +1,6 @@
 //! The bytes of a record.
 
+ghost use Rattle.jffs_node.specs.declared.name.TheConstants.{NAME_MAX};
 ghost use Rattle.std.specs.Prelude.{◌≡◌, ◌+◌, ◌<◌, ◌≤◌, ◌^◌, ◌++◌, length, take, replicate, IsTrue};
 ghost use Rattle.jffs_node.specs.Record.{record_len as length_of, header, name_bytes};
 ghost use Rattle.jffs_node.specs.Record.{kind_byte as byte_of_kind, flags_byte as byte_of_flags};
@@ -68,8 +69,8 @@ fn put_numbers(node: &Node, out: &mut [u8]) -> usize
 
 /// The name, padded with zeros.
 fn put_name(node: &Node, out: &mut [u8], at: usize) -> usize
-    requires { at + 20 ≤ length out.old }
-    ensures at { result ≡ at + 20 }
+    requires { at + NAME_MAX ≤ length out.old }
+    ensures at { result ≡ at + NAME_MAX }
     ensures length { length out.new ≡ length out.old }
     ensures front { take result out.new ≡ take at out.old ++ padded_name (name_bytes node.now) }
 {
@@ -81,7 +82,7 @@ fn put_name(node: &Node, out: &mut [u8], at: usize) -> usize
 /// No bytes, where the node has no name.
 fn bytes_of_name(node: &Node) -> &[u8]
     ensures value { result.now ≡ name_bytes node.now }
-    ensures short { length result.now ≤ 20 }
+    ensures short { length result.now ≤ NAME_MAX }
 {
     match &node.name {
         Some(name) => name.bytes(),

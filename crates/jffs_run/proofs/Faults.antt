@@ -46,7 +46,7 @@ module _ {F : Type 0} where
     put_now = put;
     taken_now = taken;
     ending = None;
-    more = λ start replies was. nothing_more start session.core session.unsent put taken replies None was tt;
+    more = λ start replies was. nothing_more start session.core session.unsent put taken replies None was tt refl;
     left = left;
   }
 

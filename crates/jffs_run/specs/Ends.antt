@@ -1,9 +1,10 @@
 -- The hands of a run.
 use Rattle.std.specs.Prelude.{◌≡◌, ℕ, ◌+◌, ◌<◌, List, [], ◌∷◌, ◌++◌, length, take, eqb, cond}
-use Rattle.std.specs.Prelude.{slice_index_or}
-use Rattle.std.specs.List.{AllByRecursion}
+use Rattle.std.specs.Prelude.{slice_index_or, map, Contains}
+use Rattle.std.specs.List.{All, AllByRecursion}
 use Rattle.jffs_line.specs.Line.{End}
 use Rattle.jffs_line.specs.declared.request.Request.{Request}
+use Rattle.jffs_line.specs.Requests.{of, IsNumbered}
 use Rattle.jffs_line.specs.declared.hand.Hand as Hand
 use Rattle.jffs_line.specs.declared.hand.Hands.{Hands}
 use Rattle.jffs_text.specs.declared.command.Command.{Command}
@@ -57,3 +58,12 @@ module _ {H : Type 0} (g : Hand.Ghosts H) where
   -- it handed in all of them
   abbrev pub HandedInAll : List Writer → ℕ → H → Type 0
   HandedInAll script slot hand = length (g.accepted hand) ≡ length (commands_at script slot)
+
+  -- Of each hand what it accepted, numbered 1, 2, 3, .., was taken or else waits; and of a sender
+  -- that has no hand nothing was taken, and nothing waits.
+  pub record IsSettled (hands : List H) (taken : ℕ → List Request) (waiting : List Request) :
+      Type 0 where
+    pub each : All (λ hand. taken (g.sender hand) ++ of (g.sender hand) waiting ≡ g.accepted hand)
+        hands
+    pub numbered : All (λ hand. IsNumbered (g.accepted hand)) hands
+    pub others : (w : ℕ) → (Contains (map g.sender hands) w → ⊥) → taken w ++ of w waiting ≡ []

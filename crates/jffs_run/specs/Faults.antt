@@ -2,6 +2,7 @@
 use Rattle.std.specs.Prelude.{◌≡◌, ◌⊎◌, ℕ, List, length, Option, Some, None}
 use Rattle.jffs_flash.specs.Device.{Device}
 use Rattle.jffs_line.specs.declared.request.Request.{Request}
+use Rattle.jffs_line.specs.declared.hand.Taker as Taker
 use Rattle.jffs_node.specs.declared.node.Node.{Node}
 use Rattle.jffs_log.specs.LogIndex.{HasSizes}
 use Rattle.jffs_log.specs.ScanFound.{IsRefused}
@@ -9,11 +10,13 @@ use Rattle.jffs_log.specs.declared.scanning.ScanWhy.{ScanWhy}
 use Rattle.jffs_core.specs.CoreState.{CoreState}
 use Rattle.jffs_core.specs.Past.{Represents, IsFresh, IsLeftBy}
 use Rattle.jffs_index.specs.declared.step.Step.{Step}
+use Rattle.jffs_index.specs.Ends.{all_put}
 use Rattle.jffs_serve.specs.declared.session.Session.{Session}
 use Rattle.jffs_serve.specs.declared.session.Served.{Served}
 use Rattle.jffs_serve.specs.Replies.{Reply}
 use Rattle.jffs_serve.specs.Chain.{RunsTo}
 use Rattle.jffs_serve.specs.Answered.{ErasesSince, RepliesMore}
+use Rattle.jffs_run.specs.declared.promise.LogSide.{LogSide}
 use Rattle.jffs_run.specs.declared.fault.RunFault.{RunFault}
 use Rattle.jffs_run.specs.declared.fault.RunWhy.TheVariants.{Spawn}
 
@@ -49,3 +52,8 @@ module _ {F : Type 0} where
     pub ending : Option Served
     pub more : RepliesMore old put taken new put_now taken_now ending
     pub left : IsLeftBy new.core device
+
+module _ {T : Type 0} (g : Taker.Ghosts T) where
+  -- The device is as the log thread left it, which began with this.
+  abbrev pub LeftBySide : {F W : Type 0} → LogSide F T W → Device → Type 0
+  LeftBySide side = LeftByServing side.session (all_put side.publisher).steps (g.taken side.taker)

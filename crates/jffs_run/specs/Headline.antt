@@ -19,6 +19,7 @@ use Rattle.jffs_run.specs.Ends.{commands_at, AreCopies}
 use Rattle.jffs_run.specs.Looking.{HaveSeen}
 use Rattle.jffs_core.specs.Past.{IsLeftBy}
 use Rattle.jffs_run.specs.Account.{Account}
+use Rattle.jffs_line.specs.declared.hand.TheConstants.{CLEANER, CONTROL}
 
 -- the requests that were answered, in order
 abbrev pub requests_in : List Reply → List Request
@@ -54,13 +55,14 @@ pub record IsRun (start : CoreState) (account : Account) : Type 0 where
       → account.accepted (slot + 1)
       ≡ numbered (slot + 1) 1
       (take (length (account.accepted (slot + 1))) (wishes_of (commands_at account.script slot)))
-  pub offered : (account.accepted 10 ≡ [])
+  pub offered : (account.accepted CONTROL ≡ [])
       ⊎ ((slot : ℕ) → slot < length account.script
       → length (account.accepted (slot + 1)) ≡ length (commands_at account.script slot))
-  pub control : (account.accepted 10 ≡ []) ⊎ (account.accepted 10 ≡ request 10 1 Unmount ∷ [])
-  pub cleaner : AreCopies (account.accepted 9)
+  pub control : (account.accepted CONTROL ≡ [])
+      ⊎ (account.accepted CONTROL ≡ request CONTROL 1 Unmount ∷ [])
+  pub cleaner : AreCopies (account.accepted CLEANER)
   pub others : (sender : ℕ) → ((slot : ℕ) → slot < length account.script → sender ≢ slot + 1)
-      → sender ≢ 9 → sender ≢ 10 → account.accepted sender ≡ []
+      → sender ≢ CLEANER → sender ≢ CONTROL → account.accepted sender ≡ []
   pub core : CoreState
   pub left : IsLeftBy core account.device
   pub sizes : HasSizes start.index.sectors start.index.sector_size core.index

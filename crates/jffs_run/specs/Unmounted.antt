@@ -17,6 +17,7 @@ use Rattle.jffs_flash.specs.Device.{Device}
 use Rattle.jffs_core.specs.Past.{IsFresh}
 use Rattle.jffs_run.specs.Account.{Account}
 use Rattle.jffs_run.specs.Headline.{IsRun}
+use Rattle.jffs_line.specs.declared.hand.TheConstants.{CONTROL}
 
 -- all commands of every writer were accepted
 abbrev pub TookAll : List Writer → (ℕ → List Request) → Type 0
@@ -28,7 +29,7 @@ TookAll script accepted =
 abbrev pub AnswersUnmount : List Reply → Outcome → Type 0
 AnswersUnmount [] outcome = ⊥
 AnswersUnmount (r ∷ replies) outcome =
-    ((r.request ≡ request 10 1 Unmount) × (r.step.outcome ≡ outcome))
+    ((r.request ≡ request CONTROL 1 Unmount) × (r.step.outcome ≡ outcome))
     ⊎ AnswersUnmount replies outcome
 
 -- where Closed or NotClosed was served, the Unmount was answered so, and all commands were accepted

@@ -1,7 +1,6 @@
--- How much is programmed and erased for an answer of a run.
-use Rattle.std.specs.Prelude.{◌≡◌, ℕ, ◌+◌, ◌≤◌, List, ◌∷◌, ◌++◌}
+-- How much is copied and erased for an answer of a run.
+use Rattle.std.specs.Prelude.{◌≡◌, ◌+◌, ◌≤◌, List, ◌∷◌, ◌++◌}
 use Rattle.jffs_node.specs.declared.node.Node.{Node}
-use Rattle.jffs_tree.specs.declared.wish.Outcome.TheVariants.{Appended}
 use Rattle.jffs_log.specs.Image.{past_of}
 use Rattle.jffs_core.specs.CoreState.{CoreState}
 use Rattle.jffs_core.specs.Past.{IsFresh}
@@ -18,13 +17,12 @@ pub record IsLittleWork (taken copies : List Node) (was now : CoreState) : Type 
   pub copied : AreLittle (turn_of taken was now) copies
   pub erased : now.index.erases ≤ was.index.erases + was.index.held
 
--- So it is with each node that a run appends for a request.
+-- So it is with each answer of a run.
 abbrev pub RunsWorkLittle : Type 0
 RunsWorkLittle =
     (before : Device) (start : CoreState) (account : Account) (fresh : IsFresh before start)
     (run : IsRun start account)
-    → (first later : List Reply) (r : Reply) (inode version : ℕ)
-    → run.replies ≡ first ++ r ∷ later → r.step.outcome ≡ Appended inode version
+    → (first later : List Reply) (r : Reply) → run.replies ≡ first ++ r ∷ later
     → (turn : InRun run (past_of fresh.scanned.log) first r later)
     × IsLittleWork turn.within.taken turn.within.replied.answer.answers.step.copies
     turn.within.was turn.within.now

@@ -1,13 +1,13 @@
 //! Joining the writers and the readers.
 
-ghost use Rattle.std.specs.Prelude.{◌≡◌, ◌≤◌, ◌⊎◌, [], List, map, true, false, None, vec_len};
-ghost use Rattle.std.specs.Prelude.{vec_capacity};
+ghost use Rattle.std.specs.Prelude.{◌≡◌, ◌⊎◌, List, map, true, false, None, vec_len};
 ghost use Rattle.jffs_text.specs.declared.script.Writer.{Writer};
 ghost use Rattle.jffs_text.specs.declared.script.ReaderStatement.{ReaderStatement};
 ghost use Rattle.jffs_index.specs.Ends.{index_of, known, published, publisher_index, told_of};
 ghost use Rattle.jffs_index.specs.Ends.{told_index};
 ghost use Rattle.jffs_index.specs.declared.rule.History.{History};
 ghost use Rattle.jffs_index.specs.Histories.{view_of, BeginsWith};
+ghost use Rattle.jffs_run.specs.Crew.{HasRoom};
 ghost use Rattle.jffs_run.specs.Ends.{EachFrom, HandedIn, HandedInAll, end_of};
 ghost use Rattle.jffs_run.specs.Looking.{HasSeen, IsWhole};
 ghost use Rattle.jffs_run.specs.Started.{IsStarted, IsLooking, end_given};
@@ -82,8 +82,7 @@ pub(crate) fn join_writers<'s, R: Threads, H: Hand + Send + 's>(
     handles: Vec<WriterHandle<'s, H>>,
     hands: Vec<H>,
 ) -> Joined<H>
-    requires empty { hands.items ≡ [] }
-    requires room { vec_len handles ≤ vec_capacity hands }
+    requires room { HasRoom (vec_len handles) hands }
     ensures ends { map (end_of H.Hand) result.hands.items
         ≡ map (end_given H.Hand) handles.entry.items }
     ensures handed_in { (script : List Writer) → EachFrom (IsStarted script) 0 handles.entry.items
@@ -133,8 +132,7 @@ pub(crate) fn join_readers<'s, R: Threads, W: Wait + Drop>(
     answered: u64,
     ends: Vec<ReaderEnd>,
 ) -> Vec<ReaderEnd>
-    requires empty { ends.items ≡ [] }
-    requires room { vec_len handles ≤ vec_capacity ends }
+    requires room { HasRoom (vec_len handles) ends }
     requires started { (statements : List ReaderStatement)
         × EachFrom (IsLooking (publisher_index publisher.now) statements) 0 handles.items }
     ensures count { vec_len result ≡ vec_len handles.entry }

@@ -68,14 +68,14 @@ pub fn answers_are_durable()
 
 /// While the device works, `run_threads` erases its sectors around the ring: from the mount to each
 /// answer and to the end, of any two sectors the one was erased at most once more often than the
-/// other.
+/// other; and so it is over any number of sessions that follow one another.
 pub fn runs_wear_evenly()
     ensures { RunsWearEvenly }
 {}
 
-/// For a node that `run_threads` appends for a request it copies no more bytes than the live
-/// records of the log took when the request was taken, with what was free in the tail, in copies of
-/// 64 bytes at least, and erases no more sectors than held the log.
+/// Before each answer `run_threads` copies no more bytes than the live records of the log took when
+/// the request was taken, with what was free in the tail, in copies of 64 bytes at least; and it
+/// erases no more sectors than held the log.
 pub fn runs_work_little()
     ensures { RunsWorkLittle }
 {}

@@ -37,7 +37,7 @@ pub use laws::{
 pub use outcome::{AcceptedBy, Run};
 pub use program::{run_called, run_program, run_program_on_file};
 pub use reader::ReaderEnd;
-pub use threads::run_threads;
+pub use run::run_threads;
 pub use writer::{Gate, NoGate};
 
 #[cfg(test)]

@@ -5,7 +5,7 @@ use crate::fault::RunFault;
 use crate::outcome::Run;
 use crate::printing::{print_answers, print_ending, print_readers};
 use crate::reading::{read_file, read_whole};
-use crate::threads::run_threads;
+use crate::run::run_threads;
 use crate::writer::NoGate;
 use jffs_core::Answer;
 use jffs_file::{FileFault, FileFlash, FileStore, create_image, open_image};
@@ -31,8 +31,8 @@ file VOLUME, which is made where there is none; else it stands in memory.
   jffs hello.script
   jffs --volume notes.image < hello.script
 
-Status: 0; 1 after a fault of memory, a stream, a thread or the volume's file; 2 after a wrong call, and
-where the script is refused or its file can't be read. A line on standard error says why.
+Status: 0; 1 after a fault of memory, a stream, a thread or the volume's file; 2 after a wrong call,
+and where the script is refused or its file can't be read. A line on standard error says why.
 ",
     option: Some("--volume"),
     options: "--volume VOLUME, --help and --version",

@@ -1,236 +1,234 @@
-//! All threads of a run, started and joined.
+//! A run of a script in threads.
 
-ghost use Rattle.std.specs.Prelude.{◌≡◌, ◌⊎◌, ◌∷◌, [], IfOk, IfErr, None, false, length};
-ghost use Rattle.jffs_index.specs.declared.rule.History.{History};
-ghost use Rattle.jffs_index.specs.Ends.{published, publisher_index, all_put};
-ghost use Rattle.jffs_serve.specs.Showing.{CanServe};
-ghost use Rattle.jffs_tree.specs.declared.wish.Wish.TheVariants.{Unmount};
-ghost use Rattle.jffs_line.specs.Requests.{request};
-ghost use Rattle.jffs_run.specs.Crew.{IsFit, HasHandedIn};
-ghost use Rattle.jffs_serve.specs.Serving.{HasServed};
-ghost use Rattle.jffs_run.specs.Faults.{GivesBack, LeftByServing};
-ghost use Rattle.jffs_core.specs.Past.{IsLeftBy};
-ghost use Rattle.jffs_run.specs.Looking.{HaveSeen, IsWhole};
+ghost use Rattle.std.specs.Prelude.{◌≡◌, [], map, false, IfOk, IfErr, vec_len};
+ghost use Rattle.std.specs.List.{All};
+ghost use Rattle.jffs_index.specs.Histories.{opening_of};
+ghost use Rattle.jffs_index.specs.Ends.{published, pending, publisher_index, index_of};
+ghost use Rattle.jffs_run.specs.Ends.{all_hands, accepted_by, end_of, IsSettled};
+ghost use Rattle.jffs_run.specs.Crew.{IsNewLine};
+ghost use Rattle.jffs_core.specs.CoreState.{CoreState};
+ghost use Rattle.jffs_core.specs.Past.{IsFresh, IsLeftBy};
+ghost use Rattle.jffs_run.specs.Account.{account_of};
+ghost use Rattle.jffs_run.specs.Headline.{IsRun};
+ghost use Rattle.jffs_run.specs.Faults.{GivesBack, IsGivenUp, LeftByTurns};
+ghost use Rattle.jffs_run.specs.Accepted.{accepted_of};
 
-use crate::cleaner::{join_cleaner, start_cleaner};
 use crate::crew::{Crew, Finished};
 use crate::fault::{RunFault, RunWhy};
-use crate::joining::{join_readers, join_writers};
-use crate::log_thread::start_log;
-use crate::promise::{LogSide, ReaderHandle, WriterHandle};
-use crate::reader::ReaderEnd;
-use crate::starting::{start_readers, start_writers};
-use crate::writer::{Gate, offer_until};
+use crate::outcome::{AcceptedBy, Run};
+use crate::promise::{Cleaner, LogEnd, LogSide};
+use crate::threads::run_all;
+use crate::writer::Gate;
+use jffs_core::Core;
 use jffs_flash::Flash;
-use jffs_line::{Control, Hand, Hands, Taker};
-use jffs_serve::Ended;
-use jffs_text::Script;
-use jffs_tree::Wish;
-use std::alloc::{AllocError, Global};
+use jffs_index::{PLACES_MAX, Publisher, Reader, publish_index};
+use jffs_line::{Ends, Hands, Settle, ring_line, shared_line};
+use jffs_log::ScanFault;
+use jffs_serve::{JobEnd, Jobs, Session, job_ring};
+use jffs_text::{LineForm, Script, WRITERS_MAX};
+use std::alloc::Global;
+use std::snapshot::Snapshot;
 use std::sync::Wait;
-use std::thread;
-use std::thread::{Scope, Threads};
+use std::thread::Threads;
 
-/// Capacity for what is started and joined, so that between the first start and the last join
-/// no memory is needed.
-#[derive(Drop)]
-struct Reserved<'s, H: Hand> {
-    writers: Vec<WriterHandle<'s, H>>,
-    hands: Vec<H>,
-    readers: Vec<ReaderHandle<'s>>,
-    ends: Vec<ReaderEnd>,
+/// How many images the job ring holds.
+const JOB_PLACES: usize = 4;
+
+/// What the hands of a run had accepted, and the rest of that run.
+type Accounted<F, H> = (Snapshot<Hands<H>>, Run<F, ()>);
+
+/// The published index of a run, and the job ring.
+struct Opened<W: Wait + Drop> {
+    publisher: Publisher<W>,
+    readers: Vec<Reader>,
+    cleaner: Reader,
+    jobs: Jobs,
+    job_end: JobEnd,
 }
 
-impl<'s, H: Hand> Reserved<'s, H> {
-    ghost use Rattle.jffs_run.specs.Crew.{HasRoom};
-
-    fn reserve(alloc: Global, writers: usize, readers: usize) -> Result<Reserved<'s, H>, AllocError>
-        ensures { IfOk result
-            (λ reserved. HasRoom writers reserved.writers × HasRoom writers reserved.hands
-            × HasRoom readers reserved.readers × HasRoom readers reserved.ends) }
-    {
-        Ok(Reserved {
-            writers: Vec::with_capacity(alloc, writers)?,
-            hands: Vec::with_capacity(alloc, writers)?,
-            readers: Vec::with_capacity(alloc, readers)?,
-            ends: Vec::with_capacity(alloc, readers)?,
-        })
-    }
-}
-
-/// Starts the log thread first and then all others, joins the writers, has the control ask for the
-/// Unmount unless a writer found the log thread ended, and joins the log thread and the rest.
-fn run_in<
-    's,
-    E,
-    R: Threads + Wait + Sync,
-    H: Hand + Send + 's,
-    F: Flash + Send + Drop + 's,
-    T: Taker + Send + 's,
-    W: Wait + Drop + Send + 's,
-    G: Gate + Sync,
->(
-    rt: &'s R,
-    scope: &'s Scope<'s, E>,
+/// Opens the index over a copy of the core's tree, for `readers` readers and the cleaner, and makes
+/// the job ring.
+fn open<W: Wait + Drop, F: Flash>(
+    rt: W,
     alloc: Global,
-    script: &'s Script,
-    crew: Crew<H>,
-    side: LogSide<F, T, W>,
-    gate: &'s G,
-    ended: &'s Ended,
-) -> Result<Finished<H, F, T, W>, RunFault<F>>
-    requires crew { IsFit H.Hand script.now crew (publisher_index side.publisher) }
-    requires ready { CanServe side.session side.publisher }
-    ensures fault { IfErr result (GivesBack F.device
-        (LeftByServing side.session (all_put side.publisher).steps (T.taken side.taker))) }
-    ensures hands { IfOk result
-        (λ finished. HasHandedIn H.Hand script.entry.now.writers.items crew finished.hands) }
-    ensures readers { IfOk result
-        (λ finished. (history : History)
-        → IsWhole (published finished.log.side.publisher)
-        (length finished.log.side.session.core.answers) history
-        → HaveSeen history script.entry.now.readers.items finished.readers.items) }
-    ensures ends { IfOk result (λ finished. T.ends finished.log.side.taker ≡ T.ends side.taker) }
-    ensures served { IfOk result
-        (λ finished. HasServed side.session side.publisher (T.taken side.taker)
-        finished.log.side.session finished.log.side.publisher (T.taken finished.log.side.taker)
-        finished.log.served) }
+    core: &Core<F>,
+    readers: usize,
+) -> Result<Opened<W>, RunWhy>
+    ensures published { IfOk result
+        (λ opened. (published opened.publisher ≡ opening_of core.now.tree)
+        × (pending opened.publisher ≡ [])) }
+    ensures count { IfOk result (λ opened. vec_len opened.readers ≡ readers) }
+    ensures looking { IfOk result
+        (λ opened. All (λ reader. index_of reader ≡ publisher_index opened.publisher)
+        opened.readers.items) }
 {
-    let Crew {
-        writers,
+    if readers >= PLACES_MAX {
+        return Err(RunWhy::Index);
+    }
+    let tree = core.tree().copy_tree()?;
+    let (jobs, job_end) = job_ring(alloc, JOB_PLACES).map_err(|_| RunWhy::Memory)?;
+    let index = publish_index(rt, alloc, tree, readers + 1);
+    let (publisher, mut readers) = index.map_err(|_| RunWhy::Index)?;
+    let cleaner = readers.pop().ok_or(RunWhy::Index)?;
+    Ok(Opened {
+        publisher,
+        readers,
         cleaner,
-        control,
-        readers,
-    } = crew;
-    let Ok(reserved) = Reserved::reserve(alloc, writers.len(), readers.len()) else {
-        return Err(RunFault::with_flash(RunWhy::Memory, flash_of(side)));
-    };
-    let Some(log) = start_log(rt, scope, side, ended) else {
-        return Err(RunFault {
-            why: RunWhy::Spawn,
-            flash: None,
-        });
-    };
-    let cleaning = start_cleaner(rt, scope, alloc, cleaner, script.cleaner, ended);
-    let looking = start_readers(
-        rt,
-        scope,
-        alloc,
-        reserved.readers,
-        readers,
-        &script.readers,
-        ended,
-    );
-    let writing = start_writers(
-        rt,
-        scope,
-        alloc,
-        reserved.writers,
-        writers,
-        &script.writers,
-        gate,
-        ended,
-    );
-    let joined = join_writers(rt, writing.handles, reserved.hands);
-    let control = ask_unmount(rt, control, joined.stops.log_ended, ended);
-    let log = log.join(rt);
-    let answered = log.side.session.core().answers().len() as u64;
-    let ends = join_readers(
-        rt,
-        looking.handles,
-        &log.side.publisher,
-        answered,
-        reserved.ends,
-    );
-    let Some(cleaner) = join_cleaner(rt, cleaning) else {
-        return Err(RunFault::with_flash(RunWhy::Spawn, flash_of(log.side)));
-    };
-    if !looking.all || !writing.all {
-        return Err(RunFault::with_flash(RunWhy::Spawn, flash_of(log.side)));
-    }
-    if let Some(why) = joined.stops.fault() {
-        return Err(RunFault::with_flash(why, flash_of(log.side)));
-    }
-    Ok(Finished {
-        hands: Hands {
-            writers: joined.hands,
-            cleaner,
-            control,
-        },
-        readers: ends,
-        log,
+        jobs,
+        job_end,
     })
 }
 
-/// Has the control ask for the Unmount, until the line takes that in or the log thread is gone,
-/// unless a writer found it gone.
-fn ask_unmount<R: Wait, H: Hand>(
-    rt: &R,
-    control: Control<H>,
-    log_ended: bool,
-    ended: &Ended,
-) -> Control<H>
-    requires idle { H.accepted control.hand ≡ [] }
-    ensures end { (H.sender result.hand ≡ H.sender control.hand)
-        × (H.line result.hand ≡ H.line control.hand) }
-    ensures asked { (H.accepted result.hand ≡ [])
-        ⊎ ((log_ended ≡ false)
-        × (H.accepted result.hand ≡ request (H.sender control.hand) 1 Unmount ∷ [])) }
-{
-    let mut control = control;
-    if !log_ended {
-        let _ = offer_until(rt, &mut control, Wish::Unmount, ended);
-    }
-    control
-}
-
-fn flash_of<F: Flash + Drop, T: Taker, W: Wait + Drop>(side: LogSide<F, T, W>) -> F
-    ensures { IsLeftBy side.session.core (F.device result) }
-{
-    side.session.into_core().into_flash()
-}
-
-/// Runs all threads of a run.
-pub(crate) fn run_all<
-    R: Threads + Wait + Sync,
-    H: Hand + Send,
-    F: Flash + Send + Drop,
-    T: Taker + Send,
-    W: Wait + Drop + Send,
-    G: Gate + Sync,
->(
+/// A run over all ends of a line.
+fn run_over<R: Threads + Wait + Sync, F: Flash + Send + Drop, T: Settle + Send, G: Gate + Sync>(
     rt: &R,
     alloc: Global,
     script: &Script,
-    crew: Crew<H>,
-    side: LogSide<F, T, W>,
+    line: Ends<T::Of, T>,
+    core: Core<F>,
     gate: &G,
-) -> Result<Finished<H, F, T, W>, RunFault<F>>
-    requires crew { IsFit H.Hand script.now crew (publisher_index side.publisher) }
-    requires ready { CanServe side.session side.publisher }
-    ensures fault { IfErr result (GivesBack F.device
-        (LeftByServing side.session (all_put side.publisher).steps (T.taken side.taker))) }
-    ensures hands { IfOk result
-        (λ finished. HasHandedIn H.Hand script.now.writers.items crew finished.hands) }
-    ensures readers { IfOk result
-        (λ finished. (history : History)
-        → IsWhole (published finished.log.side.publisher)
-        (length finished.log.side.session.core.answers) history
-        → HaveSeen history script.now.readers.items finished.readers.items) }
-    ensures ends { IfOk result (λ finished. T.ends finished.log.side.taker ≡ T.ends side.taker) }
-    ensures served { IfOk result
-        (λ finished. HasServed side.session side.publisher (T.taken side.taker)
-        finished.log.side.session finished.log.side.publisher (T.taken finished.log.side.taker)
-        finished.log.served) }
+) -> Result<Accounted<F, T::Of>, RunFault<F>>
+where
+    T::Of: Send,
+    requires line { IsNewLine T.Of.Hand (T.ends line.taker) (T.taken line.taker) line.hands
+        (vec_len script.now.writers) }
+    requires core { (core.answers ≡ []) × (core.closed ≡ false) }
+    ensures fault { IfErr result (GivesBack F.device (LeftByTurns core)) }
+    ensures run { IfOk result
+        (λ r. IsRun core (account_of F.Flash script.now
+        (λ sender. accepted_by T.Of.Hand sender (all_hands T.Of.Hand r.0.value)) r.1)) }
 {
-    let ended = Ended::new();
-    let ended = &ended;
-    thread::scope(
-        thread::scope_env(),
-        rt,
-        |scope| -> Result<Finished<H, F, T, W>, RunFault<F>>
-            requires { IsFit H.Hand script.now crew (publisher_index side.publisher)
-                × CanServe side.session side.publisher }
-        { run_in(rt, scope, alloc, script, crew, side, gate, ended) },
-    )
+    let Opened {
+        publisher,
+        readers,
+        cleaner,
+        jobs,
+        job_end,
+    } = match open(rt, alloc, &core, script.readers.len()) {
+        Ok(opened) => opened,
+        Err(why) => return Err(RunFault::with_flash(why, core.into_flash())),
+    };
+    let Ends { hands, taker } = line;
+    let crew = Crew {
+        writers: hands.writers,
+        cleaner: Cleaner {
+            hand: hands.cleaner,
+            reader: cleaner,
+            jobs: job_end,
+        },
+        control: hands.control,
+        readers,
+    };
+    let side = LogSide {
+        session: Session::new(core),
+        taker,
+        publisher,
+        jobs,
+    };
+    let finished = run_all(rt, alloc, script, crew, side, gate)?;
+    let accepted = Snapshot::of(&finished.hands);
+    let run = settle_all(rt, alloc, finished)?;
+    Ok((accepted, run))
+}
+
+/// Takes all ends back.
+fn settle_all<R: Wait, F: Flash + Drop, T: Settle, W: Wait + Drop>(
+    rt: &R,
+    alloc: Global,
+    finished: Finished<T::Of, F, T, W>,
+) -> Result<Run<F, ()>, RunFault<F>>
+    requires ends { T.ends finished.log.side.taker
+        ≡ map (end_of T.Of.Hand) (all_hands T.Of.Hand finished.hands) }
+    ensures fault { IfErr result (GivesBack F.device (IsLeftBy finished.log.side.session.core)) }
+    ensures rest { IfOk result
+        (λ run. (run.answers.items ≡ finished.log.side.session.core.answers)
+        × (run.readers ≡ finished.readers) × (run.served ≡ finished.log.served)) }
+    ensures settled { IfOk result
+        (λ run. IsSettled T.Of.Hand (all_hands T.Of.Hand finished.hands)
+        (T.taken finished.log.side.taker) run.waiting.items) }
+    ensures left { IfOk result
+        (λ run. IsLeftBy finished.log.side.session.core (F.device run.flash)) }
+{
+    let Finished {
+        hands,
+        readers,
+        log,
+    } = finished;
+    let LogEnd { side, served } = log;
+    let (flash, answers) = side.session.into_core().into_parts();
+    match side.taker.settle(rt, alloc, hands) {
+        Ok(settled) => Ok(Run {
+            accepted: (),
+            answers,
+            waiting: settled.waiting,
+            readers,
+            served,
+            flash,
+        }),
+        Err(_) => Err(RunFault::with_flash(RunWhy::Settle, flash)),
+    }
+}
+
+/// Runs a script in threads: one for the log, one for each writer and each reader, and one for the
+/// cleaner where the script asks for it; and joins them all. `gate` is called for each wish in its
+/// writer's thread. The device may hold a volume already: the script's own sizes are not looked at.
+///
+/// A fault has its reason, and hands the device back unless a thread could not be started: one that
+/// doesn't mount as scanning left it, any other as the mounted core left it after its last turn.
+pub fn run_threads<R: Threads + Wait + Sync, F: Flash + Send + Drop, G: Gate + Sync>(
+    rt: &R,
+    alloc: Global,
+    script: &Script,
+    flash: F,
+    gate: &G,
+) -> Result<Run<F>, RunFault<F>>
+    ensures fault { IfErr result (GivesBack F.device (IsGivenUp (F.device flash))) }
+    ensures run { IfOk result
+        (λ run. (start : CoreState) × IsFresh (F.device flash) start
+        × IsRun start (account_of F.Flash script.now (accepted_of run.accepted) run)) }
+{
+    let core = match Core::mount(alloc, flash) {
+        Ok(core) => core,
+        Err(ScanFault { why: _, flash }) => {
+            return Err(RunFault::with_flash(RunWhy::Mount, flash));
+        }
+    };
+    run_mounted(rt, alloc, script, core, gate)
+}
+
+/// A run of a core that was mounted, over the line that the script chooses.
+fn run_mounted<R: Threads + Wait + Sync, F: Flash + Send + Drop, G: Gate + Sync>(
+    rt: &R,
+    alloc: Global,
+    script: &Script,
+    core: Core<F>,
+    gate: &G,
+) -> Result<Run<F>, RunFault<F>>
+    requires core { (core.answers ≡ []) × (core.closed ≡ false) }
+    ensures fault { IfErr result (GivesBack F.device (LeftByTurns core)) }
+    ensures run { IfOk result
+        (λ run. IsRun core (account_of F.Flash script.now (accepted_of run.accepted) run)) }
+{
+    let writers = script.writers.len();
+    if writers > WRITERS_MAX {
+        return Err(RunFault::with_flash(RunWhy::Line, core.into_flash()));
+    }
+    let writers = writers as u16;
+    let capacity = script.line.capacity as usize;
+    match script.line.form {
+        LineForm::Shared => {
+            let Ok(line) = shared_line(rt, alloc, capacity, writers) else {
+                return Err(RunFault::with_flash(RunWhy::Line, core.into_flash()));
+            };
+            let (accepted, run) = run_over(rt, alloc, script, line, core, gate)?;
+            Ok(run.with_accepted(AcceptedBy::Shared(accepted)))
+        }
+        LineForm::Rings => {
+            let Ok(line) = ring_line(alloc, capacity, writers) else {
+                return Err(RunFault::with_flash(RunWhy::Line, core.into_flash()));
+            };
+            let (accepted, run) = run_over(rt, alloc, script, line, core, gate)?;
+            Ok(run.with_accepted(AcceptedBy::Rings(accepted)))
+        }
+    }
 }

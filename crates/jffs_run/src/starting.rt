@@ -1,13 +1,13 @@
 //! Starting the writers and the readers.
 
 ghost use Rattle.std.specs.Prelude.{◌≡◌, ◌≤◌, [], length, map, IfSome, IsTrue, vec_len};
-ghost use Rattle.std.specs.Prelude.{vec_capacity};
 ghost use Rattle.std.specs.List.{All};
 ghost use Rattle.jffs_index.specs.declared.rule.Index.{Index};
 ghost use Rattle.jffs_index.specs.Ends.{index_of, known};
 ghost use Rattle.jffs_index.specs.Histories.{view_of};
 ghost use Rattle.jffs_run.specs.Numbered.{Wrote};
 ghost use Rattle.jffs_run.specs.Looking.{FitsView};
+ghost use Rattle.jffs_run.specs.Crew.{AreNew, HasRoom};
 ghost use Rattle.jffs_run.specs.Ends.{EachFrom, end_of};
 ghost use Rattle.jffs_run.specs.Started.{IsStarted, IsLooking, end_given};
 
@@ -71,11 +71,8 @@ pub(crate) fn start_writers<'s, E, R: Wait + Sync, H: Hand + Send + 's, G: Gate 
     gate: &'s G,
     ended: &'s Ended,
 ) -> Started<WriterHandle<'s, H>>
-    requires empty { handles.items ≡ [] }
-    requires room { vec_len hands ≤ vec_capacity handles }
-    requires fresh { All (λ hand. H.accepted hand ≡ []) hands.items }
-    requires count { vec_len hands ≡ length writers.now }
-    requires few { vec_len hands ≤ 8 }
+    requires room { HasRoom (vec_len hands) handles }
+    requires hands { AreNew H.Hand (length writers.now) hands }
     ensures started { EachFrom (IsStarted writers.entry.now) 0 result.handles.items }
     ensures count { vec_len result.handles ≤ vec_len hands }
     ensures all { IsTrue result.all
@@ -134,8 +131,7 @@ pub(crate) fn start_readers<'s, E, R: Wait + Sync>(
     statements: &'s [ReaderStatement],
     ended: &'s Ended,
 ) -> Started<ReaderHandle<'s>>
-    requires empty { handles.items ≡ [] }
-    requires room { vec_len readers ≤ vec_capacity handles }
+    requires room { HasRoom (vec_len readers) handles }
     requires count { vec_len readers ≡ length statements.now }
     ensures started { (index : Index) → All (λ reader. index_of reader ≡ index) readers.items
         → EachFrom (IsLooking index statements.entry.now) 0 result.handles.items }

@@ -1,6 +1,7 @@
 //! Whole programs: a script in, lines out.
 
 mod calls;
+mod gates;
 mod hundred;
 mod lines;
 mod many;
@@ -109,8 +110,13 @@ fn data_too_long(rt: HostRuntime) -> Result<(), Fail> {
 fn every_refusal_of_a_path(rt: HostRuntime) -> Result<(), Fail> {
     prints(
         &rt,
-        "volume 8 1024\nwriter\nmkdir /a\nmkdir /a\ncreate /n/x\nremove /\nwrite /a 0 00\ncreate /a/f\nremove /a\nrename /a /b\nmkdir /c\nrename /b /c/d\nrename /b/f /c/f\nremove /b\nwrite /f 0 00\n",
-        "1.1 appended\n1.2 refused NameTaken\n1.3 refused NoParent\n1.4 refused RootFixed\n1.5 refused IsDirectory\n1.6 appended\n1.7 refused NotEmpty\n1.8 appended\n1.9 appended\n1.10 refused IsDirectory\n1.11 appended\n1.12 appended\n1.13 refused NotFound\nclosed\nscan clean\nd /\nd /c\nf /c/f 0 -\n",
+        "volume 8 1024\nwriter\nmkdir /a\nmkdir /a\ncreate /n/x\nremove /\nwrite /a 0 00\n\
+        create /a/f\nremove /a\nrename /a /b\nmkdir /c\nrename /b /c/d\nrename /b/f /c/f\n\
+        remove /b\nwrite /f 0 00\n",
+        "1.1 appended\n1.2 refused NameTaken\n1.3 refused NoParent\n1.4 refused RootFixed\n\
+        1.5 refused IsDirectory\n1.6 appended\n1.7 refused NotEmpty\n1.8 appended\n\
+        1.9 appended\n1.10 refused IsDirectory\n1.11 appended\n1.12 appended\n\
+        1.13 refused NotFound\nclosed\nscan clean\nd /\nd /c\nf /c/f 0 -\n",
     )
 }
 

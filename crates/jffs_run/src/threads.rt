@@ -1,242 +1,282 @@
-//! A run of a script in threads.
+//! All threads of a run, started and joined.
 
-ghost use Rattle.std.specs.Prelude.{◌≡◌, ◌+◌, ℕ, [], ◌++◌, map, false, IfOk, IfErr, None, vec_len};
-ghost use Rattle.std.specs.Prelude.{Contains};
-ghost use Rattle.std.specs.List.{All};
-ghost use Rattle.jffs_index.specs.Histories.{opening_of};
-ghost use Rattle.jffs_index.specs.Ends.{published, pending, publisher_index, index_of};
-ghost use Rattle.jffs_line.specs.Requests.{of, IsNumbered};
-ghost use Rattle.jffs_run.specs.Ends.{all_hands, accepted_by, end_of};
-ghost use Rattle.jffs_run.specs.Crew.{IsNewLine};
-ghost use Rattle.jffs_core.specs.CoreState.{CoreState};
-ghost use Rattle.jffs_core.specs.Past.{IsFresh, IsLeftBy};
-ghost use Rattle.jffs_run.specs.Account.{account_of};
-ghost use Rattle.jffs_run.specs.Headline.{IsRun};
-ghost use Rattle.jffs_run.specs.Faults.{GivesBack, IsGivenUp, LeftByTurns};
-ghost use Rattle.jffs_run.specs.Accepted.{accepted_of};
+ghost use Rattle.std.specs.Prelude.{◌≡◌, ◌⊎◌, ◌∷◌, [], IfOk, IfErr, IfSome, false, vec_len};
+ghost use Rattle.jffs_index.specs.Ends.{publisher_index};
+ghost use Rattle.jffs_serve.specs.Showing.{CanServe};
+ghost use Rattle.jffs_tree.specs.declared.wish.Wish.TheVariants.{Unmount};
+ghost use Rattle.jffs_line.specs.Requests.{request};
+ghost use Rattle.jffs_run.specs.Crew.{IsFit, HasFinished};
+ghost use Rattle.jffs_run.specs.Started.{IsReserved, IsRunning};
+ghost use Rattle.jffs_run.specs.Faults.{GivesBack, LeftBySide};
+ghost use Rattle.jffs_core.specs.Past.{IsLeftBy};
 
+use crate::cleaner::{join_cleaner, start_cleaner};
 use crate::crew::{Crew, Finished};
 use crate::fault::{RunFault, RunWhy};
-use crate::outcome::{AcceptedBy, Run};
-use crate::promise::{Cleaner, LogEnd, LogSide};
-use crate::run::run_all;
-use crate::writer::Gate;
-use jffs_core::Core;
+use crate::joining::{join_readers, join_writers};
+use crate::log_thread::start_log;
+use crate::promise::{Cleaning, LogHandle, LogSide, ReaderHandle, WriterHandle};
+use crate::reader::ReaderEnd;
+use crate::starting::{Started, start_readers, start_writers};
+use crate::writer::{Gate, offer_until};
 use jffs_flash::Flash;
-use jffs_index::{Publisher, READERS_MAX, Reader, publish_index};
-use jffs_line::{Ends, Hands, Settle, ring_line, shared_line};
-use jffs_log::ScanFault;
-use jffs_serve::{JobEnd, Jobs, Session, job_ring};
-use jffs_text::{LineForm, Script, WRITERS_MAX};
-use std::alloc::Global;
+use jffs_line::{Control, Hand, Hands, Taker};
+use jffs_serve::Ended;
+use jffs_text::Script;
+use jffs_tree::Wish;
+use std::alloc::{AllocError, Global};
 use std::snapshot::Snapshot;
 use std::sync::Wait;
-use std::thread::Threads;
+use std::thread;
+use std::thread::{Scope, Threads};
 
-/// How many images the job ring holds.
-const JOBS_MAX: usize = 4;
-
-/// What the hands of a run had accepted, and the rest of that run.
-type Accounted<F, H> = (Snapshot<Hands<H>>, Run<F, ()>);
-
-/// The published index of a run, and the job ring.
-struct Opened<W: Wait + Drop> {
-    publisher: Publisher<W>,
-    readers: Vec<Reader>,
-    cleaner: Reader,
-    jobs: Jobs,
-    job_end: JobEnd,
+/// Capacity for what is started and joined, so that between the first start and the last join
+/// no memory is needed.
+#[derive(Drop)]
+struct Reserved<'s, H: Hand> {
+    writers: Vec<WriterHandle<'s, H>>,
+    hands: Vec<H>,
+    readers: Vec<ReaderHandle<'s>>,
+    ends: Vec<ReaderEnd>,
 }
 
-/// Opens the index over a copy of the core's tree, for `readers` readers and the cleaner, and makes
-/// the job ring.
-fn open<W: Wait + Drop, F: Flash>(
-    rt: W,
-    alloc: Global,
-    core: &Core<F>,
-    readers: usize,
-) -> Result<Opened<W>, RunWhy>
-    ensures published { IfOk result
-        (λ opened. (published opened.publisher ≡ opening_of core.now.tree)
-        × (pending opened.publisher ≡ [])) }
-    ensures count { IfOk result (λ opened. vec_len opened.readers ≡ readers) }
-    ensures looking { IfOk result
-        (λ opened. All (λ reader. index_of reader ≡ publisher_index opened.publisher)
-        opened.readers.items) }
-{
-    if readers >= READERS_MAX {
-        return Err(RunWhy::Index);
+impl<'s, H: Hand> Reserved<'s, H> {
+    ghost use Rattle.jffs_run.specs.Started.{IsReserved};
+
+    fn reserve(alloc: Global, writers: usize, readers: usize) -> Result<Reserved<'s, H>, AllocError>
+        ensures { IfOk result (IsReserved writers readers) }
+    {
+        Ok(Reserved {
+            writers: Vec::with_capacity(alloc, writers)?,
+            hands: Vec::with_capacity(alloc, writers)?,
+            readers: Vec::with_capacity(alloc, readers)?,
+            ends: Vec::with_capacity(alloc, readers)?,
+        })
     }
-    let tree = core.tree().copy_tree()?;
-    let (jobs, job_end) = job_ring(alloc, JOBS_MAX).map_err(|_| RunWhy::Memory)?;
-    let index = publish_index(rt, alloc, tree, readers + 1);
-    let (publisher, mut readers) = index.map_err(|_| RunWhy::Index)?;
-    let cleaner = readers.pop().ok_or(RunWhy::Index)?;
-    Ok(Opened {
-        publisher,
-        readers,
-        cleaner,
-        jobs,
-        job_end,
+}
+
+/// All threads of a run, as far as they could be started, with the control, which stays here, and
+/// room for what comes back.
+#[derive(Drop)]
+struct Running<'s, H: Hand, F: Flash, T: Taker, W: Wait + Drop> {
+    script: &'s Script,
+    crew: Snapshot<Crew<H>>,
+    log: LogHandle<F, T, W>,
+    cleaning: Option<Cleaning<H>>,
+    looking: Started<ReaderHandle<'s>>,
+    writing: Started<WriterHandle<'s, H>>,
+    control: Control<H>,
+    hands: Vec<H>,
+    ends: Vec<ReaderEnd>,
+}
+
+/// Starts the log thread first, and then all others, as far as threads can be made. None where
+/// there is none for the log; what it owns is then gone.
+fn start_all<
+    's,
+    E,
+    R: Threads + Wait + Sync,
+    H: Hand + Send + 's,
+    F: Flash + Send + Drop + 's,
+    T: Taker + Send + 's,
+    W: Wait + Drop + Send + 's,
+    G: Gate + Sync,
+>(
+    rt: &'s R,
+    scope: &'s Scope<'s, E>,
+    alloc: Global,
+    script: &'s Script,
+    crew: Crew<H>,
+    side: LogSide<F, T, W>,
+    reserved: Reserved<'s, H>,
+    gate: &'s G,
+    ended: &'s Ended,
+) -> Option<Running<'s, H, F, T, W>>
+    requires crew { IsFit H.Hand script.now crew (publisher_index side.publisher) }
+    requires ready { CanServe side.session side.publisher }
+    requires room { IsReserved (vec_len crew.writers) (vec_len crew.readers) reserved }
+    ensures given { IfSome result
+        (λ running. (running.script.now ≡ script.entry.now) × (running.crew.value ≡ crew)
+        × (running.log.promise.side.value ≡ side)) }
+    ensures running { IfSome result (IsRunning H.Hand) }
+{
+    let given = Snapshot::of(&crew);
+    let log = start_log(rt, scope, side, ended)?;
+    let cleaning = start_cleaner(rt, scope, alloc, crew.cleaner, script.cleaner, ended);
+    let looking = start_readers(
+        rt,
+        scope,
+        alloc,
+        reserved.readers,
+        crew.readers,
+        &script.readers,
+        ended,
+    );
+    let writing = start_writers(
+        rt,
+        scope,
+        alloc,
+        reserved.writers,
+        crew.writers,
+        &script.writers,
+        gate,
+        ended,
+    );
+    Some(Running {
+        script,
+        crew: given,
+        log,
+        cleaning,
+        looking,
+        writing,
+        control: crew.control,
+        hands: reserved.hands,
+        ends: reserved.ends,
     })
 }
 
-/// A run over all ends of a line.
-fn run_over<R: Threads + Wait + Sync, F: Flash + Send + Drop, T: Settle + Send, G: Gate + Sync>(
+/// Joins the writers, has the control ask for the Unmount unless a writer found the log thread
+/// ended, and joins the log thread and the rest.
+fn join_all<'s, R: Threads + Wait, H: Hand + Send + 's, F: Flash + Drop, T: Taker, W: Wait + Drop>(
     rt: &R,
-    alloc: Global,
-    script: &Script,
-    line: Ends<T::Of, T>,
-    core: Core<F>,
-    gate: &G,
-) -> Result<Accounted<F, T::Of>, RunFault<F>>
-where
-    T::Of: Send,
-    requires line { IsNewLine T.Of.Hand (T.ends line.taker) (T.taken line.taker) line.hands
-        (vec_len script.now.writers) }
-    requires core { (core.answers ≡ []) × (core.closed ≡ false) }
-    ensures fault { IfErr result (GivesBack F.device (LeftByTurns core)) }
-    ensures run { IfOk result
-        (λ r. IsRun core (account_of F.Flash script.now
-        (λ sender. accepted_by T.Of.Hand sender (all_hands T.Of.Hand r.0.value)) r.1)) }
+    running: Running<'s, H, F, T, W>,
+    ended: &Ended,
+) -> Result<Finished<H, F, T, W>, RunFault<F>>
+    requires running { IsRunning H.Hand running }
+    ensures fault { IfErr result
+        (GivesBack F.device (LeftBySide T.Taker running.entry.log.promise.side.value)) }
+    ensures finished { IfOk result (HasFinished H.Hand T.Taker running.entry.script.now
+        running.entry.crew.value running.entry.log.promise.side.value) }
 {
-    let Opened {
-        publisher,
-        readers,
+    let writing = running.writing;
+    let looking = running.looking;
+    let joined = join_writers(rt, writing.handles, running.hands);
+    let control = ask_unmount(rt, running.control, joined.stops.log_ended, ended);
+    let log = running.log.join(rt);
+    let answered = log.side.session.core().answers().len() as u64;
+    let ends = join_readers(
+        rt,
+        looking.handles,
+        &log.side.publisher,
+        answered,
+        running.ends,
+    );
+    let Some(cleaner) = join_cleaner(rt, running.cleaning) else {
+        return Err(RunFault::with_flash(RunWhy::Spawn, flash_of(log.side)));
+    };
+    if !looking.all || !writing.all {
+        return Err(RunFault::with_flash(RunWhy::Spawn, flash_of(log.side)));
+    }
+    if let Some(why) = joined.stops.fault() {
+        return Err(RunFault::with_flash(why, flash_of(log.side)));
+    }
+    let hands = Hands {
+        writers: joined.hands,
         cleaner,
-        jobs,
-        job_end,
-    } = match open(rt, alloc, &core, script.readers.len()) {
-        Ok(opened) => opened,
-        Err(why) => return Err(RunFault::with_flash(why, core.into_flash())),
+        control,
     };
-    let Ends { hands, taker } = line;
-    let crew = Crew {
-        writers: hands.writers,
-        cleaner: Cleaner {
-            hand: hands.cleaner,
-            reader: cleaner,
-            jobs: job_end,
-        },
-        control: hands.control,
-        readers,
-    };
-    let side = LogSide {
-        session: Session::new(core),
-        taker,
-        publisher,
-        jobs,
-    };
-    let finished = run_all(rt, alloc, script, crew, side, gate)?;
-    let accepted = Snapshot::of(&finished.hands);
-    let run = settle_all(rt, alloc, finished)?;
-    Ok((accepted, run))
-}
-
-/// Takes all ends back.
-fn settle_all<R: Wait, F: Flash + Drop, T: Settle, W: Wait + Drop>(
-    rt: &R,
-    alloc: Global,
-    finished: Finished<T::Of, F, T, W>,
-) -> Result<Run<F, ()>, RunFault<F>>
-    requires ends { T.ends finished.log.side.taker
-        ≡ map (end_of T.Of.Hand) (all_hands T.Of.Hand finished.hands) }
-    ensures fault { IfErr result (GivesBack F.device (IsLeftBy finished.log.side.session.core)) }
-    ensures rest { IfOk result
-        (λ run. (run.answers.items ≡ finished.log.side.session.core.answers)
-        × (run.readers ≡ finished.readers) × (run.served ≡ finished.log.served)) }
-    ensures settled { IfOk result
-        (λ run. All (λ h. T.taken finished.log.side.taker (T.Of.sender h)
-        ++ of (T.Of.sender h) run.waiting.items ≡ T.Of.accepted h)
-        (all_hands T.Of.Hand finished.hands)) }
-    ensures left { IfOk result
-        (λ run. IsLeftBy finished.log.side.session.core (F.device run.flash)) }
-    ensures numbered { IfOk result
-        (λ _. All (λ h. IsNumbered (T.Of.accepted h)) (all_hands T.Of.Hand finished.hands)) }
-    ensures others { IfOk result
-        (λ run. (w : ℕ) → ¬ (Contains (map T.Of.sender (all_hands T.Of.Hand finished.hands)) w)
-        → T.taken finished.log.side.taker w ++ of w run.waiting.items ≡ []) }
-{
-    let Finished {
+    Ok(Finished {
         hands,
-        readers,
+        readers: ends,
         log,
-    } = finished;
-    let LogEnd { side, served } = log;
-    let (flash, answers) = side.session.into_core().into_parts();
-    match side.taker.settle(rt, alloc, hands) {
-        Ok(settled) => Ok(Run {
-            accepted: (),
-            answers,
-            waiting: settled.waiting,
-            readers,
-            served,
-            flash,
-        }),
-        Err(_) => Err(RunFault::with_flash(RunWhy::Settle, flash)),
-    }
+    })
 }
 
-/// Runs a script in threads: one for the log, one for each writer and each reader, and one for the
-/// cleaner where the script asks for it; and joins them all. `gate` is called for each wish in its
-/// writer's thread. The device may hold a volume already: the script's own sizes are not looked at.
-///
-/// A fault has its reason, and hands the device back unless a thread could not be started: one that
-/// doesn't mount as scanning left it, any other as the mounted core left it after its last turn.
-pub fn run_threads<R: Threads + Wait + Sync, F: Flash + Send + Drop, G: Gate + Sync>(
-    rt: &R,
+/// Starts all threads of a run in a scope, and joins them.
+fn run_in<
+    's,
+    E,
+    R: Threads + Wait + Sync,
+    H: Hand + Send + 's,
+    F: Flash + Send + Drop + 's,
+    T: Taker + Send + 's,
+    W: Wait + Drop + Send + 's,
+    G: Gate + Sync,
+>(
+    rt: &'s R,
+    scope: &'s Scope<'s, E>,
     alloc: Global,
-    script: &Script,
-    flash: F,
-    gate: &G,
-) -> Result<Run<F>, RunFault<F>>
-    ensures fault { IfErr result (GivesBack F.device (IsGivenUp (F.device flash))) }
-    ensures run { IfOk result
-        (λ run. (start : CoreState) × IsFresh (F.device flash) start
-        × IsRun start (account_of F.Flash script.now (accepted_of run.accepted) run)) }
+    script: &'s Script,
+    crew: Crew<H>,
+    side: LogSide<F, T, W>,
+    gate: &'s G,
+    ended: &'s Ended,
+) -> Result<Finished<H, F, T, W>, RunFault<F>>
+    requires crew { IsFit H.Hand script.now crew (publisher_index side.publisher) }
+    requires ready { CanServe side.session side.publisher }
+    ensures fault { IfErr result (GivesBack F.device (LeftBySide T.Taker side)) }
+    ensures finished { IfOk result (HasFinished H.Hand T.Taker script.entry.now crew side) }
 {
-    let core = match Core::mount(alloc, flash) {
-        Ok(core) => core,
-        Err(ScanFault { why: _, flash }) => {
-            return Err(RunFault::with_flash(RunWhy::Mount, flash));
-        }
+    let Ok(reserved) = Reserved::reserve(alloc, crew.writers.len(), crew.readers.len()) else {
+        return Err(RunFault::with_flash(RunWhy::Memory, flash_of(side)));
     };
-    run_mounted(rt, alloc, script, core, gate)
+    let Some(running) = start_all(rt, scope, alloc, script, crew, side, reserved, gate, ended)
+    else {
+        return Err(RunFault {
+            why: RunWhy::Spawn,
+            flash: None,
+        });
+    };
+    join_all(rt, running, ended)
 }
 
-/// A run of a core that was mounted, over the line that the script chooses.
-fn run_mounted<R: Threads + Wait + Sync, F: Flash + Send + Drop, G: Gate + Sync>(
+/// Has the control ask for the Unmount, until the line takes that in or the log thread is gone,
+/// unless a writer found it gone.
+fn ask_unmount<R: Wait, H: Hand>(
+    rt: &R,
+    control: Control<H>,
+    log_ended: bool,
+    ended: &Ended,
+) -> Control<H>
+    requires idle { H.accepted control.hand ≡ [] }
+    ensures end { (H.sender result.hand ≡ H.sender control.hand)
+        × (H.line result.hand ≡ H.line control.hand) }
+    ensures asked { (H.accepted result.hand ≡ [])
+        ⊎ ((log_ended ≡ false)
+        × (H.accepted result.hand ≡ request (H.sender control.hand) 1 Unmount ∷ [])) }
+{
+    let mut control = control;
+    if !log_ended {
+        let _ = offer_until(rt, &mut control, Wish::Unmount, ended);
+    }
+    control
+}
+
+fn flash_of<F: Flash + Drop, T: Taker, W: Wait + Drop>(side: LogSide<F, T, W>) -> F
+    ensures { IsLeftBy side.session.core (F.device result) }
+{
+    side.session.into_core().into_flash()
+}
+
+/// Runs all threads of a run.
+pub(crate) fn run_all<
+    R: Threads + Wait + Sync,
+    H: Hand + Send,
+    F: Flash + Send + Drop,
+    T: Taker + Send,
+    W: Wait + Drop + Send,
+    G: Gate + Sync,
+>(
     rt: &R,
     alloc: Global,
     script: &Script,
-    core: Core<F>,
+    crew: Crew<H>,
+    side: LogSide<F, T, W>,
     gate: &G,
-) -> Result<Run<F>, RunFault<F>>
-    requires core { (core.answers ≡ []) × (core.closed ≡ false) }
-    ensures fault { IfErr result (GivesBack F.device (LeftByTurns core)) }
-    ensures run { IfOk result
-        (λ run. IsRun core (account_of F.Flash script.now (accepted_of run.accepted) run)) }
+) -> Result<Finished<H, F, T, W>, RunFault<F>>
+    requires crew { IsFit H.Hand script.now crew (publisher_index side.publisher) }
+    requires ready { CanServe side.session side.publisher }
+    ensures fault { IfErr result (GivesBack F.device (LeftBySide T.Taker side)) }
+    ensures finished { IfOk result (HasFinished H.Hand T.Taker script.now crew side) }
 {
-    let writers = script.writers.len();
-    if writers > WRITERS_MAX {
-        return Err(RunFault::with_flash(RunWhy::Line, core.into_flash()));
-    }
-    let writers = writers as u16;
-    let capacity = script.line.capacity as usize;
-    match script.line.form {
-        LineForm::Shared => {
-            let Ok(line) = shared_line(rt, alloc, capacity, writers) else {
-                return Err(RunFault::with_flash(RunWhy::Line, core.into_flash()));
-            };
-            let (accepted, run) = run_over(rt, alloc, script, line, core, gate)?;
-            Ok(run.with_accepted(AcceptedBy::Shared(accepted)))
-        }
-        LineForm::Rings => {
-            let Ok(line) = ring_line(alloc, capacity, writers) else {
-                return Err(RunFault::with_flash(RunWhy::Line, core.into_flash()));
-            };
-            let (accepted, run) = run_over(rt, alloc, script, line, core, gate)?;
-            Ok(run.with_accepted(AcceptedBy::Rings(accepted)))
-        }
-    }
+    let ended = Ended::new();
+    let ended = &ended;
+    thread::scope(
+        thread::scope_env(),
+        rt,
+        |scope| -> Result<Finished<H, F, T, W>, RunFault<F>>
+            requires { IsFit H.Hand script.now crew (publisher_index side.publisher)
+                × CanServe side.session side.publisher }
+        { run_in(rt, scope, alloc, script, crew, side, gate, ended) },
+    )
 }

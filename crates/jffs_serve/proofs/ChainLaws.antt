@@ -20,7 +20,7 @@ use Rattle.jffs_core.specs.Past.{Represents, RepresentsWorking, HasFailed}
 use Rattle.jffs_core.specs.Run.{OnlyCopies, AreAnswered, IsInOrder, is_failure}
 use Rattle.jffs_core.specs.Answering.{turn_of, keeps_two, is_closed}
 use Rattle.jffs_core.specs.declared.answer.Answer.{Answer}
-use Rattle.jffs_log.proofs.Wear.{in_turn_none, turns_go_on}
+use Rattle.jffs_log.proofs.erase.Wear.{in_turn_none, turns_go_on}
 use Rattle.jffs_core.proofs.Lawful.{none_made}
 use Rattle.jffs_core.proofs.Refusing.{failed_more}
 use Rattle.jffs_core.proofs.Stepping.{unmounts_have_room}

@@ -1,5 +1,5 @@
 -- Calls after which the core represents the history that it represented.
-use Rattle.std.proofs.Common.{◌≡◌, ◌⊎◌, ◌<◌, ℕ, List, inl, inr, ⊎_elim, true, false, not, refl, sym, ap, subst, ◌∙◌, arith, Result, Ok, Err, OnOk, IfOk, IfErr}
+use Rattle.std.proofs.Common.{◌≡◌, ◌<◌, ℕ, List, inl, inr, ⊎_elim, true, false, not, refl, sym, ap, subst, ◌∙◌, arith, Result, Ok, Err, OnOk, IfOk, IfErr}
 use Rattle.std.proofs.lemmas.Bool.{and_parts, both_ways, cases_Bool, false_from_ne_true, not-true}
 use Rattle.jffs_node.specs.declared.node.Node.{Node}
 use Rattle.jffs_tree.specs.declared.wish.Cause.{Cause}
@@ -12,7 +12,7 @@ use Rattle.jffs_core.specs.Calls.{FailsIn}
 use Rattle.jffs_core.specs.Cleaning.{ErasesDead, ErasingStopped, StopIs}
 use Rattle.jffs_core.specs.Erases.{ErasesAtMost}
 use Rattle.jffs_core.specs.Jobs.{wants_cleaning, ReadRefused}
-use Rattle.jffs_log.proofs.Wear.{turns_go_on}
+use Rattle.jffs_log.proofs.erase.Wear.{turns_go_on}
 use Rattle.jffs_core.proofs.Contents.{no_growth}
 use Rattle.jffs_core.proofs.Erasing.{erased_same}
 use Rattle.jffs_core.proofs.Mounting.{clean_ends}
@@ -36,6 +36,7 @@ pub same_but_capacity : (old new : CoreState) → IsSameButCapacity old new → 
 same_but_capacity old new same = subst (KeepsHistory old) (sym same) (record {
   sizes = (refl, refl);
   erases = erased_same 0 old (record old { capacity = new.capacity }) refl;
+  closed = λ is. (is, refl, refl);
   failed = λ f. refl;
   faults = λ w past k. refl;
   two = λ w past k two. two;
@@ -75,6 +76,7 @@ pub keeps_along : (a b c : CoreState) → KeepsHistory a b → KeepsHistory b c 
 keeps_along a b c h k = record {
   sizes = (h.sizes.0 ∙ k.sizes.0, h.sizes.1 ∙ k.sizes.1);
   erases = erased_along a b c h k;
+  closed = λ is. let first = h.closed is in let second = k.closed first.0 in (second.0, second.1 ∙ first.1, second.2 ∙ first.2);
   failed = λ f. k.failed (stays_failed a b h f) ∙ ap (λ (s : CoreState). record s { capacity = c.capacity }) (h.failed f);
   faults = λ works past known.
       let between = keeps_worked b c k works in
@@ -118,6 +120,7 @@ read_failed old new works same now risen stands =
     record {
       sizes = subst (λ (c : CoreState). HasSizes old.index.sectors old.index.sector_size c.index) (sym same) (refl, refl);
       erases = erased_same 0 old new (ap (λ (c : CoreState). c.index) same);
+      closed = λ is. (ap (λ (c : CoreState). c.closed) same ∙ is, ap (λ (c : CoreState). c.index) same, ap (λ (c : CoreState). c.image) same);
       failed = λ f. absurd (both_ways old.failed works f);
       faults = λ w past k. absurd (both_ways new.failed w now);
       two = λ w past k. absurd (both_ways new.failed w now);
@@ -141,26 +144,28 @@ read_kept old new (Err cause) works same ok refused stands = by_cause cause refu
 
 -- dead sectors were erased, as far as that went
 pub erased_dead :
-    (old new : CoreState) (result : Result ℕ Cause) → old.failed ≡ false → HasSizes old.index.sectors old.index.sector_size new.index
+    (old new : CoreState) (result : Result ℕ Cause) → old.failed ≡ false → old.closed ≡ false → HasSizes old.index.sectors old.index.sector_size new.index
     → IfOk result (λ count. (mounted past : List Node) → Represents mounted past old → ErasesDead mounted past count old new)
     → IfErr result (λ cause. ErasingStopped cause old new)
     → ErasesAtMost 0 old new
     → KeepsHistory old new
-erased_dead old new (Ok count) works sizes erased stopped erases =
+erased_dead old new (Ok count) works opened sizes erased stopped erases =
     let did = λ (past : List Node) (known : RepresentsWorking past old). erased past past (represents_itself past old works known) in
     record {
       sizes = sizes;
       erases = erases;
+      closed = λ is. absurd (both_ways old.closed opened is);
       failed = λ f. absurd (both_ways old.failed works f);
       faults = λ w past known. (did past known).faults;
       two = λ w past known. (did past known).two;
       fails = λ w f past known. absurd (both_ways new.failed (did past known).still_works f);
       stands = λ mounted past s. (erased mounted past s).stands;
     }
-erased_dead old new (Err cause) works sizes erased stopped erases =
+erased_dead old new (Err cause) works opened sizes erased stopped erases =
     record {
       sizes = sizes;
       erases = erases;
+      closed = λ is. absurd (both_ways old.closed opened is);
       failed = λ f. absurd (both_ways old.failed works f);
       faults = λ w past known. absurd (both_ways new.failed w (let h = fell past known in h.fails));
       two = λ w past known. absurd (both_ways new.failed w (let h = fell past known in h.fails));

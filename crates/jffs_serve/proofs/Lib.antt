@@ -1,6 +1,9 @@
+pub mod Stopping
 pub mod Erasing
 pub mod Replying
+pub mod Beginning
 pub mod Copying
+pub mod Cleaning
 pub mod Keeping
 pub mod Chains
 pub mod ChainLaws

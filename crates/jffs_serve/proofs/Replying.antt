@@ -22,14 +22,17 @@ use Rattle.jffs_core.specs.Nodes.{HasNode}
 use Rattle.jffs_core.specs.declared.answer.Answer.{Answer}
 use Rattle.jffs_serve.specs.declared.session.PendingStep.{PendingStep}
 use Rattle.jffs_serve.specs.declared.session.PendingStep.TheVariants.{Unput, Unpublished}
+use Rattle.jffs_serve.specs.declared.session.Unmounted.{Unmounted}
+use Rattle.jffs_serve.specs.declared.session.Unmounted.TheVariants as unmounted
 use Rattle.jffs_serve.specs.declared.session.Served.{Served}
-use Rattle.jffs_serve.specs.declared.session.Served.TheVariants as served
 use Rattle.jffs_serve.specs.declared.session.Session.{Session}
-use Rattle.jffs_serve.specs.PendingStep.{unput, ending_of, ending_after}
+use Rattle.jffs_serve.specs.PendingStep.{unput, ending_of, ending_after, served_as, served_by}
+use Rattle.jffs_serve.specs.Stopping.{owed, ending_in, StopsAt}
 use Rattle.jffs_serve.specs.Replies.{Reply, Replies, AllReply, answer_in, any_closed, RefusesUnmount, FitsServed}
 use Rattle.jffs_serve.specs.Chain.{KeepsHistory, IsReplied}
 use Rattle.jffs_serve.specs.Answered.{Start, HasReplied, FitsEnding, RepliesMore, HasSameReplies}
 use Rattle.jffs_serve.proofs.Keeping.{same_but_capacity}
+use Rattle.jffs_serve.proofs.Stopping.{stops_at_once, stops_along, still_owed}
 use Rattle.jffs_serve.proofs.Erasing.{since_start, since_answer, since_same}
 use Rattle.jffs_serve.proofs.Chains.{chain_stands, runs_more, runs_same, runs_from}
 
@@ -61,14 +64,14 @@ refuses_last (q ∷ p ∷ replies) r cause wish outcome = refuses_last (p ∷ re
 ends_so :
     (unmounts : Bool) (outcome : Outcome) (r : Reply) (replies : List Reply) (before closed : Bool)
     → (unmounts ≡ true → r.request.wish ≡ Unmount) → r.step.outcome ≡ outcome → closed ≡ (before || is_closed outcome)
-    → (s : Served) → ending_after unmounts outcome ≡ Some s → FitsServed s closed (replies ++ r ∷ [])
-ends_so unmounts Closed r replies before closed wish is now s ends =
-    let same : served.Closed ≡ s = cc in
-    subst (λ (t : Served). FitsServed t closed (replies ++ r ∷ [])) same (now ∙ or-true before)
-ends_so true (Refused cause) r replies before closed wish is now s ends =
-    let same : served.NotClosed cause ≡ s = cc in
-    subst (λ (t : Served). FitsServed t closed (replies ++ r ∷ [])) same (refuses_last replies r cause (wish refl) is)
-ends_so _ _ r replies before closed wish is now s ends = absurd (cc)
+    → (e : Unmounted) → ending_after unmounts outcome ≡ Some e → FitsServed (served_as e) closed (replies ++ r ∷ [])
+ends_so unmounts Closed r replies before closed wish is now e ends =
+    let same : unmounted.Closed ≡ e = cc in
+    subst (λ (t : Unmounted). FitsServed (served_as t) closed (replies ++ r ∷ [])) same (now ∙ or-true before)
+ends_so true (Refused cause) r replies before closed wish is now e ends =
+    let same : unmounted.NotClosed cause ≡ e = cc in
+    subst (λ (t : Unmounted). FitsServed (served_as t) closed (replies ++ r ∷ [])) same (refuses_last replies r cause (wish refl) is)
+ends_so _ _ r replies before closed wish is now e ends = absurd (cc)
 
 -- one request more is taken and answered
 pub replied_more :
@@ -114,6 +117,7 @@ replied_more start old new request outcome node unmounts put before now replies 
           let replied : IsReplied mounted run.after old r new = record {
             answer = acts mounted run.after (chain_stands mounted past run.after start.core old replies stands run.chain);
             opened = opened;
+            closed = closed ∙ ap (λ (b : Bool). b || is_closed outcome) opened;
             kept = same;
             sizes = sizes;
             erases = erased;
@@ -132,7 +136,7 @@ replied_same start old new unsent put before now replies answers closed keeps ta
   sent = was.sent;
   reply = was.reply;
   closed = closed ∙ (was.closed ∙ ap any_closed (sym answers));
-  ending = λ s ends. subst (λ (b : Bool). FitsServed s b replies) (sym closed) (was.ending s ends);
+  ending = λ e ends. subst (λ (b : Bool). FitsServed (served_as e) b replies) (sym closed) (was.ending e ends);
   sizes = (was.sizes.0 ∙ keeps.sizes.0, was.sizes.1 ∙ keeps.sizes.1);
   erases = since_same start.core old new (length replies) keeps was.erases;
   lawful = λ mounted past stands. runs_same start.core old new mounted past replies keeps (was.lawful mounted past stands);
@@ -148,7 +152,7 @@ replied_capacity start old new unsent put before now replies same taken was =
 
 -- the unsent step is put
 pub replied_put :
-    (start : Start) (core : CoreState) (step : Step) (ending : Option Served) (put now : List Step) (taken : ℕ → List Request) (replies : List Reply)
+    (start : Start) (core : CoreState) (step : Step) (ending : Option Unmounted) (put now : List Step) (taken : ℕ → List Request) (replies : List Reply)
     → now ≡ put ++ step ∷ []
     → HasReplied start core (Some (Unput step ending)) put taken replies → HasReplied start core (Some (Unpublished ending)) now taken replies
 replied_put start core step ending put now taken replies is was = record {
@@ -174,7 +178,7 @@ replied_sent start core unsent put taken replies is was = record {
   sent = ap (λ (l : List Step). put ++ l) (sym is) ∙ was.sent;
   reply = was.reply;
   closed = was.closed;
-  ending = λ s ends. absurd (cc);
+  ending = λ e ends. absurd (cc);
   sizes = was.sizes;
   erases = was.erases;
   lawful = was.lawful;
@@ -182,36 +186,39 @@ replied_sent start core unsent put taken replies is was = record {
 
 -- the ending of the unsent step fits
 pub pending_fits :
-    (start : Start) (core : CoreState) (unsent : Option PendingStep) (put : List Step) (taken : ℕ → List Request) (replies : List Reply) (ending : Option Served)
+    (start : Start) (core : CoreState) (unsent : Option PendingStep) (put : List Step) (taken : ℕ → List Request) (replies : List Reply) (ending : Option Unmounted)
     → ending ≡ ending_of unsent
-    → HasReplied start core unsent put taken replies → FitsEnding ending core replies
+    → HasReplied start core unsent put taken replies → FitsEnding (served_by ending) core replies
 pending_fits start core unsent put taken replies None is was = tt
-pending_fits start core unsent put taken replies (Some s) is was = was.ending s (sym is)
+pending_fits start core unsent put taken replies (Some e) is was = was.ending e (sym is)
 
 -- no reply more
 pub nothing_more :
-    (start : Start) (core : CoreState) (unsent : Option PendingStep) (put : List Step) (taken : ℕ → List Request) (replies : List Reply) (ending : Option Served)
-    → HasReplied start core unsent put taken replies → FitsEnding ending core replies
-    → (more : List Reply) × HasReplied start core unsent put taken (replies ++ more) × FitsEnding ending core (replies ++ more)
-nothing_more start core unsent put taken replies ending has fits =
+    {from : Option Unmounted} (start : Start) (core : CoreState) (unsent : Option PendingStep) (put : List Step) (taken : ℕ → List Request) (replies : List Reply) (ending : Option Served)
+    → HasReplied start core unsent put taken replies → FitsEnding ending core replies → from ≡ ending_in ending core unsent
+    → (more : List Reply) × HasReplied start core unsent put taken (replies ++ more) × FitsEnding ending core (replies ++ more) × StopsAt from more (ending_in ending core unsent)
+nothing_more start core unsent put taken replies ending has fits owes =
     let same = sym (append-nil replies) in (
       [],
       subst (λ (all : List Reply). HasReplied start core unsent put taken all) same has,
       subst (λ (all : List Reply). FitsEnding ending core all) same fits,
+      stops_at_once _ _ owes,
     )
 
 module _ {F : Type 0} where
-  -- two stretches of replies are one
+  -- two stretches of replies are one, where the first leaves what is owed
   pub then_more :
       (a b c : Session F) (put_a put_b put_c : List Step) (taken_a taken_b taken_c : ℕ → List Request) (between ending : Option Served)
+      → ending_in between b.core b.unsent ≡ owed b.core b.unsent
       → RepliesMore a put_a taken_a b put_b taken_b between → RepliesMore b put_b taken_b c put_c taken_c ending → RepliesMore a put_a taken_a c put_c taken_c ending
-  then_more a b c put_a put_b put_c taken_a taken_b taken_c between ending first second start replies was =
+  then_more a b c put_a put_b put_c taken_a taken_b taken_c between ending owes first second start replies was =
       let here = first start replies was in
       let there = second start (replies ++ here.0) here.1 in
       let same = append_assoc replies here.0 there.0 in (
         here.0 ++ there.0,
         subst (λ (all : List Reply). HasReplied start c.core c.unsent put_c taken_c all) same there.1,
         subst (λ (all : List Reply). FitsEnding ending c.core all) same there.2,
+        stops_along _ _ _ here.0 there.0 (subst (StopsAt (owed a.core a.unsent) here.0) owes here.3) there.3,
       )
 
   -- what follows changes nothing that replies speak of
@@ -228,6 +235,7 @@ module _ {F : Type 0} where
         replied_same start b.core c.core c.unsent put_b taken_b taken_b (replies ++ here.0) same.0 same.1 same.3 (λ _. refl)
             (subst (λ (k : Option PendingStep). HasReplied start b.core k put_b taken_b (replies ++ here.0)) (sym same.2) here.1),
         fit ending here.2,
+        subst (StopsAt (owed a.core a.unsent) here.0) (still_owed ending b.core c.core b.unsent c.unsent same.1 same.2) here.3,
       )
 
 -- the beginning: no reply yet
@@ -241,7 +249,7 @@ nothing_replied core put taken closed = record {
   sent = refl;
   reply = tt;
   closed = closed;
-  ending = λ s ends. absurd (cc);
+  ending = λ e ends. absurd (cc);
   sizes = (refl, refl);
   erases = since_start core;
   lawful = λ mounted past stands. runs_from core mounted past;

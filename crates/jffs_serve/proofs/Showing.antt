@@ -15,7 +15,7 @@ use Rattle.jffs_index.specs.Histories.{view_of, extended, opening_of}
 use Rattle.jffs_index.specs.Ends.{published, pending, all_put}
 use Rattle.jffs_serve.specs.declared.session.PendingStep.{PendingStep}
 use Rattle.jffs_serve.specs.declared.session.PendingStep.TheVariants.{Unput, Unpublished}
-use Rattle.jffs_serve.specs.declared.session.Served.{Served}
+use Rattle.jffs_serve.specs.declared.session.Unmounted.{Unmounted}
 use Rattle.jffs_serve.specs.declared.session.Session.{Session}
 use Rattle.jffs_serve.specs.PendingStep.{unput, IsReady}
 use Rattle.jffs_serve.specs.Showing.{ShowsCore, IsShown, CanServe}
@@ -76,38 +76,40 @@ module _ {F W : Type 0} where
   can_begin session publisher nothing opening none =
       let put : all_put publisher ≡ opening_of session.core.tree = ap₂ (λ (h : History) (steps : List Step). extended h steps) opening none in
       record {
-        ready = subst (λ (k : Option PendingStep). IsReady k (pending publisher)) (sym nothing) none;
         shown = subst (λ (k : Option PendingStep). IsShown k (view_of (all_put publisher)) session.core) (sym nothing)
             (λ works. ap (λ (h : History). state_in (view_of h).tree) put);
       }
 
   -- the unsent step fits what was put, and shows the core once it is put
-  pub can_put : (session : Session F) (publisher : Publisher W) (step : Step) (ending : Option Served) → session.unsent ≡ Some (Unput step ending) → CanServe session publisher
+  pub can_put : (session : Session F) (publisher : Publisher W) (step : Step) (ending : Option Unmounted) → session.unsent ≡ Some (Unput step ending) → CanServe session publisher
       → (fits (view_of (all_put publisher)) step ≡ true) × ShowsCore (after_step (view_of (all_put publisher)) step).tree session.core
   can_put session publisher step ending unsent can = subst (λ (k : Option PendingStep). IsShown k (view_of (all_put publisher)) session.core) unsent can.shown
 
-  pub put_shown : (session : Session F) (old new : Publisher W) (step : Step) (ending : Option Served) → session.unsent ≡ Some (Unput step ending) → CanServe session old
+  pub put_shown : (session : Session F) (old new : Publisher W) (step : Step) (ending : Option Unmounted) → session.unsent ≡ Some (Unput step ending) → CanServe session old
       → view_of (all_put new) ≡ after_step (view_of (all_put old)) step → ShowsCore (view_of (all_put new)).tree session.core
   put_shown session old new step ending unsent can is =
       subst (λ (shown : Shown). ShowsCore shown.tree session.core) (sym is) (can_put session old step ending unsent can).1
 
   -- Serving may go on after a call of the session that keeps what is shown.
   pub answered_can : (old new : Session F) (publisher : Publisher W)
-      → ((steps : List Step) → IsReady old.unsent steps → IsReady new.unsent steps)
       → ((shown : Shown) → IsShown old.unsent shown old.core → IsShown new.unsent shown new.core)
       → CanServe old publisher → CanServe new publisher
-  answered_can old new publisher ready shown can = record { ready = ready (pending publisher) can.ready; shown = shown (view_of (all_put publisher)) can.shown }
+  answered_can old new publisher shown can = record { shown = shown (view_of (all_put publisher)) can.shown }
 
   pub tidied_can : (old new : Session F) (publisher : Publisher W) → new.unsent ≡ old.unsent → KeepsTree old.core new.core → CanServe old publisher → CanServe new publisher
   tidied_can old new publisher same keeps can = record {
-    ready = subst (λ (k : Option PendingStep). IsReady k (pending publisher)) (sym same) can.ready;
     shown = subst (λ (k : Option PendingStep). IsShown k (view_of (all_put publisher)) new.core) (sym same) (shown_on old.unsent (view_of (all_put publisher)) old.core new.core keeps can.shown);
   }
 
   -- and after a publishing, which puts nothing
-  pub published_can : (old new : Session F) (before now : Publisher W) → IsReady new.unsent (pending now) → all_put now ≡ all_put before
+  pub published_can : (old new : Session F) (before now : Publisher W) → all_put now ≡ all_put before
       → ((shown : Shown) → IsShown old.unsent shown old.core → IsShown new.unsent shown new.core) → CanServe old before → CanServe new now
-  published_can old new before now ready same shown can = record {
-    ready = ready;
+  published_can old new before now same shown can = record {
     shown = shown (view_of (all_put now)) (subst (λ (h : History). IsShown old.unsent (view_of h) old.core) (sym same) can.shown);
   }
+
+-- once all was published, nothing waits that the session doesn't know of
+pub ready_at_once : (unsent : Option PendingStep) (steps : List Step) → steps ≡ [] → IsReady unsent steps
+ready_at_once None steps none = none
+ready_at_once (Some (Unput step ending)) steps none = none
+ready_at_once (Some (Unpublished ending)) steps none = tt

@@ -11,7 +11,9 @@ use Rattle.jffs_core.specs.Past.{Represents}
 use Rattle.jffs_serve.specs.declared.session.PendingStep.{PendingStep}
 use Rattle.jffs_serve.specs.declared.session.Served.{Served}
 use Rattle.jffs_serve.specs.declared.session.Session.{Session}
-use Rattle.jffs_serve.specs.PendingStep.{unput, ending_of}
+use Rattle.jffs_serve.specs.declared.session.Unmounted.{Unmounted}
+use Rattle.jffs_serve.specs.PendingStep.{unput, ending_of, served_as}
+use Rattle.jffs_serve.specs.Stopping.{owed, ending_in, StopsAt}
 use Rattle.jffs_serve.specs.Replies.{Reply, answer_in, AllReply, any_closed, FitsServed}
 use Rattle.jffs_serve.specs.Chain.{KeepsHistory, RunsTo}
 
@@ -39,8 +41,8 @@ pub record HasReplied (start : Start) (core : CoreState) (unsent : Option Pendin
   pub sent : put ++ unput unsent ≡ start.put ++ map (λ (r : Reply). r.step) replies
   pub reply : AllReply replies
   pub closed : core.closed ≡ any_closed core.answers
-  pub ending : (served : Served) → ending_of unsent ≡ Some served
-      → FitsServed served core.closed replies
+  pub ending : (unmounted : Unmounted) → ending_of unsent ≡ Some unmounted
+      → FitsServed (served_as unmounted) core.closed replies
   pub sizes : HasSizes start.core.index.sectors start.core.index.sector_size core.index
   pub erases : ErasesSince start.core (length replies) core
   pub lawful : (mounted past : List Node) → Represents mounted past start.core
@@ -52,7 +54,8 @@ FitsEnding None core replies = Unit {0}
 FitsEnding (Some served) core replies = FitsServed served core.closed replies
 
 module _ {F : Type 0} where
-  -- Since whatever moment: more replies were made, and where serving ends, it ends as they say.
+  -- Since whatever moment: more replies were made, up to the first by which serving has to end; and
+  -- where it ends, it ends as they say.
   abbrev pub RepliesMore : Session F → List Step → (ℕ → List Request) → Session F → List Step
       → (ℕ → List Request) → Option Served → Type 0
   RepliesMore old put_before taken_before new put_now taken_now ending =
@@ -61,6 +64,7 @@ module _ {F : Type 0} where
       → (more : List Reply)
       × HasReplied start new.core new.unsent put_now taken_now (replies ++ more)
       × FitsEnding ending new.core (replies ++ more)
+      × StopsAt (owed old.core old.unsent) more (ending_in ending new.core new.unsent)
 
   -- the same replies, the same left to be sent, and the same history
   abbrev pub HasSameReplies : Session F → Session F → Type 0

@@ -7,17 +7,23 @@ use Rattle.jffs_core.specs.History.{IsOwnCopy}
 use Rattle.jffs_core.specs.Past.{RepresentsWorking, Represents}
 use Rattle.jffs_core.specs.Calls.{FailsIn, KeepsTwo}
 use Rattle.jffs_core.specs.Erases.{ErasesAtMost}
-use Rattle.jffs_core.specs.Answering.{AnswersWith, KeepsAnswer}
+use Rattle.jffs_core.specs.Answering.{AnswersWith, KeepsAnswer, is_closed}
 use Rattle.jffs_serve.specs.Replies.{Reply}
+
+-- the session stays closed, with the same log in the same image
+abbrev pub KeepsClosed : CoreState → CoreState → Type 0
+KeepsClosed old new =
+    (new.closed ≡ true) × (new.index ≡ old.index) × (new.image ≡ old.image)
 
 -- What may pass between two answers: dead sectors are erased, the oldest sector is read for a job.
 -- The core represents the history that it represented, on a device of the same sizes, and what it
--- erased held the log. Where it had failed, nothing is changed; where it works on, no call of the
--- device failed, and two erased sectors stay so; where it fails now, one did, and nothing else than
--- an own copy was in hand.
+-- erased held the log. Where the session was closed, nothing is erased. Where the core had failed,
+-- nothing is changed; where it works on, no call of the device failed, and two erased sectors stay
+-- so; where it fails now, one did, and nothing else than an own copy was in hand.
 pub record KeepsHistory (old new : CoreState) : Type 0 where
   pub sizes : HasSizes old.index.sectors old.index.sector_size new.index
   pub erases : ErasesAtMost 0 old new
+  pub closed : old.closed ≡ true → KeepsClosed old new
   pub failed : old.failed ≡ true → IsSameButCapacity old new
   pub faults : new.failed ≡ false → (past : List Node) → RepresentsWorking past old
       → new.faults ≡ old.faults
@@ -28,12 +34,13 @@ pub record KeepsHistory (old new : CoreState) : Type 0 where
       → Represents mounted past new
 
 -- One turn: the request was taken where the core was so and this history stood, and with the answer
--- it is so. The session wasn't closed, a core that had failed changes in nothing but its answers,
--- and no more is erased than there are sectors.
+-- it is so. The session wasn't closed and is now where the answer is Closed, a core that had failed
+-- changes in nothing but its answers, and no more is erased than there are sectors.
 pub record IsReplied (mounted past : List Node) (was : CoreState) (r : Reply) (now : CoreState) :
     Type 0 where
   pub answer : AnswersWith mounted past was now r.request r.step.outcome r.step.node
   pub opened : was.closed ≡ false
+  pub closed : now.closed ≡ is_closed r.step.outcome
   pub kept : was.failed ≡ true → KeepsAnswer r.request.writer r.request.seq r.step.outcome was now
   pub sizes : HasSizes was.index.sectors was.index.sector_size now.index
   pub erases : ErasesAtMost was.index.sectors was now

@@ -52,8 +52,8 @@ pub record IsRequested (volume : Volume) (replies : List Reply) (after : List No
   pub node : IsNodeFor turn reply.request after n
 
 -- What a chain tells of the core at its end: it represents the history, on a device of the same
--- sizes. Two erased sectors stay so, but for an answer that may not keep them. While the core works,
--- sectors were erased in turn, and the device's count of faults is the same; it has risen where the
+-- sizes. Two erased sectors stay so, but for an answer that may not keep them. While the core
+-- works, sectors were erased in turn, and the count of faults is the same; it has risen where the
 -- core failed meanwhile. Where an answer tells of a failure, the core has failed. A core that fails
 -- meanwhile has nothing else in hand than an own copy, or the node of the request that was answered
 -- Device.

@@ -1,5 +1,6 @@
 pub mod PendingStep
 pub mod Replies
+pub mod Stopping
 pub mod Chain
 pub mod ChainLaws
 pub mod Answered
@@ -8,3 +9,4 @@ pub mod Showing
 pub mod Copies
 pub mod Jobs
 pub mod Copying
+pub mod Cleaning

@@ -5,11 +5,10 @@ use Rattle.jffs_core.specs.CoreState.{CoreState}
 use Rattle.jffs_index.specs.declared.publisher.Publisher.{Publisher}
 use Rattle.jffs_index.specs.Shown.{Shown, after_step, fits}
 use Rattle.jffs_index.specs.Histories.{view_of}
-use Rattle.jffs_index.specs.Ends.{pending, all_put}
+use Rattle.jffs_index.specs.Ends.{all_put}
 use Rattle.jffs_serve.specs.declared.session.PendingStep.{PendingStep}
 use Rattle.jffs_serve.specs.declared.session.PendingStep.TheVariants.{Unput, Unpublished}
 use Rattle.jffs_serve.specs.declared.session.Session.{Session}
-use Rattle.jffs_serve.specs.PendingStep.{IsReady}
 
 -- the tree has the state of the core's tree, unless the core has failed
 abbrev pub ShowsCore : Tree → CoreState → Type 0
@@ -23,8 +22,6 @@ IsShown (Some (Unput step ending)) shown core =
 IsShown (Some (Unpublished ending)) shown core = ShowsCore shown.tree core
 
 module _ {F W : Type 0} where
-  -- A session can be served over a publisher: no step waits to be published that the session
-  -- doesn't know of, and what was put shows the core.
+  -- A session can be served over a publisher: what was put shows the core.
   pub record CanServe (session : Session F) (publisher : Publisher W) : Type 0 where
-    pub ready : IsReady session.unsent (pending publisher)
     pub shown : IsShown session.unsent (view_of (all_put publisher)) session.core

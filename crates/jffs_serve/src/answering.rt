@@ -4,7 +4,7 @@ ghost use Rattle.std.specs.Prelude.{◌≡◌, true};
 ghost use Rattle.jffs_serve.specs.PendingStep.{ending_after as ending_word};
 
 use crate::jobs::Jobs;
-use crate::session::{PendingStep, Served, Session};
+use crate::session::{PendingStep, Session, Unmounted};
 use jffs_core::Answered;
 use jffs_flash::Flash;
 use jffs_index::Step;
@@ -13,7 +13,7 @@ use jffs_tree::Outcome;
 
 impl<F: Flash> Session<F> {
     ghost use Rattle.std.specs.Prelude.{◌≡◌, ◌≢◌, ◌<◌, ℕ, List, [], ◌∷◌, ◌++◌, ◌⊎◌, true, false};
-    ghost use Rattle.std.specs.Prelude.{Some, None, length};
+    ghost use Rattle.std.specs.Prelude.{◌↔◌, Some, None, length};
     ghost use Rattle.jffs_index.specs.declared.step.Step.{Step};
     ghost use Rattle.jffs_line.specs.declared.request.Request.{Request};
     ghost use Rattle.jffs_line.specs.Requests.{of};
@@ -22,7 +22,7 @@ impl<F: Flash> Session<F> {
     ghost use Rattle.jffs_core.specs.Trees.{KeepsTree};
     ghost use Rattle.jffs_index.specs.Shown.{Shown};
     ghost use Rattle.jffs_serve.specs.Jobs.{IsDue, SendsOldest};
-    ghost use Rattle.jffs_serve.specs.PendingStep.{unput, IsReady};
+    ghost use Rattle.jffs_serve.specs.PendingStep.{unput, served_by, IsReady};
     ghost use Rattle.jffs_serve.specs.Answered.{RepliesMore, HasSameReplies};
     ghost use Rattle.jffs_serve.specs.Showing.{ShowsCore, IsShown};
 
@@ -52,12 +52,12 @@ impl<F: Flash> Session<F> {
     }
 
     /// Forgets the step that was published, and answers how serving ends with it, if it does.
-    pub(crate) fn take_ending(&mut self) -> Option<Served>
+    pub(crate) fn take_ending(&mut self) -> Option<Unmounted>
         requires put { unput self.old.unsent ≡ [] }
         ensures unsent { self.new.unsent ≡ None }
         ensures core { self.new.core ≡ self.old.core }
         ensures replies { (put : List Step) (taken : ℕ → List Request)
-            → RepliesMore self.old put taken self.new put taken result }
+            → RepliesMore self.old put taken self.new put taken (served_by result) }
     {
         match self.unsent.take() {
             Some(PendingStep::Unput(_, ending)) => ending,
@@ -113,20 +113,20 @@ impl<F: Flash> Session<F> {
 
     /// Whether a cleaner is wanted, and no job was sent since there were `erases` erases.
     fn is_due(&self, erases: u64) -> bool
-        ensures { result ≡ true
-            → (wants_cleaning self.now.core ≡ true) × (self.now.sent_at ≢ Some erases) }
+        ensures { (result ≡ true)
+            ↔ ((wants_cleaning self.now.core ≡ true) × (self.now.sent_at ≢ Some erases)) }
     {
         self.core.wants_cleaning() && self.sent_at != Some(erases)
     }
 }
 
 /// How serving ends with the answer to a request, if it does.
-fn ending_after(unmounts: bool, outcome: Outcome) -> Option<Served>
+fn ending_after(unmounts: bool, outcome: Outcome) -> Option<Unmounted>
     ensures { result ≡ ending_word unmounts outcome }
 {
     match outcome {
-        Outcome::Closed => Some(Served::Closed),
-        Outcome::Refused(cause) if unmounts => Some(Served::NotClosed(cause)),
+        Outcome::Closed => Some(Unmounted::Closed),
+        Outcome::Refused(cause) if unmounts => Some(Unmounted::NotClosed(cause)),
         _ => None,
     }
 }

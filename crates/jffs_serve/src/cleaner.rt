@@ -1,15 +1,18 @@
 //! The cleaner's rounds: it takes a job, looks at what is published, and asks for copies.
 
-ghost use Rattle.std.specs.Prelude.{◌≡◌, ◌≤◌, List, length, IfSome, IfNone};
+ghost use Rattle.std.specs.Prelude.{◌≡◌, ◌≤◌, List, [], ◌∷◌, ◌++◌, map, length, IfSome, IfNone};
 ghost use Rattle.jffs_line.specs.declared.request.Request.{Request};
-ghost use Rattle.jffs_index.specs.Histories.{BeginsWith};
+ghost use Rattle.jffs_line.specs.Requests.{request};
+ghost use Rattle.jffs_index.specs.Histories.{BeginsWith, view_of};
 ghost use Rattle.jffs_index.specs.Ends.{known, index_of};
-ghost use Rattle.jffs_serve.specs.Copies.{HandsInCopies};
+ghost use Rattle.jffs_serve.specs.Copies.{HandsInCopies, HandsIn, AreSome};
+ghost use Rattle.jffs_serve.specs.Copying.{copies_of, nodes_in, wish_of};
+ghost use Rattle.jffs_serve.specs.Cleaning.{Cleans, bytes_of};
 
 use crate::copies::{Copying, copies_in};
 use crate::jobs::JobEnd;
 use crate::pauses::{Ended, Pauses};
-use jffs_index::Reader;
+use jffs_index::{Reader, View};
 use jffs_line::{Hand, NotTaken, Why};
 use std::alloc::Global;
 use std::sync::Wait;
@@ -51,6 +54,8 @@ pub fn clean_loop<R: Wait, H: Hand>(
     ensures end { (H.sender hand.new ≡ H.sender hand.old) × (H.line hand.new ≡ H.line hand.old) }
     ensures reader { (index_of reader.new ≡ index_of reader.old)
         × BeginsWith (known reader.new) (known reader.old) }
+    ensures cleans { Cleans limit jobs.old jobs.new (known reader.old) (known reader.new)
+        (H.accepted hand.old) (H.accepted hand.new) }
 {
     clean_until(rt, alloc, jobs, reader, hand, limit, &Ended::new())
 }
@@ -69,10 +74,12 @@ pub fn clean_until<R: Wait, H: Hand>(
     ensures end { (H.sender hand.new ≡ H.sender hand.old) × (H.line hand.new ≡ H.line hand.old) }
     ensures reader { (index_of reader.new ≡ index_of reader.old)
         × BeginsWith (known reader.new) (known reader.old) }
+    ensures cleans { Cleans limit jobs.old jobs.new (known reader.old) (known reader.new)
+        (H.accepted hand.old) (H.accepted hand.new) }
 {
     let mut pauses = Pauses::up_to(IDLE_SLEEP_MAX);
     let mut end = CleanerEnd { handed_in: 0 };
-    for _ in 0..limit {
+    for _round in 0..limit {
         if ended.is_told() {
             break;
         }
@@ -98,15 +105,32 @@ pub fn clean_until<R: Wait, H: Hand>(
 fn look(alloc: Global, reader: &mut Reader, image: &Option<Vec<u8>>) -> Option<Found>
     ensures index { index_of reader.new ≡ index_of reader.old }
     ensures grows { BeginsWith (known reader.new) (known reader.old) }
+    ensures found { IfSome result
+        (λ found. AreSome found.copies.items
+        (copies_of (view_of (known reader.new)).tree (nodes_in (bytes_of image.now)))) }
 {
-    let bytes: &[u8] = match image {
+    let bytes = bytes_in(image);
+    reader.look(
+        |view: &View| -> Found
+            ensures { AreSome result.copies.items
+                (copies_of view.now.tree (nodes_in bytes.entry.now)) }
+        {
+            Found {
+                closed: view.closed(),
+                copies: copies_in(alloc, view, bytes),
+            }
+        },
+    )
+}
+
+/// No bytes where there is no image.
+fn bytes_in(image: &Option<Vec<u8>>) -> &[u8]
+    ensures { result.now ≡ bytes_of image.now }
+{
+    match image {
         Some(image) => image.as_slice(),
         None => &[],
-    };
-    reader.look(|view| Found {
-        closed: view.closed(),
-        copies: copies_in(alloc, view, bytes),
-    })
+    }
 }
 
 /// Hands the copies in, in order, and counts those that are accepted.
@@ -122,6 +146,7 @@ fn hand_in_all<R: Wait, H: Hand>(
         → HandsInCopies before (H.accepted hand.old) end.old.handed_in
         → HandsInCopies before (H.accepted hand.new) end.new.handed_in }
     ensures counted { end.new.handed_in ≤ length (H.accepted hand.new) }
+    ensures asked { HandsIn (map wish_of copies.items) (H.accepted hand.old) (H.accepted hand.new) }
     ensures end { (H.sender hand.new ≡ H.sender hand.old) × (H.line hand.new ≡ H.line hand.old) }
 {
     for copy in copies {
@@ -137,6 +162,9 @@ fn hand_in<R: Wait, H: Hand>(rt: &R, hand: &mut H, copy: Copying, ended: &Ended)
     ensures accepted { IfSome result
         (λ seq. (seq ≡ length (H.accepted hand.new))
         × HandsInCopies (H.accepted hand.old) (H.accepted hand.new) 1) }
+    ensures asked { IfSome result
+        (λ seq. H.accepted hand.new
+        ≡ H.accepted hand.old ++ request (H.sender hand.old) seq (wish_of copy) ∷ []) }
     ensures refused { IfNone result (H.accepted hand.new ≡ H.accepted hand.old) }
     ensures end { (H.sender hand.new ≡ H.sender hand.old) × (H.line hand.new ≡ H.line hand.old) }
 {

@@ -1,16 +1,14 @@
 //! The copies that a cleaner asks for: what an image of a sector says that still lives in a view.
 
-ghost use Rattle.std.specs.Prelude.{◌≡◌, IfOk};
-ghost use Rattle.jffs_serve.specs.Copies.{IsCopy};
-ghost use Rattle.jffs_serve.specs.Copying.{copy_in};
+ghost use Rattle.std.specs.Prelude.{◌≡◌, drop, IfOk};
+ghost use Rattle.jffs_serve.specs.Copies.{IsCopy, AreSome};
+ghost use Rattle.jffs_serve.specs.Copying.{copy_in, copies_of, nodes_in, wish_of, KeepsCopy};
 
 use jffs_index::View;
+use jffs_log::RECORDS_PER_SECTOR;
 use jffs_node::{Bytes, HEADER_LEN, Name, NoMemory, Node, Read, decode};
 use jffs_tree::Wish;
 use std::alloc::Global;
-
-/// The longest record is the fourth part of a sector.
-const RECORDS_PER_SECTOR: usize = 4;
 
 /// A copy to be asked for: that of the node of version `source`.
 #[derive(Drop)]
@@ -26,7 +24,7 @@ impl Copying {
     /// The wish for it.
     pub(crate) fn wish(self) -> Wish
         ensures copy { IsCopy result }
-        ensures same { result ≡ Wish.Copy self.source self.parent self.name self.offset self.bytes }
+        ensures same { result ≡ wish_of self }
     {
         let Copying {
             source,
@@ -47,21 +45,40 @@ impl Copying {
 
 /// The copies of the records of an image that live in the view, in order. Where memory is refused
 /// for one, it is left out; for the record itself, what is after it is left out too.
-pub(crate) fn copies_in(alloc: Global, view: &View, image: &[u8]) -> Vec<Copying> {
+pub(crate) fn copies_in(alloc: Global, view: &View, image: &[u8]) -> Vec<Copying>
+    ensures { AreSome result.items (copies_of view.now.tree (nodes_in image.now)) }
+{
     let mut copies = Vec::new(alloc);
-    let record_max = u32::try_from(image.len() / RECORDS_PER_SECTOR).unwrap_or(u32::MAX);
+    let record_max = u32::try_from(image.len() / RECORDS_PER_SECTOR as usize).unwrap_or(u32::MAX);
     let mut rest = image;
-    for _ in 0..image.len() / HEADER_LEN {
+    for _done in 0..image.len() / HEADER_LEN {
         let Ok(Read::Closed(node, len)) = decode(alloc, rest, record_max) else {
             break;
         };
-        if let Ok(Some(copy)) = copy_of(view, &node) {
-            // Without memory this copy is left out.
-            let _ = copies.push(copy);
-        }
-        rest = rest.get(len as usize..).unwrap_or(&[]);
+        keep_copy(view, &node, &mut copies);
+        rest = after(rest, len);
     }
     copies
+}
+
+/// What stands after the first `len` bytes.
+fn after(rest: &[u8], len: u32) -> &[u8]
+    ensures { result.now ≡ drop len rest.now }
+{
+    if len as usize <= rest.len() {
+        &rest[len as usize..]
+    } else {
+        &[]
+    }
+}
+
+/// Adds the copy of a node that lives in the view. Without memory it is left out.
+fn keep_copy(view: &View, node: &Node, copies: &mut Vec<Copying>)
+    ensures { KeepsCopy view.now.tree node.now copies.old.items copies.new.items }
+{
+    if let Ok(Some(copy)) = copy_of(view, node) {
+        let _ = copies.push(copy);
+    }
 }
 
 /// The copy of a node, as it reads in the view. None where the node doesn't live there.

@@ -1,6 +1,8 @@
 //! The ring of jobs: images of oldest sectors, on their way from the log side to the cleaner.
 
-ghost use Rattle.std.specs.Prelude.{◌≡◌, ◌⊎◌, ◌<◌, ◌↔◌, IsErrOf};
+ghost use Rattle.std.specs.Prelude.{◌≡◌, ◌⊎◌, ◌<◌, ◌↔◌, IsErrOf, IfOk};
+ghost use Rattle.jffs_serve.specs.Jobs.{IsJobRing};
+ghost use Rattle.jffs_serve.specs.declared.jobs.TheConstants.{JOBS_MAX};
 
 use jffs_line::LineFault;
 use rtrb::{Consumer, Producer, PushError, RingBuffer};
@@ -25,7 +27,9 @@ pub struct JobEnd {
 ///
 /// `Capacity` for any other number, `Memory` if allocation failed.
 pub fn job_ring(alloc: Global, capacity: usize) -> Result<(Jobs, JobEnd), LineFault>
-    ensures capacity { IsErrOf result LineFault.Capacity ↔ ((capacity ≡ 0) ⊎ (64 < capacity)) }
+    ensures made { IfOk result (λ ring. IsJobRing capacity ring.0 ring.1) }
+    ensures capacity { IsErrOf result LineFault.Capacity
+        ↔ ((capacity ≡ 0) ⊎ (JOBS_MAX < capacity)) }
 {
     if capacity == 0 || capacity > JOBS_MAX {
         return Err(LineFault::Capacity);
@@ -63,14 +67,13 @@ impl Jobs {
 }
 
 impl JobEnd {
-    ghost use Rattle.std.specs.Prelude.{◌≡◌, ◌++◌, ◌∷◌, [], IfSome, IfNone};
+    ghost use Rattle.std.specs.Prelude.{◌≡◌, ◌++◌};
     ghost use Rattle.rtrb.specs.Ring.{received};
+    ghost use Rattle.jffs_serve.specs.Cleaning.{images_of};
 
     /// Takes the image that was sent first. Takes no memory.
     pub(crate) fn take(&mut self) -> Option<Vec<u8>>
-        ensures some { IfSome result
-            (λ image. received self.new.consumer ≡ received self.old.consumer ++ image ∷ []) }
-        ensures none { IfNone result (received self.new.consumer ≡ received self.old.consumer) }
+        ensures { received self.new.consumer ≡ received self.old.consumer ++ images_of result }
     {
         self.consumer.pop().ok()
     }

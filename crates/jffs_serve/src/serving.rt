@@ -2,17 +2,19 @@
 //! sectors are erased, and perhaps the cleaner gets a job.
 
 ghost use Rattle.std.specs.Prelude.{◌≡◌, ◌≢◌, ℕ, List, [], Some, None, MatchResult, OnOk, OnErr};
+ghost use Rattle.std.specs.Prelude.{IfErr};
 ghost use Rattle.jffs_index.specs.Ends.{pending, all_put, publisher_index};
 ghost use Rattle.jffs_index.specs.declared.step.Step.{Step};
 ghost use Rattle.jffs_line.specs.declared.request.Request.{Request};
 ghost use Rattle.jffs_index.specs.Shown.{Shown};
-ghost use Rattle.jffs_serve.specs.PendingStep.{unput, IsReady};
+ghost use Rattle.jffs_serve.specs.PendingStep.{unput, served_by, IsReady};
+ghost use Rattle.jffs_serve.specs.declared.session.Served.TheVariants.{Ended};
 ghost use Rattle.jffs_serve.specs.Answered.{RepliesMore};
 ghost use Rattle.jffs_serve.specs.Serving.{HasServed};
 ghost use Rattle.jffs_serve.specs.Showing.{IsShown, CanServe};
 
 use crate::jobs::Jobs;
-use crate::session::{PendingStep, Served, Session};
+use crate::session::{PendingStep, Served, Session, Unmounted};
 use jffs_flash::Flash;
 use jffs_index::Publisher;
 use jffs_line::Taker;
@@ -20,8 +22,9 @@ use jffs_node::NoMemory;
 use std::sync::Wait;
 
 /// Takes requests and answers them, until an Unmount was answered, no hand is left, or allocation
-/// fails; waits for requests and for readers on the way. After Memory a further call goes on: first
-/// it sends the unsent step.
+/// fails; waits for requests and for readers on the way. What was put before is published first.
+/// After Memory a further call goes on with the unsent step, and ends with it where it answers an
+/// Unmount. On a session that is closed, with nothing unsent, it takes nothing.
 ///
 /// The answers are lawful for the requests, from whatever history the core represented to the
 /// one that it represents then, over any number of calls.
@@ -40,7 +43,11 @@ pub fn serve<R: Wait, W: Wait + Drop, F: Flash, T: Taker>(
     ensures served { HasServed session.old publisher.old (T.taken taker.old) session.new
         publisher.new (T.taken taker.new) result }
     ensures ends { T.ends taker.new ≡ T.ends taker.old }
+    ensures ended { result ≡ Ended → T.ran_out taker.new }
 {
+    if publisher.publish().is_err() {
+        return Served::Memory;
+    }
     for _ in rt.forever() {
         if let Err(served) = answer_next(rt, session, taker) {
             return served;
@@ -49,8 +56,8 @@ pub fn serve<R: Wait, W: Wait + Drop, F: Flash, T: Taker>(
             return Served::Memory;
         };
         session.tidy(jobs);
-        if let Some(served) = ending {
-            return served;
+        if let Some(unmounted) = ending {
+            return unmounted.served();
         }
     }
     unreachable!()
@@ -74,6 +81,7 @@ fn answer_next<R: Wait, F: Flash, T: Taker>(
         → IsShown session.new.unsent shown session.new.core }
     ensures unsent { OnErr result ((session.old.unsent ≡ None) × (session.new.unsent ≡ None)) }
     ensures ends { T.ends taker.new ≡ T.ends taker.old }
+    ensures ended { IfErr result (λ served. served ≡ Ended → T.ran_out taker.new) }
 {
     if session.unsent.is_some() {
         return Ok(());
@@ -98,12 +106,12 @@ fn answer_next<R: Wait, F: Flash, T: Taker>(
 fn send_pending<F: Flash, W: Wait + Drop>(
     session: &mut Session<F>,
     publisher: &mut Publisher<W>,
-) -> Result<Option<Served>, NoMemory>
+) -> Result<Option<Unmounted>, NoMemory>
     requires ready { CanServe session.old publisher.old }
     ensures ready { CanServe session.new publisher.new }
     ensures replies { (taken : ℕ → List Request) → MatchResult result
         (λ ending. RepliesMore session.old (all_put publisher.old).steps taken session.new
-        (all_put publisher.new).steps taken ending)
+        (all_put publisher.new).steps taken (served_by ending))
         (λ _. RepliesMore session.old (all_put publisher.old).steps taken session.new
         (all_put publisher.new).steps taken None) }
     ensures sent { OnOk result ((session.new.unsent ≡ None) × (pending publisher.new ≡ [])) }

@@ -1,6 +1,7 @@
 //! A session: a core that is served, and the step that it still has to send.
 
 ghost use Rattle.std.specs.Prelude.{◌≡◌, None};
+ghost use Rattle.jffs_serve.specs.PendingStep.{served_as};
 
 use jffs_core::Core;
 use jffs_flash::Flash;
@@ -20,13 +21,34 @@ pub enum Served {
     Memory,
 }
 
-/// What is still to be done with the last answer, and how serving ends once it is done, if it does.
+/// What an Unmount was answered, by which serving ends.
+#[derive(Clone, Copy)]
+pub(crate) enum Unmounted {
+    /// It closed the session.
+    Closed,
+    /// It was refused for this cause.
+    NotClosed(Cause),
+}
+
+impl Unmounted {
+    /// How serving ends with it.
+    pub(crate) fn served(self) -> Served
+        ensures { result ≡ served_as self }
+    {
+        match self {
+            Unmounted::Closed => Served::Closed,
+            Unmounted::NotClosed(cause) => Served::NotClosed(cause),
+        }
+    }
+}
+
+/// What is still to be done with the last answer, and the Unmount's by which serving ends then.
 #[derive(Drop)]
 pub(crate) enum PendingStep {
     /// The step is still to be put.
-    Unput(Step, Option<Served>),
+    Unput(Step, Option<Unmounted>),
     /// The step was put, and is still to be published.
-    Unpublished(Option<Served>),
+    Unpublished(Option<Unmounted>),
 }
 
 /// A mounted core that is served, with the step of its last answer until that is published.

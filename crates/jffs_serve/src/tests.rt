@@ -1,7 +1,9 @@
 //! Sessions that are served, and a cleaner beside them.
 
+mod copying;
 mod growths;
 mod rounds;
+mod tidying;
 mod volumes;
 
 use crate::cleaner::clean_until;

@@ -4,6 +4,7 @@ use Rattle.std.specs.Prelude.{flat_map, codes, decimal, if◌then◌else◌}
 use Rattle.std.specs.Ordering.{is_gt}
 use Rattle.jffs_tree.specs.State.{State, root, at, bytes_of, is_directory_in}
 use Rattle.jffs_tree.specs.Look.{children, name_cmp}
+use Rattle.jffs_node.specs.declared.path.TheConstants.{PATH_DEPTH_MAX}
 
 abbrev pub line_end : List ℕ
 line_end = 10 ∷ []
@@ -62,4 +63,4 @@ below (suc levels) s above i =
 
 -- no path has more than eight names
 unfoldable pub dump_text : State → List ℕ
-dump_text s = directory_line (codes "/") ++ below 8 s [] root
+dump_text s = directory_line (codes "/") ++ below PATH_DEPTH_MAX s [] root

@@ -1,5 +1,6 @@
 //! Trees that are dumped, the words of a line, and what is told of scripts and calls.
 
+mod bounds;
 mod calls;
 mod told;
 

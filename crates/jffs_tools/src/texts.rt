@@ -54,7 +54,8 @@ pub fn mounted_text(clean: bool) -> &'static str
 
 /// `mounted clean next VERSION INODE`, or `mounted unclean ..`. The error: allocation failed.
 pub fn mounted_next_text(alloc: Global, clean: bool, limits: &Limits) -> Result<String, AllocError>
-    ensures { IfOk result (λ s. string_bytes s ≡ text_of_mounted clean ++ (codes " " ++ text_of_next limits.now)) }
+    ensures { IfOk result
+        (λ s. string_bytes s ≡ text_of_mounted clean ++ (codes " " ++ text_of_next limits.now)) }
 {
     let mounted = mounted_text(clean);
     let next = next_text(alloc, limits)?;
@@ -89,7 +90,9 @@ pub fn scan_refused_text(alloc: Global, why: ScanWhy) -> Result<String, AllocErr
 }
 
 fn bad_record_text(alloc: Global, sector: u32, place: u32, rule: &str) -> Result<String, AllocError>
-    ensures { IfOk result (λ s. string_bytes s ≡ codes "refused BadRecord " ++ (decimal sector ++ (codes " " ++ (decimal place ++ (codes " " ++ rule.now))))) }
+    ensures { IfOk result
+        (λ s. string_bytes s ≡ codes "refused BadRecord " ++ (decimal sector ++ (codes " "
+        ++ (decimal place ++ (codes " " ++ rule.now))))) }
 {
     format!(in alloc; "refused BadRecord {sector} {place} {rule}")
 }

@@ -6,12 +6,12 @@ ghost use Rattle.jffs_tree.specs.Origin.{state_in};
 ghost use Rattle.jffs_tree.specs.Look.{stands_first};
 ghost use Rattle.jffs_tree.specs.Check.{check, parents_are_there, names_differ, bytes_are_written};
 ghost use Rattle.jffs_tree.specs.Check.{is_within};
+ghost use Rattle.jffs_node.specs.declared.path.TheConstants.{PATH_DEPTH_MAX};
 
 use crate::inode::Inode;
 use crate::look::ROOT;
 use crate::tree::Tree;
-
-const DEEPEST: u32 = 8;
+use jffs_node::PATH_DEPTH_MAX;
 
 impl Tree {
     /// Whether the tree keeps the rules that a log's tree keeps at its end.
@@ -76,10 +76,11 @@ impl Tree {
     }
 
     fn paths_are_short(&self) -> bool
-        ensures { result ≡ list_all (λ e. is_within 8 (state_in self.now) e.0) (state_in self.now) }
+        ensures { result ≡ list_all (λ e. is_within PATH_DEPTH_MAX (state_in self.now) e.0)
+            (state_in self.now) }
     {
         for (inode, _) in self.inodes.iter() {
-            if !self.is_within(DEEPEST, *inode) {
+            if !self.is_within(PATH_DEPTH_MAX as u32, *inode) {
                 return false;
             }
         }

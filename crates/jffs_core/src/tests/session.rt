@@ -1,6 +1,6 @@
 //! A core with the number of the next request.
 
-use crate::mounted::Core;
+use crate::mounted_core::Core;
 use crate::tests::wishes::wish_of;
 use jffs_flash::{ERASED_BYTE, Flash, MemoryFlash};
 use jffs_line::Request;

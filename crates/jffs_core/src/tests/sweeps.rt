@@ -1,6 +1,6 @@
 //! Devices that fail at each call in turn.
 
-use crate::mounted::Core;
+use crate::mounted_core::Core;
 use crate::tests::session::{SECTOR_SIZE, Session};
 use jffs_flash::{Fail as FuseFail, Flash, FuseFlash, Fused, MemoryFlash};
 use jffs_log::ScanWhy;

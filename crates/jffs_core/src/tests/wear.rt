@@ -1,11 +1,10 @@
-//! How often each sector is erased, counted from the bytes of the device.
+//! How often each sector is erased: counted by the device, and from its bytes.
 
+use crate::tests::metered::{SECTORS, calls_of, over_metered};
 use crate::tests::session::{SECTOR_SIZE, Session, is_blank, part};
 use jffs_flash::MemoryFlash;
 use std::process::Abort;
 use std::test::Fail;
-
-const SECTORS: usize = 6;
 
 /// How often each sector was erased, and which were blank at the last look.
 #[derive(Drop)]
@@ -36,20 +35,20 @@ impl Wear {
         }
         Ok(())
     }
+}
 
-    /// Each sector was erased so often at least, and none more than once more often than another.
-    fn even(&self, rt: &impl Abort, at_least: u32) {
-        let mut least = u32::MAX;
-        let mut most = 0;
-        for count in self.counts {
-            least = least.min(count);
-            most = most.max(count);
-        }
-        assert!(rt;
-            at_least <= least && most <= least.saturating_add(1),
-            "{least} to {most}"
-        );
+/// Each sector was erased so often at least, and none more than once more often than another.
+fn are_even(rt: &impl Abort, counts: [u32; SECTORS], at_least: u32) {
+    let mut least = u32::MAX;
+    let mut most = 0;
+    for count in counts {
+        least = least.min(count);
+        most = most.max(count);
     }
+    assert!(rt;
+        at_least <= least && most <= least.saturating_add(1),
+        "{least} to {most}"
+    );
 }
 
 /// The file is written over so often, and what is dead is erased each time.
@@ -69,11 +68,13 @@ fn overwrite(
 
 #[test]
 fn sectors_wear_evenly(rt: HostRuntime) -> Result<(), Fail> {
-    let mut session = Session::erased(rt.alloc(), SECTORS as u32)?;
+    let mut session = over_metered(rt.alloc())?;
     session.play(&rt, "create /f : appended 2 1")?;
-    let mut wear = Wear::new();
-    overwrite(&mut session, &mut wear, 2000)?;
-    wear.even(&rt, 110);
+    for _ in 0..10_000 {
+        session.ask("write /f 0 192*a")?;
+        session.core.erase_dead()?;
+    }
+    are_even(&rt, calls_of(&session).erased, 550);
     Ok(())
 }
 
@@ -87,8 +88,8 @@ fn sectors_wear_evenly_over_sessions(rt: HostRuntime) -> Result<(), Fail> {
         session.play(&rt, "unmount : closed")?;
         wear.look(&session)?;
         session = session.remounted()?;
-        wear.even(&rt, 0);
+        are_even(&rt, wear.counts, 0);
     }
-    wear.even(&rt, 20);
+    are_even(&rt, wear.counts, 20);
     Ok(())
 }

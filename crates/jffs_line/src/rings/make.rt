@@ -7,6 +7,7 @@ ghost use Rattle.jffs_line.specs.Rings.{ring_end, ring_hand_end, ring_accepted, 
 ghost use Rattle.jffs_line.specs.Rings.{ring_taken, rings_ends, rings_taken, all_ring_hands};
 ghost use Rattle.jffs_line.specs.Rings.{AreFresh};
 ghost use Rattle.jffs_line.specs.declared.request.LineFault.TheVariants.{Capacity, Senders};
+ghost use Rattle.jffs_line.specs.declared.hand.TheConstants.{MOST_WRITERS, MOST_CAPACITY};
 
 use super::bell::Bell;
 use super::{Ring, RingHand, RingLine, RingTaker};
@@ -72,7 +73,7 @@ fn writer_rings(
     count: u16,
     taker: &Unparker,
 ) -> Result<(Vec<RingHand>, Vec<Ring>), AllocError>
-    requires few { count ≤ 8 }
+    requires few { count ≤ MOST_WRITERS }
     ensures fresh { IfOk result (λ r. AreFresh capacity r.0.items r.1.items) }
     ensures numbers { IfOk result (λ r. map (λ x. x.number) r.1.items ≡ range_with_len 1 count) }
 {
@@ -85,7 +86,7 @@ fn writer_rings(
 }
 
 fn line(alloc: Global, capacity: usize, writers: u16) -> Result<RingLine, AllocError>
-    requires few { writers ≤ 8 }
+    requires few { writers ≤ MOST_WRITERS }
     ensures ends { IfOk result
         (λ l. rings_ends l.taker ≡ map ring_hand_end (all_ring_hands l.hands)) }
     ensures senders { IfOk result
@@ -121,9 +122,10 @@ fn line(alloc: Global, capacity: usize, writers: u16) -> Result<RingLine, AllocE
 ///
 /// `Capacity`, `Senders`, tried in this order, or `Memory` if allocation failed.
 pub fn ring_line(alloc: Global, capacity: usize, writers: u16) -> Result<RingLine, LineFault>
-    ensures capacity { IsErrAnd result (λ e. e ≡ Capacity) ↔ ((capacity ≡ 0) ⊎ (256 < capacity)) }
+    ensures capacity { IsErrAnd result (λ e. e ≡ Capacity)
+        ↔ ((capacity ≡ 0) ⊎ (MOST_CAPACITY < capacity)) }
     ensures writers { IsErrAnd result (λ e. e ≡ Senders)
-        ↔ ((0 < capacity) × (capacity ≤ 256) × (8 < writers)) }
+        ↔ ((0 < capacity) × (capacity ≤ MOST_CAPACITY) × (MOST_WRITERS < writers)) }
     ensures ends { IfOk result
         (λ l. rings_ends l.taker ≡ map ring_hand_end (all_ring_hands l.hands)) }
     ensures senders { IfOk result

@@ -10,6 +10,7 @@ ghost use Rattle.jffs_line.specs.Shared.{channel_line, shared_end, shared_accept
 ghost use Rattle.jffs_line.specs.Shared.{shared_capacity, shared_ends, shared_taken, all_hands};
 ghost use Rattle.jffs_line.specs.Shared.{AreFirstWriters};
 ghost use Rattle.jffs_line.specs.declared.request.LineFault.TheVariants.{Capacity, Senders};
+ghost use Rattle.jffs_line.specs.declared.hand.TheConstants.{MOST_WRITERS, MOST_CAPACITY, CONTROL};
 
 use super::{Each, EachInOrder, Receives, Sends, SharedHand, SharedLine, SharedPass, SharedTaker};
 use crate::hand::{CLEANER, CONTROL, Control, Ends, Hands, MOST_CAPACITY, MOST_WRITERS};
@@ -27,7 +28,7 @@ fn first_hand(
 ) -> Result<SharedHand, AllocError>
     requires seat { IsSeatAt (sends_on sends.now) pass.old }
     requires first { BeginsWith number (view pass.old) }
-    requires number { (0 < number) × (number ≤ 10) }
+    requires number { (0 < number) × (number ≤ CONTROL) }
     ensures seat { IsSeatAt (sends_on sends.now) pass.new }
     ensures rest { OnOk result (view pass.new ≡ without_first (view pass.old)) }
     ensures hand { IfOk result
@@ -56,10 +57,11 @@ fn writer_hands(
     count: u16,
 ) -> Result<Vec<SharedHand>, AllocError>
     requires seat { IsSeatAt (sends_on sends.now) pass.old }
-    requires all { view pass.old ≡ knows true [] (silent 1 8) }
-    requires few { count ≤ 8 }
+    requires all { view pass.old ≡ knows true [] (silent 1 MOST_WRITERS) }
+    requires few { count ≤ MOST_WRITERS }
     ensures seat { IsSeatAt (sends_on sends.now) pass.new }
-    ensures rest { OnOk result (view pass.new ≡ knows true [] (silent (count + 1) (8 - count))) }
+    ensures rest { OnOk result
+        (view pass.new ≡ knows true [] (silent (count + 1) (MOST_WRITERS - count))) }
     ensures writers { IfOk result
         (λ hands. AreFirstWriters (channel_line (sends_on sends.now))
         (ruled_capacity (sends_on sends.now)) count hands.items) }
@@ -74,7 +76,7 @@ fn writer_hands(
 
 fn line(alloc: Global, capacity: usize, writers: u16) -> Result<SharedLine, AllocError>
     requires capacity { 0 < capacity }
-    requires few { writers ≤ 8 }
+    requires few { writers ≤ MOST_WRITERS }
     ensures ends { IfOk result (λ l. shared_ends l.taker ≡ map shared_end (all_hands l.hands)) }
     ensures senders { IfOk result (λ l. map (λ h. h.number) (all_hands l.hands) ≡ senders writers) }
     ensures fresh { IfOk result
@@ -112,9 +114,10 @@ pub fn shared_line<R>(
     capacity: usize,
     writers: u16,
 ) -> Result<SharedLine, LineFault>
-    ensures capacity { IsErrAnd result (λ e. e ≡ Capacity) ↔ ((capacity ≡ 0) ⊎ (256 < capacity)) }
+    ensures capacity { IsErrAnd result (λ e. e ≡ Capacity)
+        ↔ ((capacity ≡ 0) ⊎ (MOST_CAPACITY < capacity)) }
     ensures writers { IsErrAnd result (λ e. e ≡ Senders)
-        ↔ ((0 < capacity) × (capacity ≤ 256) × (8 < writers)) }
+        ↔ ((0 < capacity) × (capacity ≤ MOST_CAPACITY) × (MOST_WRITERS < writers)) }
     ensures ends { IfOk result (λ l. shared_ends l.taker ≡ map shared_end (all_hands l.hands)) }
     ensures senders { IfOk result (λ l. map (λ h. h.number) (all_hands l.hands) ≡ senders writers) }
     ensures fresh { IfOk result

@@ -88,7 +88,9 @@ fn a_script_that_is_bad_or_not_there_is_told_of(rt: HostRuntime) -> Result<(), F
                 "",
                 2,
                 "bad script, line 3: Command\n",
-                "jffs: line 3: unknown command 'creat'; commands are mkdir, create, write, fill, truncate, rename and remove, and before them stand volume, line, cleaner, reader and writer\n",
+                "jffs: line 3: unknown command 'creat'; commands are mkdir, create, write, fill, \
+                truncate, rename and remove, and before them stand volume, line, cleaner, reader \
+                and writer\n",
             ),
             (
                 "no.script",
@@ -122,7 +124,8 @@ fn a_call_that_is_wrong_is_told_of(rt: HostRuntime) -> Result<(), Fail> {
                 SCRIPT,
                 2,
                 "",
-                "jffs: unknown option '--volumes'; options are --volume VOLUME, --help and --version\n",
+                "jffs: unknown option '--volumes'; \
+                options are --volume VOLUME, --help and --version\n",
             ),
             (
                 "--volume w.script",
@@ -197,7 +200,10 @@ fn a_fault_of_a_stream_is_told_of(rt: HostRuntime) -> Result<(), Fail> {
     );
     assert_eq!(rt;
         errors.as_slice(),
-        b"jffs: standard input can't be read\njffs: standard output can't be written\njffs: standard output can't be written\n".as_slice()
+        b"jffs: standard input can't be read\n\
+        jffs: standard output can't be written\n\
+        jffs: standard output can't be written\n"
+            .as_slice()
     );
     Ok(())
 }

@@ -27,8 +27,11 @@ fn two_writers_example(rt: HostRuntime) -> Result<(), Fail> {
     prints_over_both(
         &rt,
         ["shared 1", "rings 4"],
-        "writer\nmkdir /a\ncreate /a/x\nwrite /a/x 0 68656c6c6f\nwrite /a/x 5 21\nwriter\nmkdir /b\ncreate /b/y\nwrite /b/y 0 6f6b\ntruncate /b/y 1\nremove /c\n",
-        "1.1 appended\n1.2 appended\n1.3 appended\n1.4 appended\n2.1 appended\n2.2 appended\n2.3 appended\n2.4 appended\n2.5 refused NotFound\nclosed\nscan clean\nd /\nd /a\nf /a/x 6 68656c6c6f21\nd /b\nf /b/y 1 6f\n",
+        "writer\nmkdir /a\ncreate /a/x\nwrite /a/x 0 68656c6c6f\nwrite /a/x 5 21\n\
+        writer\nmkdir /b\ncreate /b/y\nwrite /b/y 0 6f6b\ntruncate /b/y 1\nremove /c\n",
+        "1.1 appended\n1.2 appended\n1.3 appended\n1.4 appended\n\
+        2.1 appended\n2.2 appended\n2.3 appended\n2.4 appended\n2.5 refused NotFound\n\
+        closed\nscan clean\nd /\nd /a\nf /a/x 6 68656c6c6f21\nd /b\nf /b/y 1 6f\n",
     )
 }
 
@@ -37,7 +40,8 @@ fn reader_waits_for_write(rt: HostRuntime) -> Result<(), Fail> {
     prints(
         &rt,
         "volume 8 1024\nreader 1 2 /f\nwriter\ncreate /f\nwrite /f 0 68656c6c6f\n",
-        "1.1 appended\n1.2 appended\nreader 1 68656c6c6f\nclosed\nscan clean\nd /\nf /f 5 68656c6c6f\n",
+        "1.1 appended\n1.2 appended\nreader 1 68656c6c6f\n\
+        closed\nscan clean\nd /\nf /f 5 68656c6c6f\n",
     )
 }
 
@@ -47,8 +51,12 @@ fn reader_waits_for_write(rt: HostRuntime) -> Result<(), Fail> {
 fn readers_end_each_in_its_way(rt: HostRuntime) -> Result<(), Fail> {
     prints(
         &rt,
-        "volume 8 1024\nline rings 1\nreader 1 4 /f\nreader 1 3 /n\nreader 1 1 /\nreader 1 2 /f\nreader 2 1 /f\nwriter\nmkdir /d\ncreate /f\nremove /n\n",
-        "1.1 appended\n1.2 appended\n1.3 refused NotFound\nreader 1 not seen\nreader 2 none\nreader 3 none\nreader 4 -\nreader 5 not seen\nclosed\nscan clean\nd /\nd /d\nf /f 0 -\n",
+        "volume 8 1024\nline rings 1\n\
+        reader 1 4 /f\nreader 1 3 /n\nreader 1 1 /\nreader 1 2 /f\nreader 2 1 /f\n\
+        writer\nmkdir /d\ncreate /f\nremove /n\n",
+        "1.1 appended\n1.2 appended\n1.3 refused NotFound\n\
+        reader 1 not seen\nreader 2 none\nreader 3 none\nreader 4 -\nreader 5 not seen\n\
+        closed\nscan clean\nd /\nd /d\nf /f 0 -\n",
     )
 }
 
@@ -56,7 +64,8 @@ fn readers_end_each_in_its_way(rt: HostRuntime) -> Result<(), Fail> {
 fn forty_fills(alloc: Global, line: &str) -> Result<String, Fail> {
     let fills = "fill /f 0 192 61\n".repeat(alloc, 40)?;
     Ok(format!(in alloc;
-        "volume 6 1024\nline {line}\ncleaner 1000\nwriter\ncreate /k\nwrite /k 0 6b\ncreate /f\n{fills}"
+        "volume 6 1024\nline {line}\ncleaner 1000\n\
+        writer\ncreate /k\nwrite /k 0 6b\ncreate /f\n{fills}"
     )?)
 }
 

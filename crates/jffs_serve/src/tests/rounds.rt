@@ -101,7 +101,8 @@ pub(super) fn asked(requests: &[Request]) -> Result<[(u32, u32); 3], Fail> {
     }
 }
 
-fn source_of(request: &Request) -> (u32, u32) {
+/// The number of a request, and the source of its copy.
+pub(super) fn source_of(request: &Request) -> (u32, u32) {
     match &request.wish {
         Wish::Copy { source, .. } => (request.seq, *source),
         _ => (request.seq, 0),

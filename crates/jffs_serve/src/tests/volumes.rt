@@ -85,3 +85,26 @@ pub(super) fn moved(alloc: Global) -> Result<Core<MemoryFlash>, Fail> {
     answer_all(&mut core, wishes)?;
     Ok(core)
 }
+
+/// A file of 192 bytes that was written so often that three sectors hold the log. Only the last
+/// record lives.
+pub(super) fn dead_below_tail(alloc: Global) -> Result<Core<MemoryFlash>, Fail> {
+    let mut wishes = vec![in alloc; create(alloc, "/z")?]?;
+    for _ in 0..8 {
+        wishes.push(write(alloc, "/z", 0, &[0x61; 192])?)?;
+    }
+    let mut core = erased(alloc, 6)?;
+    answer_all(&mut core, wishes)?;
+    Ok(core)
+}
+
+/// Six empty files, all in the first sector.
+pub(super) fn six_created(alloc: Global) -> Result<Core<MemoryFlash>, Fail> {
+    let mut wishes = Vec::new(alloc);
+    for name in ["/a", "/b", "/c", "/d", "/e", "/f"] {
+        wishes.push(create(alloc, name)?)?;
+    }
+    let mut core = erased(alloc, 6)?;
+    answer_all(&mut core, wishes)?;
+    Ok(core)
+}

@@ -1,6 +1,6 @@
 use Rattle.std.proofs.Common.{refl}
 use Rattle.jffs_log.specs.RoomRows.{rewrites, two_live}
-use Rattle.jffs_log.proofs.MountedLog.{each_known, among_reversed}
+use Rattle.jffs_log.proofs.scans.MountedLog.{each_known, among_reversed}
 use Rattle.jffs_log.proofs.examples.example_is_copied_again.Goals as goal
 
 pub returns : goal.returns

@@ -7,7 +7,7 @@ use Rattle.jffs_tree.specs.Origin.{tree_of}
 use Rattle.jffs_tree.specs.Check.{each_fits}
 use Rattle.jffs_tree.specs.After.{can_apply}
 use Rattle.jffs_log.specs.ScanFound.{keeps_form_after}
-use Rattle.jffs_log.proofs.ScanFold.{refused_at, fits_next, reverse_more, sized, fits_after}
+use Rattle.jffs_log.proofs.scans.ScanFold.{refused_at, fits_next, reverse_more, sized, fits_after}
 use Rattle.jffs_log.proofs.folding.tree_of_log.Goals as goal
 use Rattle.jffs_log.proofs.folding.tree_of_log.Goals.{then-has_sizes, else-has_sizes, Joined-has_sizes}
 

@@ -1,6 +1,6 @@
-use Rattle.jffs_log.proofs.Copied.{copies_take_over, unmounts_are_dead}
-use Rattle.jffs_log.proofs.Bound as proof
-use Rattle.jffs_log.proofs.Loop.{handled_in_parts, oldest_stays}
+use Rattle.jffs_log.proofs.rooms.Copied.{copies_take_over, unmounts_are_dead}
+use Rattle.jffs_log.proofs.rooms.Bound as proof
+use Rattle.jffs_log.proofs.rooms.Loop.{handled_in_parts, oldest_stays}
 use Rattle.jffs_log.proofs.laws.cleaning_keeps_room.Goals as goal
 
 pub returns : goal.returns

@@ -1,6 +1,6 @@
-use Rattle.jffs_log.proofs.Copied.{copies_take_over, unmounts_are_dead}
-use Rattle.jffs_log.proofs.Work as proof
-use Rattle.jffs_log.proofs.WorkOfTurns as turns
+use Rattle.jffs_log.proofs.rooms.Copied.{copies_take_over, unmounts_are_dead}
+use Rattle.jffs_log.proofs.rooms.Work as proof
+use Rattle.jffs_log.proofs.rooms.WorkOfTurns as turns
 use Rattle.jffs_log.proofs.laws.cleanings_copy_little.Goals as goal
 
 pub returns : goal.returns

@@ -1,5 +1,5 @@
-use Rattle.jffs_log.proofs.Copied as proof
-use Rattle.jffs_log.proofs.Bound.{copies_keep_sound, handled_are_dead}
+use Rattle.jffs_log.proofs.rooms.Copied as proof
+use Rattle.jffs_log.proofs.rooms.Bound.{copies_keep_sound, handled_are_dead}
 use Rattle.jffs_log.proofs.laws.copies_take_over.Goals as goal
 
 pub returns : goal.returns

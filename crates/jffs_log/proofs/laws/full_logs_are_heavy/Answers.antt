@@ -1,5 +1,5 @@
-use Rattle.jffs_log.proofs.Copied.{copies_take_over, unmounts_are_dead}
-use Rattle.jffs_log.proofs.Bound as proof
+use Rattle.jffs_log.proofs.rooms.Copied.{copies_take_over, unmounts_are_dead}
+use Rattle.jffs_log.proofs.rooms.Bound as proof
 use Rattle.jffs_log.proofs.Parts.{logs_weigh_less, versions_follow, puts_are_newest, erased_are_oldest}
 use Rattle.jffs_log.proofs.laws.full_logs_are_heavy.Goals as goal
 

@@ -1,5 +1,5 @@
 use Rattle.jffs_log.proofs.Histories.{histories_are_scanned, appends_keep_history, cuts_keep_history, erasing_keeps_history}
-use Rattle.jffs_log.proofs.MountHistory.{mounts_are_histories}
+use Rattle.jffs_log.proofs.scans.MountHistory.{mounts_are_histories}
 use Rattle.jffs_log.proofs.laws.histories_stay_lawful.Goals as goal
 
 pub returns : goal.returns

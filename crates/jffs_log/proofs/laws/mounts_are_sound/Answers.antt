@@ -1,4 +1,4 @@
-use Rattle.jffs_log.proofs.MountedLog as proof
+use Rattle.jffs_log.proofs.scans.MountedLog as proof
 use Rattle.jffs_log.proofs.laws.mounts_are_sound.Goals as goal
 
 pub returns : goal.returns

@@ -1,4 +1,4 @@
-use Rattle.jffs_log.proofs.Bound as proof
+use Rattle.jffs_log.proofs.rooms.Bound as proof
 use Rattle.jffs_log.proofs.laws.puts_keep_room.Goals as goal
 
 pub returns : goal.returns

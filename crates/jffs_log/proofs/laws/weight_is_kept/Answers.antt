@@ -1,4 +1,4 @@
-use Rattle.jffs_log.proofs.Weight.{weight_kept}
+use Rattle.jffs_log.proofs.rooms.Weight.{weight_kept}
 use Rattle.jffs_log.proofs.laws.weight_is_kept.Goals as goal
 
 pub returns : goal.returns

@@ -1,8 +1,8 @@
 use Rattle.std.proofs.Common.{false, sym, subst, arith}
 use Rattle.jffs_flash.specs.Device.{Device}
 use Rattle.jffs_log.specs.LogState.{IsLog}
-use Rattle.jffs_log.proofs.Layouts.{some_erased}
-use Rattle.jffs_log.proofs.Weighed.{records_few}
+use Rattle.jffs_log.proofs.ring.Layouts.{some_erased}
+use Rattle.jffs_log.proofs.rooms.Weighed.{records_few}
 use Rattle.jffs_log.proofs.scanning.scan.Goals as goal
 
 pub invariant_of-result : goal.invariant_of-result

@@ -4,7 +4,7 @@ use Rattle.std.proofs.lemmas.List.{take_rest}
 use Rattle.jffs_node.specs.declared.node.Node.{Node}
 use Rattle.jffs_node.specs.Record.{record_len}
 use Rattle.jffs_log.specs.Sector.{HoldsNodes}
-use Rattle.jffs_log.proofs.SectorFound.{OneMore, record_found, end_found, spelled_found, all_lawful}
+use Rattle.jffs_log.proofs.ring.SectorFound.{OneMore, record_found, end_found, spelled_found, all_lawful}
 use Rattle.jffs_log.proofs.sector.read_sector.Goals as goal
 use Rattle.jffs_log.proofs.sector.read_sector.Goals.{In_ok-push-in-Closed}
 

@@ -1,6 +1,6 @@
 use Rattle.std.proofs.Common.{ap, ◌∙◌, arith}
 use Rattle.jffs_flash.specs.Device.{with_image}
-use Rattle.jffs_log.proofs.Gate.{programmed_erased}
+use Rattle.jffs_log.proofs.append.Gate.{programmed_erased}
 use Rattle.jffs_log.proofs.writing.program_erased.Goals as goal
 
 pub returns : goal.returns

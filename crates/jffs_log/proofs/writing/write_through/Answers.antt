@@ -3,7 +3,7 @@ use Rattle.jffs_node.specs.Record.{spelling}
 use Rattle.jffs_flash.specs.Device.{Device, with_image, Fails}
 use Rattle.jffs_flash.specs.Image.{replaced, programmed, IsHalfProgrammed}
 use Rattle.jffs_log.specs.Gate.{IsWritten}
-use Rattle.jffs_log.proofs.Gate.{opened, first_half, second_whole, second_half}
+use Rattle.jffs_log.proofs.append.Gate.{opened, first_half, second_whole, second_half}
 use Rattle.std.proofs.lemmas.Result.{MatchResult-from_err, MatchResult-weaker}
 use Rattle.jffs_log.proofs.writing.write_through.Goals as goal
 

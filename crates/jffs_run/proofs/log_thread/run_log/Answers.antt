@@ -1,5 +1,8 @@
-use Rattle.std.proofs.Common.{◌∙◌, Some}
+use Rattle.std.proofs.Common.{rules, ◌≡◌, ◌∙◌, ap, Some}
 use Rattle.jffs_index.specs.Ends.{all_put}
+use Rattle.jffs_serve.specs.declared.session.Served.{Served}
+use Rattle.jffs_serve.specs.declared.session.Served.TheVariants.{Memory}
+use Rattle.jffs_serve.specs.Stopping.{ending_in}
 use Rattle.jffs_serve.proofs.Replying.{then_more}
 use Rattle.jffs_run.proofs.log_thread.run_log.Goals as goal
 
@@ -9,6 +12,7 @@ loop-preserved g c =
     let more = c.serve-served-in-loop.ensures in
     let served = more.served in
     let now = c.serve-served-in-loop.new in
+    let memory : c.loop.served ≡ Memory = search rules in
     record {
       ready = more.ready;
       ends = more.ends ∙ before.ends;
@@ -16,7 +20,7 @@ loop-preserved g c =
         replies = then_more c.args.side.session c.loop.session now.session
             (all_put c.args.side.publisher).steps (all_put c.loop.publisher).steps (all_put now.publisher).steps
             (g.T.Taker.taken c.args.side.taker) (g.T.Taker.taken c.loop.taker) (g.T.Taker.taken now.taker)
-            (Some c.loop.served) (Some c.serve-served-in-loop.result) before.served.replies served.replies;
+            (Some c.loop.served) (Some c.serve-served-in-loop.result) (ap (λ (s : Served). ending_in (Some s) c.loop.session.core c.loop.session.unsent) memory) before.served.replies served.replies;
         published = served.published;
         index = served.index ∙ before.served.index;
         opening = served.opening ∙ before.served.opening;

@@ -4,7 +4,7 @@ use Rattle.jffs_node.specs.Record.{record_len}
 use Rattle.jffs_log.specs.Room.{tail_need}
 use Rattle.jffs_log.specs.LogState.{LogState}
 use Rattle.jffs_log.proofs.Seen.{told_seen}
-use Rattle.jffs_log.proofs.Putting.{fits_in_tail, next_is_erased, put_tail, put_next, put_fails}
+use Rattle.jffs_log.proofs.append.Putting.{fits_in_tail, next_is_erased, put_tail, put_next, put_fails}
 use Rattle.jffs_log.proofs.log.Log.append.Goals as goal
 
 pub append_to_tail-requires-clause-fits : goal.append_to_tail-requires-clause-fits

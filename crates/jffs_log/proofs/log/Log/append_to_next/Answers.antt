@@ -5,10 +5,10 @@ use Rattle.jffs_log.specs.LogIndex.{layout_in}
 use Rattle.jffs_log.specs.LogState.{LogState, FitsIn, AppendedAt, AppendFailedAt}
 use Rattle.jffs_log.specs.Cleaning.{in_next}
 use Rattle.jffs_log.specs.Ring.{IsAt}
-use Rattle.jffs_log.proofs.Appended.{described_inside}
+use Rattle.jffs_log.proofs.append.Appended.{described_inside}
 use Rattle.jffs_log.proofs.Seen.{told, only_image, same_sizes}
-use Rattle.jffs_log.proofs.NextPut.{next_is_ready, next_may_write, next_fails, next_index, next_added, next_layout, next_clean}
-use Rattle.jffs_log.proofs.Weighed.{records_few}
+use Rattle.jffs_log.proofs.append.NextPut.{next_is_ready, next_may_write, next_fails, next_index, next_added, next_layout, next_clean}
+use Rattle.jffs_log.proofs.rooms.Weighed.{records_few}
 use Rattle.jffs_log.proofs.log.Log.append_to_next.Goals as goal
 
 -- the record fits the next sector of the log inside, and there is one

@@ -5,8 +5,8 @@ use Rattle.jffs_log.specs.LogIndex.{layout_in}
 use Rattle.jffs_log.specs.LogState.{LogState, FitsIn, AppendedAt, AppendFailedAt}
 use Rattle.jffs_log.specs.Cleaning.{in_tail}
 use Rattle.jffs_log.proofs.Seen.{told, only_image, same_sizes}
-use Rattle.jffs_log.proofs.TailPut.{tail_is_ready, tail_may_write, tail_fails, tail_index, tail_added, tail_layout, tail_clean}
-use Rattle.jffs_log.proofs.Weighed.{records_few}
+use Rattle.jffs_log.proofs.append.TailPut.{tail_is_ready, tail_may_write, tail_fails, tail_index, tail_added, tail_layout, tail_clean}
+use Rattle.jffs_log.proofs.rooms.Weighed.{records_few}
 use Rattle.jffs_log.proofs.log.Log.append_to_tail.Goals as goal
 
 -- the record fits the tail of the log inside

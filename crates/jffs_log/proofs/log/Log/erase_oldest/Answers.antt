@@ -5,12 +5,12 @@ use Rattle.std.specs.List.{AllByRecursion}
 use Rattle.jffs_tree.specs.Origin.{Tree}
 use Rattle.jffs_log.specs.LogIndex.{lives_in, oldest_in}
 use Rattle.jffs_log.specs.LogState.{LogState, OldestIsDead, ErasedOldest}
-use Rattle.jffs_log.proofs.Appended.{described_inside, described_readable}
+use Rattle.jffs_log.proofs.append.Appended.{described_inside, described_readable}
 use Rattle.jffs_log.proofs.Histories.{erasing_keeps_history}
-use Rattle.jffs_log.proofs.ErasedIndex.{index_erased}
+use Rattle.jffs_log.proofs.erase.ErasedIndex.{index_erased}
 use Rattle.jffs_log.proofs.Seen.{told, only_image, same_sizes}
-use Rattle.jffs_log.proofs.Weighed.{records_few}
-use Rattle.jffs_log.proofs.Wear.{next_after}
+use Rattle.jffs_log.proofs.rooms.Weighed.{records_few}
+use Rattle.jffs_log.proofs.erase.Wear.{next_after}
 use Rattle.jffs_log.proofs.log.Log.erase_oldest.Goals as goal
 
 -- what is said of the log inside is said of it by its other name
@@ -37,7 +37,7 @@ invariant_of-self g c =
     let b = c.self.inside.index in
     let old = g.F.Flash.device c.self.inside.flash in
     let done = c.in-Ok.ensures in
-    let after = index_erased b.sectors b.sector_size old.image _ b.first b.held b.tail b.used b.free c.sector_at-index.result b.records.items c.forget_sector.new.records.items
+    let after = index_erased _ _ _ _ _ _ _ _ _ _ _ c.forget_sector.new.records.items
     (told _ _ c.self.view_is c.self.invariant c.requires.working) (several_inside _ _ c.self.view_is c.requires.several)
     c.sector_at-index.ensures (changed old _ b.sector_size b.first done c.self.invariant.sizes.1) c.forget_sector.ensures in
     let few = c.self.invariant.held in
@@ -56,7 +56,7 @@ returns-in-Ok-clause-done g c =
     let tree = c.args.tree.now in
     let done = c.in-Ok.ensures in
     let image = changed old new b.sector_size b.first done c.self.invariant.sizes.1 in
-    let after = index_erased b.sectors b.sector_size old.image new.image b.first b.held b.tail b.used b.free c.sector_at-index.result b.records.items c.forget_sector.new.records.items
+    let after = index_erased _ _ _ new.image _ _ _ _ _ _ _ c.forget_sector.new.records.items
     (told _ _ c.self.view_is c.self.invariant c.requires.working) (several_inside _ _ c.self.view_is c.requires.several) c.sector_at-index.ensures image c.forget_sector.ensures in
     let readable = described_readable _ _ _ _ _ _ _ _ _ after.index in
     let dead = subst (λ (v : LogState). OldestIsDead tree v) (sym c.self.view_is) c.requires.dead in

@@ -2,7 +2,7 @@ use Rattle.std.proofs.Common.{◌≡◌, ◌-◌, false, sym, subst}
 use Rattle.jffs_log.specs.Image.{erased_count}
 use Rattle.jffs_log.specs.Volume.{sectors_in}
 use Rattle.jffs_log.specs.LogState.{LogState}
-use Rattle.jffs_log.proofs.Rooms.{described_erased}
+use Rattle.jffs_log.proofs.rooms.Rooms.{described_erased}
 use Rattle.jffs_log.proofs.log.Log.erased.Goals as goal
 
 pub returns-clause-exact : goal.returns-clause-exact

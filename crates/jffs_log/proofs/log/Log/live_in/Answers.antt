@@ -4,8 +4,8 @@ use Rattle.jffs_tree.specs.Origin.{Tree, tree_of}
 use Rattle.jffs_log.specs.LogIndex.{log_in, live_in, live_records_in}
 use Rattle.jffs_log.specs.History.{IsHistory}
 use Rattle.jffs_log.specs.LogState.{LogState}
-use Rattle.jffs_log.proofs.Weighed.{refs_count}
-use Rattle.jffs_log.proofs.HistoryWeight.{history_count}
+use Rattle.jffs_log.proofs.rooms.Weighed.{refs_count}
+use Rattle.jffs_log.proofs.rooms.HistoryWeight.{history_count}
 use Rattle.jffs_log.proofs.log.Log.live_in.Goals as goal
 
 pub returns-clause-counted : goal.returns-clause-counted

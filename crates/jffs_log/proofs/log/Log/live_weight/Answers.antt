@@ -5,8 +5,8 @@ use Rattle.jffs_log.specs.LogIndex.{log_in, weight_in}
 use Rattle.jffs_log.specs.History.{IsHistory}
 use Rattle.jffs_log.specs.LogState.{LogState}
 use Rattle.jffs_log.specs.Room.{weight}
-use Rattle.jffs_log.proofs.Weighed.{refs_weight}
-use Rattle.jffs_log.proofs.HistoryWeight.{history_weight}
+use Rattle.jffs_log.proofs.rooms.Weighed.{refs_weight}
+use Rattle.jffs_log.proofs.rooms.HistoryWeight.{history_weight}
 use Rattle.jffs_log.proofs.log.Log.live_weight.Goals as goal
 
 pub returns-clause-weighed : goal.returns-clause-weighed

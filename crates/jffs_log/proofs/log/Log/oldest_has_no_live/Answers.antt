@@ -2,8 +2,8 @@ use Rattle.std.proofs.Common.{◌↔◌, sym, true, false, eqb, subst, IsTrue, �
 use Rattle.std.specs.List.{take_while}
 use Rattle.jffs_log.specs.declared.log_index.RecordRef.{RecordRef}
 use Rattle.jffs_log.specs.LogState.{LogState, OldestIsDead}
-use Rattle.jffs_log.proofs.OldestDead.{dead_exactly}
-use Rattle.jffs_log.proofs.OldestAsked.{not_dead, none_within}
+use Rattle.jffs_log.proofs.erase.OldestDead.{dead_exactly}
+use Rattle.jffs_log.proofs.erase.OldestAsked.{not_dead, none_within}
 use Rattle.jffs_log.proofs.Seen.{told}
 use Rattle.jffs_log.proofs.log.Log.oldest_has_no_live.Goals as goal
 

@@ -1,5 +1,5 @@
 use Rattle.std.proofs.Common.{arith}
-use Rattle.jffs_log.proofs.ErasedIndex.{oldest_inside}
+use Rattle.jffs_log.proofs.erase.ErasedIndex.{oldest_inside}
 use Rattle.jffs_log.proofs.Seen.{told}
 use Rattle.jffs_log.proofs.log.Log.oldest_image.Goals as goal
 

@@ -1,6 +1,6 @@
 use Rattle.std.proofs.Common.{◌∙◌, ℕ, List, ap}
 use Rattle.jffs_log.specs.Image.{Sector, sector_of}
-use Rattle.jffs_log.proofs.OldestNodes.{oldest_read}
+use Rattle.jffs_log.proofs.erase.OldestNodes.{oldest_read}
 use Rattle.jffs_log.proofs.Seen.{told_seen}
 use Rattle.jffs_log.proofs.log.Log.oldest_nodes.Goals as goal
 

@@ -1,7 +1,7 @@
 use Rattle.std.proofs.Common.{◌≡◌, false, map, sym, ap, subst, ◌∙◌}
 use Rattle.jffs_log.specs.LogIndex.{ref_of, log_in}
 use Rattle.jffs_log.specs.LogState.{LogState}
-use Rattle.jffs_log.proofs.Appended.{described_live}
+use Rattle.jffs_log.proofs.append.Appended.{described_live}
 use Rattle.jffs_log.proofs.log.Log.records.Goals as goal
 
 pub returns-clause-listed : goal.returns-clause-listed

@@ -2,7 +2,7 @@ use Rattle.std.proofs.Common.{◌≡◌, ◌≤◌, ◌<◌, ◌-◌, Bool, fals
 use Rattle.std.proofs.lemmas.Bool.{le-leb, lt-leb}
 use Rattle.jffs_log.specs.Room.{tail_need, erased_need, has_room_in}
 use Rattle.jffs_log.specs.LogState.{LogState}
-use Rattle.jffs_log.proofs.Rooms.{described_room}
+use Rattle.jffs_log.proofs.rooms.Rooms.{described_room}
 use Rattle.jffs_log.proofs.log.Log.room.Goals as goal
 
 pub returns-then-tail_need-from-clause-exact : goal.returns-then-tail_need-from-clause-exact

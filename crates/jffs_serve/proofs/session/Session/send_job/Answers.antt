@@ -11,7 +11,7 @@ use Rattle.jffs_serve.proofs.session.Session.send_job.Goals.{After-oldest_image}
 worked : (g : _) (c : After-oldest_image g) → c.args.self.now.core.failed ≡ false
 worked g c =
     let asked : c.is_due.result ≡ true = search rules in
-    wanted_works c.args.self.now.core (c.is_due.ensures asked).0
+    wanted_works c.args.self.now.core (c.is_due.ensures.0 asked).0
 
 -- the session after the reading, whatever it keeps of the sending
 same_replies : (g : _) (c : After-oldest_image g) → HasSameReplies c.args.self.now (record c.args.self.now { core = c.oldest_image.new.self })
@@ -31,7 +31,7 @@ pub returns-in-Ok-send-clause-job : goal.returns-in-Ok-send-clause-job
 returns-in-Ok-send-clause-job g c =
     let erases : c.erases-erases.result ≡ c.args.self.now.core.index.erases = search rules in
     let asked : c.is_due.result ≡ true = search rules in
-    let due = c.is_due.ensures asked in
+    let due = c.is_due.ensures.0 asked in
     inr (
       (due.0, λ sent. due.1 (sent ∙ ap Some (sym erases))),
       ap Some erases,

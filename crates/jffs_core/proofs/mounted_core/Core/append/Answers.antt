@@ -1,0 +1,126 @@
+use Rattle.std.proofs.Common.{inl, inr, ◌<◌, ◌∷◌, refl, sym, ap, subst, ◌∙◌}
+use Rattle.jffs_node.specs.Record.{record_len}
+use Rattle.jffs_flash.specs.Device.{Device}
+use Rattle.jffs_tree.specs.Origin.{Tree}
+use Rattle.jffs_log.specs.LogIndex.{layout_in}
+use Rattle.jffs_log.specs.Room.{has_room_in}
+use Rattle.jffs_log.specs.Cleaning.{put}
+use Rattle.jffs_log.proofs.Results.{err_from}
+use Rattle.jffs_log.proofs.Seen.{log_sizes}
+use Rattle.jffs_core.specs.CoreState.{CoreState}
+use Rattle.jffs_core.specs.Past.{IsPast, HasLogIndex, RepresentsWorking, has_room_for}
+use Rattle.jffs_core.specs.Appending.{MayPut, PutRefused}
+use Rattle.jffs_core.proofs.Erasing.{leaves_kept, leaves_reserved}
+use Rattle.jffs_core.proofs.Putting.{mid_index, put_failed, offsets_kept, counted, put_known, may_append, mid_history, mid_layout}
+use Rattle.jffs_core.proofs.Mounting.{clean_ends}
+use Rattle.jffs_core.proofs.mounted_core.Core.append.Goals as goal
+
+pub apply-requires-clause-offsets : goal.apply-requires-clause-offsets
+apply-requires-clause-offsets g c =
+    let past = c.requires.follows.0 in
+    let may = c.requires.follows.2 in
+    let h = subst (λ (v : CoreState). RepresentsWorking past v) (sym c.self.view_is) c.requires.follows.1 in
+    offsets_kept past c.args.node.now c.self.inside.tree h.tree_is may.rules
+
+pub append-requires-clause-may : goal.append-requires-clause-may
+append-requires-clause-may g c =
+    let b = c.self.inside.log.index in
+    let past = c.requires.follows.0 in
+    let works = ap (λ (v : CoreState). v.failed) c.self.view_is ∙ c.requires.working in
+    let may = subst (λ (v : CoreState). MayPut past v.index.sector_size c.args.room c.args.node.now) (sym c.self.view_is) c.requires.follows.2 in
+    let had = ap (has_room_in b.sectors b.sector_size c.self.inside.log.device.image c.args.room) (sym c.record_len.ensures) ∙ sym (c.room.ensures.exact works) ∙ c.if-not-room.false in
+    may_append past c.args.room c.args.node.now c.self.inside.log c.reserve.new.self may c.in_ok-reserve.ensures.same had
+
+pub returns-in_err-append-clause-refused : goal.returns-in_err-append-clause-refused
+returns-in_err-append-clause-refused g c =
+    let n = c.args.node.now in
+    let old = c.self.inside.log in
+    let mid = c.reserve.new.self in
+    let new = c.append.new.self in
+    let f = c.in_err-append.ensures.failed in
+    let same = c.in_ok-reserve.ensures.same in
+    let before = ap (λ (d : Device). d.faults) same.device ∙ ap (λ (v : CoreState). v.faults) c.self.view_is in
+    err_from c.from_residual-in_err-append.result c.in_err-append.field-0.0 (λ why. PutRefused c.args.room n why c.args.self.now _) c.from_residual-in_err-append.ensures.1
+    (put_failed c.args.room n _ c.args.self.now _ f.cause_is f.failed (subst (λ k. k < new.device.faults) before f.device.faults)
+    (λ past known may.
+    let h : IsPast past old.device.image old.index c.self.inside.tree c.self.inside.limits c.self.inside.clean = subst (λ (v : CoreState). RepresentsWorking past v) (sym c.self.view_is) known in
+    record {
+      clean = λ is. clean_ends past old.device.image old.index c.self.inside.tree c.self.inside.limits c.self.inside.clean h is;
+      tree = inr (n, refl, c.in_ok-apply.ensures.ok past h.tree_is);
+      left = λ intact. elim (f.history past (mid_history past old mid same h.history) may.rules) [ inl as_it_was ↦ inl as_it_was | inr more ↦ inr (n, refl, more) ];
+    }))
+
+pub returns-in_err-reserve-clause-leaves : goal.returns-in_err-reserve-clause-leaves
+returns-in_err-reserve-clause-leaves g c =
+    let same = c.in_err-reserve.ensures.same in
+    leaves_reserved _ _ _ c.self.view_is (record { answers = refl; capacity = refl; closed = refl }) same.index
+
+pub invariant_of-self-in_err-apply : goal.invariant_of-self-in_err-apply
+invariant_of-self-in_err-apply g c =
+    let v = c.self.inside in
+    let mid = c.reserve.new.self in
+    subst (λ (t : Tree). HasLogIndex mid.failed mid.device.sectors mid.device.sector_size mid.device.image mid.index t v.limits v.clean) (sym c.in_err-apply.ensures.err)
+    (mid_index v.log mid v.tree v.limits v.clean c.in_ok-reserve.ensures.same c.self.invariant)
+
+pub returns-in_err-apply-clause-leaves : goal.returns-in_err-apply-clause-leaves
+returns-in_err-apply-clause-leaves g c =
+    let same = c.in_ok-reserve.ensures.same in
+    leaves_reserved _ _ _ c.self.view_is (record { answers = refl; capacity = refl; closed = refl }) same.index
+
+pub returns-clause-leaves : goal.returns-clause-leaves
+returns-clause-leaves g c =
+    let same = c.in_ok-reserve.ensures.same in
+    let e = c.in_ok-append.ensures.done in
+    leaves_kept _ _ _ c.reserve.new.self.index c.self.view_is (record { answers = refl; capacity = refl; closed = refl }) same.index e.numbers
+
+pub invariant_of-self-2 : goal.invariant_of-self-2
+invariant_of-self-2 g c =
+    let n = c.args.node.now in
+    let old = c.self.inside.log in
+    let e = c.in_ok-append.ensures.done in
+    let same = c.in_ok-reserve.ensures.same in
+    let past = c.requires.follows.0 in
+    let works = ap (λ (v : CoreState). v.failed) c.self.view_is ∙ c.requires.working in
+    let h = subst (λ (v : CoreState). RepresentsWorking past v) (sym c.self.view_is) c.requires.follows.1 in
+    let may = subst (λ (v : CoreState). MayPut past v.index.sector_size c.args.room n) (sym c.self.view_is) c.requires.follows.2 in
+    let had = ap (has_room_in old.index.sectors old.index.sector_size old.device.image c.args.room) (sym c.record_len.ensures) ∙ sym (c.room.ensures.exact works) ∙ c.if-not-room.false in
+    record {
+      sizes = log_sizes old c.append.new.self
+          (ap (λ (d : Device). d.sectors) e.works.device ∙ ap (λ (d : Device). d.sectors) same.device)
+          (ap (λ (d : Device). d.sector_size) e.works.device ∙ ap (λ (d : Device). d.sector_size) same.device)
+          c.self.invariant.sizes (sym same.index.sectors ∙ e.numbers.sizes.0, sym same.index.sector_size ∙ e.numbers.sizes.1);
+      index = λ w. e.works.told;
+      past = λ w. (
+        n ∷ past,
+        put_known past c.args.room n old c.reserve.new.self c.append.new.self c.self.inside.tree c.apply.new.self c.self.inside.limits c.count.new.limits c.self.inside.clean _ h may same had e
+            (c.in_ok-apply.ensures.ok past h.tree_is)
+            (counted old.index.sector_size past n c.self.inside.limits c.count.new.limits h.limits_are c.count.ensures.data_max c.count.ensures.version c.count.ensures.inode)
+            c.is_unmount-self-inside.ensures,
+      );
+    }
+
+pub returns-clause-done : goal.returns-clause-done
+returns-clause-done g c =
+    let n = c.args.node.now in
+    let old = c.self.inside.log in
+    let e = c.in_ok-append.ensures.done in
+    let same = c.in_ok-reserve.ensures.same in
+    let works = ap (λ (v : CoreState). v.failed) c.self.view_is ∙ c.requires.working in
+    let had = ap (has_room_in old.index.sectors old.index.sector_size old.device.image c.args.room) (sym c.record_len.ensures) ∙ sym (c.room.ensures.exact works) ∙ c.if-not-room.false in
+    record {
+      works = e.works.failed;
+      faults = ap (λ (d : Device). d.faults) e.works.device ∙ ap (λ (d : Device). d.faults) same.device ∙ ap (λ (v : CoreState). v.faults) c.self.view_is;
+      had_room = ap (λ (v : CoreState). has_room_for v c.args.room (record_len n)) (sym c.self.view_is) ∙ had;
+      log =
+          e.layout_is
+          ∙ ap (λ k. put k c.args.room n (layout_in c.reserve.new.self.device.image c.reserve.new.self.index)) same.index.sector_size
+          ∙ ap (put old.index.sector_size c.args.room n) (mid_layout old c.reserve.new.self same)
+          ∙ ap (λ (v : CoreState). put v.index.sector_size c.args.room n (layout_in v.image v.index)) c.self.view_is;
+      represents = λ past known fits.
+          let h = subst (λ (v : CoreState). RepresentsWorking past v) (sym c.self.view_is) known in
+          let may = subst (λ (v : CoreState). MayPut past v.index.sector_size c.args.room n) (sym c.self.view_is) fits in
+          put_known past c.args.room n old c.reserve.new.self c.append.new.self c.self.inside.tree c.apply.new.self c.self.inside.limits c.count.new.limits c.self.inside.clean _ h may same had e
+          (c.in_ok-apply.ensures.ok past h.tree_is)
+          (counted old.index.sector_size past n c.self.inside.limits c.count.new.limits h.limits_are c.count.ensures.data_max c.count.ensures.version c.count.ensures.inode)
+          c.is_unmount-self-inside.ensures;
+    }

@@ -1,0 +1,104 @@
+//! Memory flash that counts what it is called for.
+
+use crate::tests::session::{SECTOR_SIZE, Session};
+use jffs_flash::{Flash, FlashFault, MemoryFlash};
+use std::alloc::Global;
+use std::test::Fail;
+
+/// How many sectors it has.
+pub(super) const SECTORS: usize = 6;
+
+/// What a device was called for.
+#[derive(Clone, Copy, PartialEq, Eq, Debug)]
+pub(super) struct Calls {
+    /// How many bytes were programmed, and in how many calls.
+    pub(super) bytes: u64,
+    pub(super) programs: u64,
+    /// How often each sector was erased.
+    pub(super) erased: [u32; SECTORS],
+}
+
+impl Calls {
+    /// How many erases there were.
+    pub(super) fn erases(&self) -> u32 {
+        let mut erases = 0u32;
+        for count in self.erased {
+            erases = erases.saturating_add(count);
+        }
+        erases
+    }
+}
+
+/// Memory flash that counts its calls.
+#[derive(Drop)]
+pub(super) struct Metered {
+    inner: MemoryFlash,
+    calls: Calls,
+    /// How often each byte was read.
+    pub(super) reads: Vec<u8>,
+}
+
+impl Flash for Metered {
+    ghost use Rattle.jffs_flash.specs.Device.{device_of};
+
+    ghost device = { λ m. device_of m.inner.sectors m.inner.sector_size m.inner.image };
+
+    fn sectors(&self) -> u32 {
+        self.inner.sectors()
+    }
+
+    fn sector_size(&self) -> u32 {
+        self.inner.sector_size()
+    }
+
+    fn faults(&self) -> u64 {
+        self.inner.faults()
+    }
+
+    fn read(&mut self, at: u32, buffer: &mut [u8]) -> Result<(), FlashFault> {
+        for count in self.reads.iter_mut().skip(at as usize).take(buffer.len()) {
+            *count = count.saturating_add(1);
+        }
+        self.inner.read(at, buffer)
+    }
+
+    fn program(&mut self, at: u32, bytes: &[u8]) -> Result<(), FlashFault> {
+        self.calls.bytes = self.calls.bytes.saturating_add(bytes.len() as u64);
+        self.calls.programs = self.calls.programs.saturating_add(1);
+        self.inner.program(at, bytes)
+    }
+
+    fn erase(&mut self, sector: u32) -> Result<(), FlashFault> {
+        if let Some(count) = self.calls.erased.get_mut(sector as usize) {
+            *count = count.saturating_add(1);
+        }
+        self.inner.erase(sector)
+    }
+}
+
+/// A session on an erased device.
+pub(super) fn over_metered(alloc: Global) -> Result<Session<Metered>, Fail> {
+    let inner = match MemoryFlash::new(alloc, SECTORS as u32, SECTOR_SIZE) {
+        Ok(flash) => flash,
+        Err(_) => MemoryFlash::new(alloc, SECTORS as u32, SECTOR_SIZE)?,
+    };
+    let calls = Calls {
+        bytes: 0,
+        programs: 0,
+        erased: [0; SECTORS],
+    };
+    let reads = vec![in alloc; 0u8; SECTORS * SECTOR_SIZE as usize]?;
+    Session::over(
+        alloc,
+        Metered {
+            inner,
+            calls,
+            reads,
+        },
+    )
+}
+
+/// What the device of a session was called for.
+pub(super) fn calls_of(session: &Session<Metered>) -> Calls {
+    session.core.log().flash().calls
+}

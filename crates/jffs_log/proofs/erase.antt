@@ -1,0 +1,8 @@
+-- The oldest sector, how it is erased, and how the sectors wear.
+pub mod Erased
+pub mod ErasedIndex
+pub mod OldestAsked
+pub mod OldestDead
+pub mod OldestNodes
+pub mod Wear
+pub mod WearOverSessions

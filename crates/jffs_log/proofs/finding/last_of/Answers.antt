@@ -1,6 +1,0 @@
-use Rattle.std.proofs.Common.{◌∙◌}
-use Rattle.jffs_log.proofs.ScanLog.{last_is}
-use Rattle.jffs_log.proofs.finding.last_of.Goals as goal
-
-pub returns : goal.returns
-returns c = c.last.ensures.value ∙ last_is c.args.found.now

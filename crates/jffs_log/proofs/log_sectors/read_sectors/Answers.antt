@@ -1,0 +1,53 @@
+-- Sector by sector; the count of faults is the first one's until a read fails.
+use Rattle.std.proofs.Common.{◌≡◌, ℕ, List, length, take, drop, ◌++◌, sym, ap, subst, ◌∙◌, arith, length-append}
+use Rattle.std.proofs.lemmas.List.{length-take-le}
+use Rattle.jffs_log.specs.declared.scanning.ScanWhy.{ScanWhy}
+use Rattle.jffs_flash.specs.Device.{Device as FlashDevice}
+use Rattle.jffs_log.specs.ScanRead.{AreRead, HasRead, IsUnread, bad_in}
+use Rattle.jffs_log.specs.Image.{sector_of}
+use Rattle.jffs_log.specs.Volume.{sectors_in, sector_bytes}
+use Rattle.jffs_log.specs.Scan.{first_bad}
+use Rattle.jffs_log.proofs.scans.ScanSectors.{one_read, bad_read, fault_read}
+use Rattle.jffs_log.proofs.Results.{err_from}
+use Rattle.jffs_log.proofs.log_sectors.read_sectors.Goals as goal
+
+-- a buffer that was filled is as long as before
+refilled : (n : ℕ) (xs ys : List ℕ) → length xs ≡ n → length (take n (xs ++ drop (length xs) ys)) ≡ n
+refilled n xs ys h = let e = length-append xs (drop (length xs) ys) in length-take-le n (xs ++ drop (length xs) ys) (omega arith)
+
+pub returns-in_err-read-clause-refused : goal.returns-in_err-read-clause-refused
+returns-in_err-read-clause-refused g c =
+    let w = c.loop-sector.invariant in
+    let k = c.loop-sector.sector in
+    let len = c.args.sector_size in
+    let device = g.F.Flash.device c.args.flash.now in
+    let after = g.F.Flash.device c.read_one.new.flash in
+    let why = c.in_err-read.field-0.0 in
+    let at : length c.deref_mut.result.now ≡ len = ap length c.deref_mut.ensures.value ∙ w.buffer in
+    let all = first_bad 0 (sectors_in c.args.sectors len device.image) in
+    let unread = subst (λ (n : ℕ). IsUnread why device after (bad_in (k, sector_of (sector_bytes n k device.image)))) at
+    (subst (λ (d : FlashDevice). IsUnread why d after (bad_in (k, sector_of (sector_bytes (length c.deref_mut.result.now) k d.image)))) w.device c.in_err-read.ensures.refused) in
+    let cause = fault_read why _ after.faults _ all
+    (λ bad. bad_read c.args.sectors k len device.image c.loop-sector.found.items why c.loop-sector-test.true w.read bad) unread.cause in
+    err_from c.from_residual-in_err-read.result why (λ (v : ScanWhy). IsUnread v device after all) c.from_residual-in_err-read.ensures.1 (record { cause = cause; rest = unread.rest })
+
+pub loop-sector-preserved : goal.loop-sector-preserved
+loop-sector-preserved g c =
+    let w = c.loop-sector.invariant in
+    let k = c.loop-sector.sector in
+    let len = c.args.sector_size in
+    let image = (g.F.Flash.device c.args.flash.now).image in
+    let at : length c.deref_mut.result.now ≡ len = ap length c.deref_mut.ensures.value ∙ w.buffer in
+    let one = subst (λ (n : ℕ). HasRead c.in_ok-read.read k (sector_bytes n k image)) at
+    (subst (λ (d : FlashDevice). HasRead c.in_ok-read.read k (sector_bytes (length c.deref_mut.result.now) k d.image)) w.device c.in_ok-read.ensures.read) in
+    let full : length c.read_one.new.buffer ≡ c.loop-sector.buffer.len = c.read_one.ensures.length ∙ c.deref_mut.ensures.len in
+    record {
+      read = one_read k len image c.loop-sector.found.items c.push.new.self.items c.in_ok-read.read w.read one.read one.sound one.spelled c.in_ok-push.ensures.items;
+      device = c.in_ok-read.ensures.same ∙ w.device;
+      buffer = refilled c.loop-sector.buffer.len c.read_one.new.buffer c.loop-sector.buffer.items full ∙ sym c.deref_mut.ensures.len ∙ at;
+    }
+
+pub returns-clause-read : goal.returns-clause-read
+returns-clause-read g c =
+    let all : c.loop-sector.sector ≡ c.args.sectors = omega arith in
+    subst (λ k. AreRead k c.args.sector_size (g.F.Flash.device c.args.flash.now).image c.loop-sector.found.items) all c.loop-sector.invariant.read

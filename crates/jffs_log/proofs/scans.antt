@@ -1,0 +1,9 @@
+-- What a scan finds, step by step.
+pub mod MountHistory
+pub mod MountedLog
+pub mod ScanFold
+pub mod ScanFound
+pub mod ScanIndex
+pub mod ScanLog
+pub mod ScanNumbers
+pub mod ScanSectors

@@ -1,0 +1,24 @@
+use Rattle.std.proofs.Common.{rules, ◌≡◌, suc, ◌+◌, ◌-◌, ◌/◌, length, arith}
+use Rattle.jffs_node.specs.declared.read.Read.TheVariants.{Closed}
+use Rattle.jffs_node.specs.Reading.{found}
+use Rattle.jffs_serve.proofs.Copying.{image_goes_on, image_ends}
+use Rattle.jffs_serve.proofs.copies.copies_in.Goals as goal
+
+pub loop-done-preserved : goal.loop-done-preserved
+loop-done-preserved c =
+    let n = c.in-Ok-Closed.node in
+    let len = c.in-Ok-Closed.len in
+    let max = c.unwrap_or-record_max.result in
+    let count = length c.args.image.now / 64 in
+    let is : Closed n len ≡ found max c.loop-done.rest.now = search rules in
+    let more : count - c.loop-done._done ≡ suc (count - (c.loop-done._done + 1)) = omega arith in
+    record { copies = image_goes_on _ _ _ _ max c.loop-done.rest.now c.after-rest.result.now n len _ _ is c.after-rest.ensures more c.keep_copy.ensures c.loop-done.invariant.copies }
+
+pub returns-after-loop-done : goal.returns-after-loop-done
+returns-after-loop-done c = image_ends _ _ (c.loop-done.invariant.copies _ tt)
+
+pub returns-in_default : goal.returns-in_default
+returns-in_default c = image_ends _ _ (c.loop-done.invariant.copies _ tt)
+
+pub returns-in_default-2 : goal.returns-in_default-2
+returns-in_default-2 c = image_ends _ _ (c.loop-done.invariant.copies _ tt)

@@ -145,9 +145,11 @@ pub(crate) enum Change<'a> {
 /// Why the program's words are no call.
 #[derive(Clone, Copy, Debug, Error)]
 pub(crate) enum CallFault<'a> {
-    #[error("a command is wanted: format, ls, cat, put, mkdir, mv, rm, df, check, map, save or load; --help tells more")]
+    #[error("a command is wanted: format, ls, cat, put, mkdir, mv, rm, df, check, map, save or \
+    load; --help tells more")]
     NoCommand,
-    #[error("unknown command '{0}'; commands are format, ls, cat, put, mkdir, mv, rm, df, check, map, save and load")]
+    #[error("unknown command '{0}'; commands are format, ls, cat, put, mkdir, mv, rm, df, check, \
+    map, save and load")]
     Command(&'a str),
     #[error("unknown option '{0}'; options are -l, -r, --svg, --sector-size, --help and --version")]
     Option(&'a str),

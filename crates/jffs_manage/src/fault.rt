@@ -47,7 +47,8 @@ pub enum VolumeFault {
     #[error("a directory stands at the path")]
     Directory,
     /// A file of a put that was cut off stands in the directory.
-    #[error("a put was cut off, and left what it had in the file '.put.new' beside the path: mv it or rm it")]
+    #[error("a put was cut off, and left what it had in the file '.put.new' beside the \
+    path: mv it or rm it")]
     Left,
     /// The path is one that an unfinished put has.
     #[error("the name '.put.new' is kept for puts that aren't finished")]

@@ -79,7 +79,8 @@ fn what_is_put_comes_back(rt: HostRuntime) -> Result<(), Fail> {
                 "put v.image /h",
                 "",
                 4,
-                "jffs_volume: v.image: /h: a put was cut off, and left what it had in the file '.put.new' beside the path: mv it or rm it\n",
+                "jffs_volume: v.image: /h: a put was cut off, and left what it had in the file \
+                '.put.new' beside the path: mv it or rm it\n",
             ),
             ("cat v.image /.put.new", "", 0, "second text"),
         ],

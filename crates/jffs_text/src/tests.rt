@@ -49,7 +49,15 @@ fn a_copied_tree_is_dumped_to_the_same_text(rt: HostRuntime) -> Result<(), Fail>
     let tree = grown(
         &rt,
         alloc,
-        "volume 8 1024\nwriter\nmkdir /a\ncreate /a/f\nrename /a /b\nmkdir /c\nrename /b/f /c/f\nwrite /c/f 2 6869\nremove /b",
+        "volume 8 1024\n\
+        writer\n\
+        mkdir /a\n\
+        create /a/f\n\
+        rename /a /b\n\
+        mkdir /c\n\
+        rename /b/f /c/f\n\
+        write /c/f 2 6869\n\
+        remove /b",
     )?;
     let copied = tree.copy_tree()?;
     let text = dumped(alloc, &tree)?;

@@ -110,7 +110,8 @@ fn a_path_that_is_wrong_changes_nothing(rt: HostRuntime) -> Result<(), Fail> {
             "df q.image --sector-size 4096",
             "",
             0,
-            "sectors 8 of 4096 bytes, 8 erased\nlive 0 bytes in records, room is sure below 12032\n",
+            "sectors 8 of 4096 bytes, 8 erased\n\
+            live 0 bytes in records, room is sure below 12032\n",
         )],
     )?;
     fs::remove_file(&rt, "q.image")?;

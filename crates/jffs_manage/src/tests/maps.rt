@@ -27,7 +27,8 @@ fn room_is_counted_by_records(rt: HostRuntime) -> Result<(), Fail> {
                 "df m.image",
                 "",
                 0,
-                "sectors 6 of 1024 bytes, 5 erased\nlive 200 bytes in records, room is sure below 1408\n",
+                "sectors 6 of 1024 bytes, 5 erased\n\
+                live 200 bytes in records, room is sure below 1408\n",
             ),
             (
                 "map m.image",
@@ -66,7 +67,8 @@ fn coloured_map(alloc: Global) -> Result<String, Fail> {
 fn picture_map(alloc: Global) -> Result<String, Fail> {
     let mut map = String::from_str(
         alloc,
-        "<svg xmlns=\"http://www.w3.org/2000/svg\" width=\"592\" height=\"128\" font-family=\"monospace\" font-size=\"12\">\n",
+        "<svg xmlns=\"http://www.w3.org/2000/svg\" width=\"592\" height=\"128\" \
+        font-family=\"monospace\" font-size=\"12\">\n",
     )?;
     for sector in 0u32..6 {
         let (top, line) = (sector * 16, sector * 16 + 12);

@@ -51,7 +51,8 @@ fn saves_a_tree<Rt: Abort + Files + AllocGlobal + Clone + Drop>(rt: &Rt) -> Resu
                 "save s.image saved",
                 "",
                 2,
-                "jffs_volume: s.image: saved: /empty: the host has something of that name already\n",
+                "jffs_volume: s.image: saved: /empty: the host has something of that name \
+                already\n",
             ),
         ],
     )?;
@@ -117,7 +118,8 @@ fn a_load_looks_at_all_names_first(rt: HostRuntime) -> Result<(), Fail> {
                 "load l.image loaded",
                 "",
                 2,
-                "jffs_volume: l.image: loaded: /b/with a blank: a name has a byte that is not allowed\n",
+                "jffs_volume: l.image: loaded: /b/with a blank: a name has a byte that is not \
+                allowed\n",
             ),
             ("ls l.image", "", 0, ""),
             ("check l.image", "", 0, "volume unclean, 0 records\n"),

@@ -12,12 +12,14 @@ fn each_word_that_is_wrong_has_its_line(rt: HostRuntime) -> Result<(), Fail> {
             (
                 "creat r.image",
                 2,
-                "unknown command 'creat'; commands are format, ls, cat, put, mkdir, mv, rm, df, check, map, save and load",
+                "unknown command 'creat'; commands are format, ls, cat, put, mkdir, mv, rm, df, \
+                check, map, save and load",
             ),
             (
                 "ls r.image --all",
                 2,
-                "unknown option '--all'; options are -l, -r, --svg, --sector-size, --help and --version",
+                "unknown option '--all'; options are -l, -r, --svg, --sector-size, --help and \
+                --version",
             ),
             ("cat r.image /f /g", 2, "unexpected word '/g'"),
             ("mv r.image /f", 2, "words are missing: mv FILE PATH PATH"),
@@ -90,12 +92,14 @@ fn each_command_wants_its_words(rt: HostRuntime) -> Result<(), Fail> {
             (
                 "--sector-size 1024",
                 2,
-                "a command is wanted: format, ls, cat, put, mkdir, mv, rm, df, check, map, save or load; --help tells more",
+                "a command is wanted: format, ls, cat, put, mkdir, mv, rm, df, check, map, save \
+                or load; --help tells more",
             ),
             (
                 "map -x a",
                 2,
-                "unknown option '-x'; options are -l, -r, --svg, --sector-size, --help and --version",
+                "unknown option '-x'; options are -l, -r, --svg, --sector-size, --help and \
+                --version",
             ),
             ("save a", 2, "words are missing: save FILE DIRECTORY"),
             ("load a", 2, "words are missing: load FILE DIRECTORY"),

@@ -64,7 +64,15 @@ fn a_gate_is_called_for_each_wish_once(rt: HostRuntime) -> Result<(), Fail> {
             numbers: AtomicU64::new(0),
         };
         let script = format!(in rt.alloc();
-            "volume 8 1024\nline {line}\nwriter\nmkdir /a\nmkdir /\nmkdir /b\nwriter\nmkdir /c\nmkdir /d\n"
+            "volume 8 1024\n\
+            line {line}\n\
+            writer\n\
+            mkdir /a\n\
+            mkdir /\n\
+            mkdir /b\n\
+            writer\n\
+            mkdir /c\n\
+            mkdir /d\n"
         )?;
         run_with(&rt, script.as_str(), &gate)?;
         assert_eq!(rt; gate.calls.load(Ordering::SeqCst), 5);

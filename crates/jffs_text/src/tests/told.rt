@@ -35,11 +35,13 @@ fn a_script_without_volume_is_told_of(rt: HostRuntime) -> Result<(), Fail> {
         ),
         (
             "\n#\n volume 8 1024",
-            "line 3: the first statement has to be 'volume S Z', got an empty word (a space too many)",
+            "line 3: the first statement has to be 'volume S Z', got an empty word (a space too \
+            many)",
         ),
         (
             "aaaaaaaaaaaaaaaaaaaaaaaaaaaaaaaaaaaaaaaaaaaaaaaaaaaaaaaaaaaa",
-            "line 1: the first statement has to be 'volume S Z', got 'aaaaaaaaaaaaaaaaaaaaaaaaaaaaaaaaaaaaaaaa..'",
+            "line 1: the first statement has to be 'volume S Z', got \
+            'aaaaaaaaaaaaaaaaaaaaaaaaaaaaaaaaaaaaaaaa..'",
         ),
     ] {
         tells(
@@ -168,15 +170,19 @@ fn a_statement_that_is_no_command_is_told_of(rt: HostRuntime) -> Result<(), Fail
         &[
             (
                 "creat /f",
-                "unknown command 'creat'; commands are mkdir, create, write, fill, truncate, rename and remove, and before them stand volume, line, cleaner, reader and writer",
+                "unknown command 'creat'; commands are mkdir, create, write, fill, truncate, \
+                rename and remove, and before them stand volume, line, cleaner, reader and \
+                writer",
             ),
             (
                 "remove /f ",
-                "a space too many: words stand one space apart, and none stands at an end of the line",
+                "a space too many: words stand one space apart, and none stands at an end of the \
+                line",
             ),
             (
                 " mkdir /a",
-                "a space too many: words stand one space apart, and none stands at an end of the line",
+                "a space too many: words stand one space apart, and none stands at an end of the \
+                line",
             ),
             ("volume 8 1024", "a second 'volume', where a script has one"),
         ],
@@ -225,7 +231,8 @@ fn hex_that_is_wrong_is_told_of(rt: HostRuntime) -> Result<(), Fail> {
             ),
             (
                 "write /f 0 6G",
-                "hex expected, got '6G': digits 0 to 9 and a to f, two for each byte, or '-' for no bytes",
+                "hex expected, got '6G': digits 0 to 9 and a to f, two for each byte, or '-' for \
+                no bytes",
             ),
         ],
     )

@@ -32,7 +32,14 @@ fn a_log_of_the_old_form_is_shown(rt: HostRuntime) -> Result<(), Fail> {
         &rt,
         &image,
         0,
-        "mounted clean\nnext 4 3\nsectors 0\nrecord 0 0 64 1 dead\nrecord 0 64 72 2 live\nrecord 0 136 64 3 dead\nd /\nf /f 5 68656c6c6f\n",
+        "mounted clean\n\
+        next 4 3\n\
+        sectors 0\n\
+        record 0 0 64 1 dead\n\
+        record 0 64 72 2 live\n\
+        record 0 136 64 3 dead\n\
+        d /\n\
+        f /f 5 68656c6c6f\n",
     )
 }
 
@@ -61,15 +68,30 @@ fn a_log_of_the_old_form_goes_on_in_the_new_one(rt: HostRuntime) -> Result<(), F
     let replay = replays_from(
         &rt,
         image,
-        "mount\nrequest 1 1 write /f 8 21\nrequest 1 2 truncate /f 12\nrequest 1 3 truncate /f 1048577\n",
-        "mounted clean next 4 3 | d / | f /f 5 68656c6c6f\nappended 2 4 at 200 ; erased 7 erases 0 weight 140 next 5 3\nappended 2 5 at 268 ; erased 7 erases 0 weight 204 next 6 3\nrefused FileLong ; erased 7 erases 0 weight 204 next 6 3\n",
+        "mount\n\
+        request 1 1 write /f 8 21\n\
+        request 1 2 truncate /f 12\n\
+        request 1 3 truncate /f 1048577\n",
+        "mounted clean next 4 3 | d / | f /f 5 68656c6c6f\n\
+        appended 2 4 at 200 ; erased 7 erases 0 weight 140 next 5 3\n\
+        appended 2 5 at 268 ; erased 7 erases 0 weight 204 next 6 3\n\
+        refused FileLong ; erased 7 erases 0 weight 204 next 6 3\n",
     )?;
     let image = replay.bytes()?.to_vec(rt.alloc())?;
     shows(
         &rt,
         &image,
         0,
-        "mounted unclean\nnext 6 3\nsectors 0\nrecord 0 0 64 1 dead\nrecord 0 64 72 2 live\nrecord 0 136 64 3 dead\nrecord 0 200 68 4 live\nrecord 0 268 64 5 live\nd /\nf /f 12 68656c6c6f00000021000000\n",
+        "mounted unclean\n\
+        next 6 3\n\
+        sectors 0\n\
+        record 0 0 64 1 dead\n\
+        record 0 64 72 2 live\n\
+        record 0 136 64 3 dead\n\
+        record 0 200 68 4 live\n\
+        record 0 268 64 5 live\n\
+        d /\n\
+        f /f 12 68656c6c6f00000021000000\n",
     )
 }
 
@@ -109,7 +131,15 @@ fn a_ring_is_shown_from_its_oldest_sector_on(rt: HostRuntime) -> Result<(), Fail
         &rt,
         &image,
         0,
-        "mounted clean\nnext 7 10\nsectors 5 0 1\nrecord 5 0 64 3 live\nrecord 0 0 64 5 live\nrecord 1 0 64 6 dead\nd /\nd /a\nd /b\n",
+        "mounted clean\n\
+        next 7 10\n\
+        sectors 5 0 1\n\
+        record 5 0 64 3 live\n\
+        record 0 0 64 5 live\n\
+        record 1 0 64 6 dead\n\
+        d /\n\
+        d /a\n\
+        d /b\n",
     )
 }
 

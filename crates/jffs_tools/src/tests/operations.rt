@@ -11,8 +11,22 @@ use std::test::Fail;
 fn an_erased_volume_is_closed_once(rt: HostRuntime) -> Result<(), Fail> {
     replays(
         &rt,
-        "flash 8 1024\nimage\nmount\nrequest 10 1 unmount\nimage\nmount\nrequest 10 1 unmount\nimage\n",
-        "ready\n7d2c7ac4888bfd75cd5f56e8d61f69595121183afc81556c876732fd3782c62f\nmounted unclean next 1 2 | d /\nclosed at 0 ; erased 7 erases 0 weight 0 next 2 2\n479391381a079cebb156c9e3a5edd6ee02a8987817e6466bcc0695f98f6fda8c\nmounted clean next 2 2 | d /\nclosed ; erased 7 erases 0 weight 0 next 2 2\n479391381a079cebb156c9e3a5edd6ee02a8987817e6466bcc0695f98f6fda8c\n",
+        "flash 8 1024\n\
+        image\n\
+        mount\n\
+        request 10 1 unmount\n\
+        image\n\
+        mount\n\
+        request 10 1 unmount\n\
+        image\n",
+        "ready\n\
+        7d2c7ac4888bfd75cd5f56e8d61f69595121183afc81556c876732fd3782c62f\n\
+        mounted unclean next 1 2 | d /\n\
+        closed at 0 ; erased 7 erases 0 weight 0 next 2 2\n\
+        479391381a079cebb156c9e3a5edd6ee02a8987817e6466bcc0695f98f6fda8c\n\
+        mounted clean next 2 2 | d /\n\
+        closed ; erased 7 erases 0 weight 0 next 2 2\n\
+        479391381a079cebb156c9e3a5edd6ee02a8987817e6466bcc0695f98f6fda8c\n",
     )
 }
 
@@ -20,8 +34,30 @@ fn an_erased_volume_is_closed_once(rt: HostRuntime) -> Result<(), Fail> {
 fn hostile_copies_are_refused(rt: HostRuntime) -> Result<(), Fail> {
     replays(
         &rt,
-        "flash 6 1024\nmount\nrequest 1 1 create /f\nrequest 1 2 write /f 0 68656c6c6f\nrequest 1 3 write /f 0 4a\nrequest 9 1 copy 2 1 f 0 68656c6c6f\nrequest 9 2 copy 2 1 g 0 4a656c6c6f\nrequest 9 3 copy 2 1 f 6 -\nrequest 9 4 copy 2 1 f 0 4a656c6c6f\nrequest 9 5 copy 1 1 f 0 -\nrequest 1 4 remove /f\nrequest 9 6 copy 4 1 f 0 4a656c6c6f\n",
-        "ready\nmounted unclean next 1 2 | d /\nappended 2 1 at 0 ; erased 5 erases 0 weight 64 next 2 3\nappended 2 2 at 64 ; erased 5 erases 0 weight 72 next 3 3\nappended 2 3 at 136 ; erased 5 erases 0 weight 140 next 4 3\nrefused Stale ; erased 5 erases 0 weight 140 next 4 3\nrefused Stale ; erased 5 erases 0 weight 140 next 4 3\nrefused Stale ; erased 5 erases 0 weight 140 next 4 3\ncopied 4 at 204 ; erased 5 erases 0 weight 72 next 5 3\nrefused NotNeeded ; erased 5 erases 0 weight 72 next 5 3\nappended 2 5 at 276 ; erased 5 erases 0 weight 0 next 6 3\nrefused NotNeeded ; erased 5 erases 0 weight 0 next 6 3\n",
+        "flash 6 1024\n\
+        mount\n\
+        request 1 1 create /f\n\
+        request 1 2 write /f 0 68656c6c6f\n\
+        request 1 3 write /f 0 4a\n\
+        request 9 1 copy 2 1 f 0 68656c6c6f\n\
+        request 9 2 copy 2 1 g 0 4a656c6c6f\n\
+        request 9 3 copy 2 1 f 6 -\n\
+        request 9 4 copy 2 1 f 0 4a656c6c6f\n\
+        request 9 5 copy 1 1 f 0 -\n\
+        request 1 4 remove /f\n\
+        request 9 6 copy 4 1 f 0 4a656c6c6f\n",
+        "ready\n\
+        mounted unclean next 1 2 | d /\n\
+        appended 2 1 at 0 ; erased 5 erases 0 weight 64 next 2 3\n\
+        appended 2 2 at 64 ; erased 5 erases 0 weight 72 next 3 3\n\
+        appended 2 3 at 136 ; erased 5 erases 0 weight 140 next 4 3\n\
+        refused Stale ; erased 5 erases 0 weight 140 next 4 3\n\
+        refused Stale ; erased 5 erases 0 weight 140 next 4 3\n\
+        refused Stale ; erased 5 erases 0 weight 140 next 4 3\n\
+        copied 4 at 204 ; erased 5 erases 0 weight 72 next 5 3\n\
+        refused NotNeeded ; erased 5 erases 0 weight 72 next 5 3\n\
+        appended 2 5 at 276 ; erased 5 erases 0 weight 0 next 6 3\n\
+        refused NotNeeded ; erased 5 erases 0 weight 0 next 6 3\n",
     )
 }
 
@@ -29,8 +65,26 @@ fn hostile_copies_are_refused(rt: HostRuntime) -> Result<(), Fail> {
 fn a_failed_core_tells_of_nothing_more(rt: HostRuntime) -> Result<(), Fail> {
     replays(
         &rt,
-        "flash 6 1024\nfuse 3 Writes Nothing\nmount\nrequest 1 1 create /a\nrequest 1 2 create /b\nrequest 1 3 create /c\nclean_oldest\nerase_dead\nmount\nrequest 1 1 create /c\n",
-        "ready\nready\nmounted unclean next 1 2 | d /\nappended 2 1 at 0 ; erased 5 erases 0 weight 64 next 2 3\nrefused Device\nrefused Failed\nrefused Failed\nrefused Failed\nmounted unclean next 2 3 | d / | f /a 0 -\nappended 3 2 at 1024 ; erased 4 erases 0 weight 128 next 3 4\n",
+        "flash 6 1024\n\
+        fuse 3 Writes Nothing\n\
+        mount\n\
+        request 1 1 create /a\n\
+        request 1 2 create /b\n\
+        request 1 3 create /c\n\
+        clean_oldest\n\
+        erase_dead\n\
+        mount\n\
+        request 1 1 create /c\n",
+        "ready\n\
+        ready\n\
+        mounted unclean next 1 2 | d /\n\
+        appended 2 1 at 0 ; erased 5 erases 0 weight 64 next 2 3\n\
+        refused Device\n\
+        refused Failed\n\
+        refused Failed\n\
+        refused Failed\n\
+        mounted unclean next 2 3 | d / | f /a 0 -\n\
+        appended 3 2 at 1024 ; erased 4 erases 0 weight 128 next 3 4\n",
     )
 }
 
@@ -38,8 +92,22 @@ fn a_failed_core_tells_of_nothing_more(rt: HostRuntime) -> Result<(), Fail> {
 fn half_a_record_does_not_count(rt: HostRuntime) -> Result<(), Fail> {
     replays(
         &rt,
-        "fuse 1 Writes Half\nflash 6 1024\nmount\nrequest 1 1 create /a\nmount\nrequest 1 1 create /c\nerase_dead\nclean_oldest\n",
-        "ready\nready\nmounted unclean next 1 2 | d /\nrefused Device\nmounted unclean next 1 2 | d /\nappended 2 1 at 1024 ; erased 4 erases 0 weight 64 next 2 3\nerased 1 ; erased 5 erases 1 weight 64 next 2 3\none sector ; erased 5 erases 1 weight 64 next 2 3\n",
+        "fuse 1 Writes Half\n\
+        flash 6 1024\n\
+        mount\n\
+        request 1 1 create /a\n\
+        mount\n\
+        request 1 1 create /c\n\
+        erase_dead\n\
+        clean_oldest\n",
+        "ready\n\
+        ready\n\
+        mounted unclean next 1 2 | d /\n\
+        refused Device\n\
+        mounted unclean next 1 2 | d /\n\
+        appended 2 1 at 1024 ; erased 4 erases 0 weight 64 next 2 3\n\
+        erased 1 ; erased 5 erases 1 weight 64 next 2 3\n\
+        one sector ; erased 5 erases 1 weight 64 next 2 3\n",
     )
 }
 
@@ -62,7 +130,10 @@ fn spent_numbers_are_none(rt: HostRuntime) -> Result<(), Fail> {
         &rt,
         image_of(rt.alloc(), &[&[last]], 6)?,
         "mount\nrequest 1 1 create /x\nrequest 1 2 mkdir /a\nrequest 10 1 unmount\n",
-        "mounted unclean next none 3 | d / | d /a\nrefused VersionsSpent ; erased 5 erases 0 weight 64 next none 3\nrefused NameTaken ; erased 5 erases 0 weight 64 next none 3\nrefused VersionsSpent ; erased 5 erases 0 weight 64 next none 3\n",
+        "mounted unclean next none 3 | d / | d /a\n\
+        refused VersionsSpent ; erased 5 erases 0 weight 64 next none 3\n\
+        refused NameTaken ; erased 5 erases 0 weight 64 next none 3\n\
+        refused VersionsSpent ; erased 5 erases 0 weight 64 next none 3\n",
     )?;
     let highest = Record {
         inode: u32::MAX,
@@ -72,7 +143,9 @@ fn spent_numbers_are_none(rt: HostRuntime) -> Result<(), Fail> {
         &rt,
         image_of(rt.alloc(), &[&[highest]], 6)?,
         "mount\nrequest 1 1 create /x\nrequest 1 2 rename /f /x\n",
-        "mounted unclean next 2 none | d / | f /f 0 -\nrefused InodesSpent ; erased 5 erases 0 weight 64 next 2 none\nappended 4294967295 2 at 64 ; erased 5 erases 0 weight 64 next 3 none\n",
+        "mounted unclean next 2 none | d / | f /f 0 -\n\
+        refused InodesSpent ; erased 5 erases 0 weight 64 next 2 none\n\
+        appended 4294967295 2 at 64 ; erased 5 erases 0 weight 64 next 3 none\n",
     )?;
     Ok(())
 }
@@ -87,7 +160,8 @@ fn the_last_version_is_counted(rt: HostRuntime) -> Result<(), Fail> {
         &rt,
         image_of(rt.alloc(), &[&[last]], 6)?,
         "mount\nrequest 10 1 unmount\n",
-        "mounted unclean next 4294967295 3 | d / | d /a\nclosed at 64 ; erased 5 erases 0 weight 64 next none 3\n",
+        "mounted unclean next 4294967295 3 | d / | d /a\n\
+        closed at 64 ; erased 5 erases 0 weight 64 next none 3\n",
     )?;
     Ok(())
 }
@@ -123,7 +197,8 @@ fn what_is_no_operation_stops_a_replay(rt: HostRuntime) -> Result<(), Fail> {
             ("flash 6 1k", "number expected, got '1k'"),
             (
                 "frobnicate",
-                "unknown operation 'frobnicate'; operations are flash, image, fuse, mount, request, clean_oldest and erase_dead",
+                "unknown operation 'frobnicate'; operations are flash, image, fuse, mount, \
+                request, clean_oldest and erase_dead",
             ),
             ("mount now", "unexpected word 'now': mount"),
             (
@@ -171,7 +246,8 @@ fn what_is_no_request_stops_a_replay(rt: HostRuntime) -> Result<(), Fail> {
             ),
             (
                 "request 1 1 writer",
-                "unknown command 'writer'; commands are mkdir, create, write, fill, truncate, rename, remove, copy and unmount",
+                "unknown command 'writer'; commands are mkdir, create, write, fill, truncate, \
+                rename, remove, copy and unmount",
             ),
         ],
     )

@@ -57,8 +57,22 @@ fn an_image_is_read_no_further_than_one_byte_after_it(rt: HostRuntime) -> Result
 fn flash_larger_than_any_volume_takes_no_memory(rt: HostRuntime) -> Result<(), Fail> {
     replays(
         &rt,
-        "flash 60000 16384\nmount\nflash 4294967295 4294967295\nmount\nimage /dev/zero 60000 16384\nmount\nflash 65 1024\nmount\n",
-        "ready\nrefused Geometry\nready\nrefused Geometry\nready\nrefused Geometry\nready\nrefused Geometry\n",
+        "flash 60000 16384\n\
+        mount\n\
+        flash 4294967295 4294967295\n\
+        mount\n\
+        image /dev/zero 60000 16384\n\
+        mount\n\
+        flash 65 1024\n\
+        mount\n",
+        "ready\n\
+        refused Geometry\n\
+        ready\n\
+        refused Geometry\n\
+        ready\n\
+        refused Geometry\n\
+        ready\n\
+        refused Geometry\n",
     )?;
     let digest = replayed(&rt, "flash 60000 16384\nimage\n", 2)?;
     assert_eq!(rt; digest.as_str(), "ready\n");
@@ -122,7 +136,8 @@ fn a_fault_of_a_stream_is_named(rt: HostRuntime) -> Result<(), Fail> {
         (
             ErrorKind::BrokenPipe,
             "jffs_image: standard input can't be read\n",
-            "jffs_replay: line 1: standard output can't be written\njffs_replay: standard output can't be written\n",
+            "jffs_replay: line 1: standard output can't be written\n\
+            jffs_replay: standard output can't be written\n",
         ),
         (
             ErrorKind::OutOfMemory,

@@ -10,6 +10,7 @@ use Rattle.jffs_line.specs.declared.request.Request.{Request}
 use Rattle.jffs_line.specs.Requests.{of, IsNumbered}
 use Rattle.jffs_line.specs.declared.hand.Hand as Hand
 use Rattle.jffs_line.specs.declared.hand.Hands.{Hands}
+use Rattle.jffs_line.specs.Settling.{all_hands}
 use Rattle.jffs_line.proofs.Lists.{All-left, All-right}
 use Rattle.jffs_core.specs.CoreState.{CoreState}
 use Rattle.jffs_tree.specs.Origin.{Tree}
@@ -29,7 +30,7 @@ use Rattle.jffs_text.specs.declared.script.Writer.{Writer}
 use Rattle.jffs_text.specs.declared.script.ReaderStatement.{ReaderStatement}
 use Rattle.jffs_run.specs.declared.reader.ReaderEnd.{ReaderEnd}
 use Rattle.jffs_run.specs.declared.crew.Crew.{Crew}
-use Rattle.jffs_run.specs.Ends.{end_of, all_hands}
+use Rattle.jffs_run.specs.Ends.{end_of}
 use Rattle.jffs_run.specs.Crew.{HasHandedIn, crew_hands}
 use Rattle.jffs_run.specs.Looking.{HaveSeen, IsWhole}
 use Rattle.jffs_flash.specs.Device.{Device}
@@ -54,7 +55,7 @@ module _ {H : Type 0} (g : Hand.Ghosts H) where
       omega arith
 
   -- no hand of a new line handed anything in
-  pub new_hands : (hands : Hands H) → All (λ hand. g.accepted hand ≡ []) (all_hands g hands) → All (λ hand. g.accepted hand ≡ []) hands.writers.items × (g.accepted hands.cleaner ≡ []) × (g.accepted hands.control.hand ≡ [])
+  pub new_hands : (hands : Hands H) → All (λ hand. g.accepted hand ≡ []) (all_hands hands) → All (λ hand. g.accepted hand ≡ []) hands.writers.items × (g.accepted hands.cleaner ≡ []) × (g.accepted hands.control.hand ≡ [])
   new_hands hands fresh =
       let P : H → Type 0 = λ hand. g.accepted hand ≡ [] in
       let tail = All-right P hands.writers.items (hands.cleaner ∷ hands.control.hand ∷ []) fresh in (
@@ -72,9 +73,9 @@ module _ {H : Type 0} (g : Hand.Ghosts H) where
       → HasHandedIn g script crew hands
       → ((w : ℕ) → start.taken w ≡ []) → start.core.answers ≡ [] → start.put ≡ [] → published.opening ≡ start.core.tree
       → HasReplied start core unsent (published.steps ++ pending) taken replies
-      → All (λ hand. taken (g.sender hand) ++ of (g.sender hand) waiting ≡ g.accepted hand) (all_hands g hands)
-      → All (λ hand. IsNumbered (g.accepted hand)) (all_hands g hands)
-      → ((w : ℕ) → (Contains (map g.sender (all_hands g hands)) w → ⊥) → taken w ++ of w waiting ≡ [])
+      → All (λ hand. taken (g.sender hand) ++ of (g.sender hand) waiting ≡ g.accepted hand) (all_hands hands)
+      → All (λ hand. IsNumbered (g.accepted hand)) (all_hands hands)
+      → ((w : ℕ) → (Contains (map g.sender (all_hands hands)) w → ⊥) → taken w ++ of w waiting ≡ [])
       → ((history : History) → IsWhole published (length core.answers) history → HaveSeen history statements ends)
       → IsLeftBy core device
       → FitsServed served core.closed replies
@@ -82,7 +83,7 @@ module _ {H : Type 0} (g : Hand.Ghosts H) where
   whole_run script statements crew hands core unsent published pending start taken replies waiting ends served device eight numbers handed untaken unanswered unput_before opened_is has settled numbered others seen left ending =
       let answers_are : core.answers ≡ map answer_in replies = has.answered ∙ ap (λ (l : List Answer). l ++ map answer_in replies) unanswered in
       let taken_is : (w : ℕ) → taken w ≡ of w (requests_in replies) = λ w. has.all_taken w ∙ ap (λ (l : List Request). l ++ of w (requests_in replies)) (untaken w) in
-      let now = same_senders (all_hands g hands) (crew_hands g crew) handed.ends ∙ numbers in
+      let now = same_senders (all_hands hands) (crew_hands g crew) handed.ends ∙ numbers in
       let steps : List Step = map (λ (r : Reply). r.step) replies in
       let history : History = record { opening = start.core.tree; steps = steps } in
       let put : published.steps ++ (pending ++ unput unsent) ≡ steps =
@@ -97,7 +98,7 @@ module _ {H : Type 0} (g : Hand.Ghosts H) where
       (is_run g start.core core script statements hands replies waiting ends served device eight
       (count_writers hands.writers.items hands.cleaner hands.control.hand (length script) now) now
       handed.first handed.whole handed.cleaner handed.control has.reply
-      (λ k d below. let w : ℕ = g.sender (get_or (all_hands g hands) k d) in ap (λ (l : List Request). l ++ of w waiting) (sym (taken_is w)) ∙ settled k d below)
+      (λ k d below. let w : ℕ = g.sender (get_or (all_hands hands) k d) in ap (λ (l : List Request). l ++ of w waiting) (sym (taken_is w)) ∙ settled k d below)
       numbered
       (λ w none. ap (λ (l : List Request). l ++ of w waiting) (sym (taken_is w)) ∙ others w none)
       (seen history whole) has.sizes has.erases left has.lawful

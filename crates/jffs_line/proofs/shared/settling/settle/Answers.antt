@@ -1,8 +1,8 @@
 use Rattle.std.specs.Prelude.{slice_index_or}
-use Rattle.jffs_line.specs.Shared.{all_hands}
 use Rattle.jffs_line.proofs.Steps.{merges}
 use Rattle.jffs_line.proofs.Settling.{writers_here, cleaner_seat, taker_seat, seat_back, all_settled, others_settled}
 use Rattle.jffs_line.specs.Numbered.{shared_numbered}
+use Rattle.jffs_line.specs.Settling.{all_hands}
 use Rattle.jffs_line.proofs.shared.settling.settle.Goals as goal
 
 pub give_all_back-requires-clause-seat : goal.give_all_back-requires-clause-seat

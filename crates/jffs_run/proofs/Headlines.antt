@@ -14,6 +14,7 @@ use Rattle.jffs_line.specs.declared.hand.Hands.{Hands}
 use Rattle.jffs_line.specs.Settling.{all_hands}
 use Rattle.jffs_serve.specs.declared.session.Served.{Served}
 use Rattle.jffs_serve.specs.Replies.{Reply, AllReply, answer_in, any_closed, FitsServed}
+use Rattle.jffs_serve.specs.Stopping.{StopsAtFirst}
 use Rattle.jffs_text.specs.declared.script.Writer.{Writer}
 use Rattle.jffs_text.specs.declared.script.ReaderStatement.{ReaderStatement}
 use Rattle.jffs_run.specs.declared.reader.ReaderEnd.{ReaderEnd}
@@ -199,9 +200,9 @@ module _ {H : Type 0} (g : Hand.Ghosts H) where
       → HaveSeen (record { opening = start.tree; steps = map (λ (r : Reply). r.step) replies }) statements ends
       → HasSizes start.index.sectors start.index.sector_size core.index → ErasesSince start (length replies) core
       → IsLeftBy core device → ((mounted past : List Node) → Represents mounted past start → RunsTo start core mounted past replies)
-      → FitsServed served (any_closed (map answer_in replies)) replies
+      → FitsServed served (any_closed (map answer_in replies)) replies → StopsAtFirst replies
       → IsRun start (account_with script statements hands (map answer_in replies) waiting ends served device)
-  is_run start core script statements hands replies waiting ends served device eight count numbers first whole copies unmounts replied settled counted others seen sizes erases left lawful ending =
+  is_run start core script statements hands replies waiting ends served device eight count numbers first whole copies unmounts replied settled counted others seen sizes erases left lawful ending stops =
       let writers : List H = hands.writers.items in
       let tail : List H = hands.cleaner ∷ hands.control.hand ∷ [] in
       let accepted : ℕ → List Request = λ sender. accepted_by g sender (writers ++ tail) in
@@ -223,6 +224,7 @@ module _ {H : Type 0} (g : Hand.Ghosts H) where
       record {
         seen = seen;
         ending = ending;
+        stops = stops;
         core = core;
         left = left;
         sizes = sizes;

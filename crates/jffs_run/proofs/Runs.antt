@@ -24,6 +24,7 @@ use Rattle.jffs_serve.specs.declared.session.PendingStep.{PendingStep}
 use Rattle.jffs_serve.specs.PendingStep.{unput}
 use Rattle.jffs_serve.specs.declared.session.Served.{Served}
 use Rattle.jffs_serve.specs.Replies.{Reply, answer_in, any_closed, FitsServed}
+use Rattle.jffs_serve.specs.Stopping.{StopsAtFirst}
 use Rattle.jffs_serve.specs.Answered.{Start, HasReplied}
 use Rattle.jffs_core.specs.declared.answer.Answer.{Answer}
 use Rattle.jffs_text.specs.declared.script.Writer.{Writer}
@@ -78,9 +79,9 @@ module _ {H : Type 0} (g : Hand.Ghosts H) where
       → ((w : ℕ) → (Contains (map g.sender (all_hands hands)) w → ⊥) → taken w ++ of w waiting ≡ [])
       → ((history : History) → IsWhole published (length core.answers) history → HaveSeen history statements ends)
       → IsLeftBy core device
-      → FitsServed served core.closed replies
+      → FitsServed served core.closed replies → StopsAtFirst replies
       → IsRun start.core (account_with g script statements hands core.answers waiting ends served device)
-  whole_run script statements crew hands core unsent published pending start taken replies waiting ends served device eight numbers handed untaken unanswered unput_before opened_is has settled numbered others seen left ending =
+  whole_run script statements crew hands core unsent published pending start taken replies waiting ends served device eight numbers handed untaken unanswered unput_before opened_is has settled numbered others seen left ending stops =
       let answers_are : core.answers ≡ map answer_in replies = has.answered ∙ ap (λ (l : List Answer). l ++ map answer_in replies) unanswered in
       let taken_is : (w : ℕ) → taken w ≡ of w (requests_in replies) = λ w. has.all_taken w ∙ ap (λ (l : List Request). l ++ of w (requests_in replies)) (untaken w) in
       let now = same_senders (all_hands hands) (crew_hands g crew) handed.ends ∙ numbers in
@@ -102,4 +103,4 @@ module _ {H : Type 0} (g : Hand.Ghosts H) where
       numbered
       (λ w none. ap (λ (l : List Request). l ++ of w waiting) (sym (taken_is w)) ∙ others w none)
       (seen history whole) has.sizes has.erases left has.lawful
-      (subst (λ (closed : Bool). FitsServed served closed replies) (has.closed ∙ ap any_closed answers_are) ending))
+      (subst (λ (closed : Bool). FitsServed served closed replies) (has.closed ∙ ap any_closed answers_are) ending) stops)

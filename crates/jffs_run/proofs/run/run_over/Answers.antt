@@ -8,6 +8,9 @@ use Rattle.jffs_index.specs.Ends.{published, pending, all_put}
 use Rattle.jffs_serve.specs.declared.session.PendingStep.{PendingStep}
 use Rattle.jffs_serve.specs.Replies.{any_closed}
 use Rattle.jffs_serve.specs.Answered.{Start, HasReplied}
+use Rattle.jffs_serve.specs.declared.session.Unmounted.{Unmounted}
+use Rattle.jffs_serve.specs.Stopping.{StopsAt, StopsAtFirst}
+use Rattle.jffs_serve.proofs.Stopping.{nothing_owed}
 use Rattle.jffs_serve.proofs.Replying.{nothing_replied}
 use Rattle.jffs_serve.proofs.Showing.{can_begin}
 use Rattle.jffs_run.proofs.Runs.{whole_run, new_hands, count_writers}
@@ -52,6 +55,9 @@ returns-clause-run g c =
     let closed = subst (λ (s : CoreState). s.closed ≡ any_closed s.answers) (sym c.new.ensures.core) (c.requires.core.1 ∙ sym (ap any_closed c.requires.core.0)) in
     let beginning = subst (λ (k : Option PendingStep). HasReplied start before k put taken []) (sym c.new.ensures.unsent) (nothing_replied before put taken closed) in
     let more = ran.served.replies start [] beginning in
+    let opened_then = ap (λ (s : CoreState). s.closed) c.new.ensures.core ∙ c.requires.core.1 in
+    let owes = nothing_owed c.new.result.core c.new.result.unsent c.new.ensures.unsent opened_then in
+    let stops : StopsAtFirst more.0 = (_, subst (λ (from : Option Unmounted). StopsAt from more.0 _) owes more.3) in
     let opened = c.in-Ok.ensures.published in
     let count : vec_len script.writers ≡ length script.writers.items = let ok = script.writers.ok in omega arith in
     let run = whole_run g.T.Of.Hand script.writers.items script.readers.items _ finished.hands
@@ -61,7 +67,7 @@ returns-clause-run g c =
     line.untaken (ap (λ (s : CoreState). s.answers) c.new.ensures.core ∙ c.requires.core.0)
     (ap₂ (λ (h : History) (s : List Step). h.steps ++ s) opened.0 opened.1)
     (ran.served.opening ∙ (ap (λ (h : History). h.opening) opened.0 ∙ sym (ap (λ (s : CoreState). s.tree) c.new.ensures.core)))
-    more.1 settled.settled.each settled.settled.numbered settled.settled.others ran.readers settled.left more.2 in
+    more.1 settled.settled.each settled.settled.numbered settled.settled.others ran.readers settled.left more.2 stops in
     rw (← c.new.ensures.core, c.of-accepted.ensures, settled.rest.0, settled.rest.1, settled.rest.2) run
 
 pub returns-in-Err-clause-fault : goal.returns-in-Err-clause-fault

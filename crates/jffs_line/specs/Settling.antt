@@ -1,5 +1,5 @@
 -- All hands of a line, and what comes back where all its ends are taken back.
-use Rattle.std.specs.Prelude.{◌≡◌, ℕ, ⊥, List, [], ◌∷◌, ◌++◌, map, Contains}
+use Rattle.std.specs.Prelude.{◌≡◌, ℕ, List, [], ◌∷◌, ◌++◌, map, Contains}
 use Rattle.std.specs.List.{All}
 use Rattle.jffs_line.specs.declared.request.Request.{Request}
 use Rattle.jffs_line.specs.declared.hand.Hands.{Hands}

@@ -1,7 +1,7 @@
 //! Which wishes a gate is called for, and what a cleaner does while a gate holds a writer up.
 
 use crate::{Gate, Run, run_threads};
-use jffs_flash::MemoryFlash;
+use jffs_flash::{Flash, FlashFault, MemoryFlash};
 use jffs_line::CLEANER;
 use jffs_text::Script;
 use std::alloc::Global;
@@ -15,12 +15,25 @@ use std::time::{Clock, Duration};
 /// How long a writer is held up before each wish.
 const NAP_MILLIS: u64 = 10;
 
+/// How often a device that waits for a writer looks for it.
+const TURNS_MAX: u32 = 1_000_000;
+
 /// Counts its calls, and adds up what it is called with.
 #[derive(Drop)]
 struct Counting {
     calls: AtomicU64,
     writers: AtomicU64,
     numbers: AtomicU64,
+}
+
+impl Counting {
+    fn new() -> Counting {
+        Counting {
+            calls: AtomicU64::new(0),
+            writers: AtomicU64::new(0),
+            numbers: AtomicU64::new(0),
+        }
+    }
 }
 
 impl Gate for Counting {
@@ -58,11 +71,7 @@ fn run_with<Rt: AllocGlobal + Threads + Wait + Sync, G: Gate + Sync>(
 #[test]
 fn a_gate_is_called_for_each_wish_once(rt: HostRuntime) -> Result<(), Fail> {
     for line in ["shared 1", "rings 4"] {
-        let gate = Counting {
-            calls: AtomicU64::new(0),
-            writers: AtomicU64::new(0),
-            numbers: AtomicU64::new(0),
-        };
+        let gate = Counting::new();
         let script = format!(in rt.alloc();
             "volume 8 1024\n\
             line {line}\n\
@@ -99,5 +108,80 @@ fn the_cleaner_of_a_script_hands_in_copies(rt: HostRuntime) -> Result<(), Fail> 
     let run = run_with(&rt, script.as_str(), &Napping { rt: &rt })?;
     let mut answers = run.answers.iter();
     assert!(rt; answers.any(|answer| answer.writer == CLEANER));
+    Ok(())
+}
+
+/// Memory flash whose first write waits until a gate was called so often, and notes how often it
+/// was.
+#[derive(Drop)]
+struct Held<'a> {
+    inner: MemoryFlash,
+    gate: &'a Counting,
+    wanted: u64,
+    noted: &'a AtomicU64,
+}
+
+impl<'a> Flash for Held<'a> {
+    ghost use Rattle.jffs_flash.specs.Device.{device_of};
+
+    ghost device = { λ h. device_of h.inner.sectors h.inner.sector_size h.inner.image };
+
+    fn sectors(&self) -> u32 {
+        self.inner.sectors()
+    }
+
+    fn sector_size(&self) -> u32 {
+        self.inner.sector_size()
+    }
+
+    fn faults(&self) -> u64 {
+        self.inner.faults()
+    }
+
+    fn read(&mut self, at: u32, buffer: &mut [u8]) -> Result<(), FlashFault> {
+        self.inner.read(at, buffer)
+    }
+
+    fn program(&mut self, at: u32, bytes: &[u8]) -> Result<(), FlashFault> {
+        if self.noted.load(Ordering::SeqCst) == 0 {
+            for _ in 0..TURNS_MAX {
+                if self.gate.calls.load(Ordering::SeqCst) >= self.wanted {
+                    break;
+                }
+                thread::yield_now();
+            }
+            self.noted.store(self.gate.calls.load(Ordering::SeqCst), Ordering::SeqCst);
+        }
+        self.inner.program(at, bytes)
+    }
+
+    fn erase(&mut self, sector: u32) -> Result<(), FlashFault> {
+        self.inner.erase(sector)
+    }
+}
+
+/// While the log thread stands in the write of a writer's first node, four more of its wishes wait
+/// on a line of capacity 4, and the sixth finds no place.
+#[test]
+fn a_line_has_the_capacity_of_its_script(rt: HostRuntime) -> Result<(), Fail> {
+    let alloc = rt.alloc();
+    for line in ["shared 4", "rings 4"] {
+        let gate = Counting::new();
+        let noted = AtomicU64::new(0);
+        let script = format!(in alloc;
+            "volume 8 1024\nline {line}\nwriter\n\
+            mkdir /a\nmkdir /b\nmkdir /c\nmkdir /d\nmkdir /e\nmkdir /f\nmkdir /g\nmkdir /h\n"
+        )?;
+        let script = Script::parse(alloc, script.as_bytes())?;
+        let flash = Held {
+            inner: MemoryFlash::new(alloc, script.sectors, script.sector_size)?,
+            gate: &gate,
+            wanted: 6,
+            noted: &noted,
+        };
+        let run = run_threads(&rt, alloc, &script, flash, &gate).map_err(|fault| fault.why)?;
+        assert_eq!(rt; run.answers.len(), 9);
+        assert_eq!(rt; noted.load(Ordering::SeqCst), 6);
+    }
     Ok(())
 }

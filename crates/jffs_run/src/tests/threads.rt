@@ -78,7 +78,6 @@ fn eight_writers_at_once(rt: HostRuntime) -> Result<(), Fail> {
     meet(&rt, "rings 1", 8)
 }
 
-/// Sectors 0 and 2 are written and all others erased: no ring begins there.
 /// The record of a new file `f`.
 const RECORD: [u8; 64] = [
     0x4A, 0x46, 0x46, 0x31, 1, 0, 1, 0, 0, 0, 0, 2, 0, 0, 0, 1, 0, 0, 0, 1, 0, 0, 0, 0, 0, 0, 0, 0,
@@ -86,7 +85,7 @@ const RECORD: [u8; 64] = [
     0, 0, 0, 0, 0,
 ];
 
-/// 8 sectors of 1024 bytes, with records in sectors 0 and 2 alone.
+/// 8 sectors of 1024 bytes, with records in sectors 0 and 2 alone: no ring begins there.
 fn scattered(alloc: Global) -> Result<Vec<u8>, AllocError>
     ensures { IfOk result (λ image. length image.items ≡ 8192) }
 {

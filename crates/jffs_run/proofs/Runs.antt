@@ -1,5 +1,5 @@
 -- Lemmas that put a run together.
-use Rattle.std.proofs.Common.{◌≡◌, ◌≤◌, ℕ, Bool, ◌+◌, List, [], ◌∷◌, ◌++◌, length, map, sym, ◌∙◌, ap, ap₂, subst, arith, append_assoc, length-append, get_or, Option}
+use Rattle.std.proofs.Common.{◌≡◌, ◌≤◌, ℕ, ◌+◌, List, [], ◌∷◌, ◌++◌, length, map, sym, ◌∙◌, ap, ap₂, subst, arith, append_assoc, length-append, get_or, Option, None, Some}
 use Rattle.std.specs.List.{All, Contains, range_with_len}
 use Rattle.std.proofs.lemmas.List.{length-map}
 use Rattle.std.proofs.lemmas.List.FromFn.{length-range_with_len}
@@ -23,8 +23,9 @@ use Rattle.jffs_index.proofs.Kept.{answered-fold}
 use Rattle.jffs_serve.specs.declared.session.PendingStep.{PendingStep}
 use Rattle.jffs_serve.specs.PendingStep.{unput}
 use Rattle.jffs_serve.specs.declared.session.Served.{Served}
-use Rattle.jffs_serve.specs.Replies.{Reply, answer_in, any_closed, FitsServed}
-use Rattle.jffs_serve.specs.Stopping.{StopsAtFirst}
+use Rattle.jffs_serve.specs.Replies.{Reply, answer_in}
+use Rattle.jffs_serve.specs.Stopping.{ending_in, StopsAt}
+use Rattle.jffs_serve.proofs.Stopping.{stopped_in_order, stopped_fits_served}
 use Rattle.jffs_serve.specs.Answered.{Start, HasReplied}
 use Rattle.jffs_core.specs.declared.answer.Answer.{Answer}
 use Rattle.jffs_text.specs.declared.script.Writer.{Writer}
@@ -79,9 +80,9 @@ module _ {H : Type 0} (g : Hand.Ghosts H) where
       → ((w : ℕ) → (Contains (map g.sender (all_hands hands)) w → ⊥) → taken w ++ of w waiting ≡ [])
       → ((history : History) → IsWhole published (length core.answers) history → HaveSeen history statements ends)
       → IsLeftBy core device
-      → FitsServed served core.closed replies → StopsAtFirst replies
+      → StopsAt None replies (ending_in (Some served) core unsent)
       → IsRun start.core (account_with g script statements hands core.answers waiting ends served device)
-  whole_run script statements crew hands core unsent published pending start taken replies waiting ends served device eight numbers handed untaken unanswered unput_before opened_is has settled numbered others seen left ending stops =
+  whole_run script statements crew hands core unsent published pending start taken replies waiting ends served device eight numbers handed untaken unanswered unput_before opened_is has settled numbered others seen left stops =
       let answers_are : core.answers ≡ map answer_in replies = has.answered ∙ ap (λ (l : List Answer). l ++ map answer_in replies) unanswered in
       let taken_is : (w : ℕ) → taken w ≡ of w (requests_in replies) = λ w. has.all_taken w ∙ ap (λ (l : List Request). l ++ of w (requests_in replies)) (untaken w) in
       let now = same_senders (all_hands hands) (crew_hands g crew) handed.ends ∙ numbers in
@@ -98,9 +99,9 @@ module _ {H : Type 0} (g : Hand.Ghosts H) where
       subst (λ (answers : List Answer). IsRun start.core (account_with g script statements hands answers waiting ends served device)) (sym answers_are)
       (is_run g start.core core script statements hands replies waiting ends served device eight
       (count_writers hands.writers.items hands.cleaner hands.control.hand (length script) now) now
-      handed.first handed.whole handed.cleaner handed.control has.reply
+      handed.first handed.whole handed.cleaner handed.control (stopped_in_order replies _ stops has.reply)
       (λ k d below. let w : ℕ = g.sender (get_or (all_hands hands) k d) in ap (λ (l : List Request). l ++ of w waiting) (sym (taken_is w)) ∙ settled k d below)
       numbered
       (λ w none. ap (λ (l : List Request). l ++ of w waiting) (sym (taken_is w)) ∙ others w none)
       (seen history whole) has.sizes has.erases left has.lawful
-      (subst (λ (closed : Bool). FitsServed served closed replies) (has.closed ∙ ap any_closed answers_are) ending) stops)
+      (stopped_fits_served served replies core unsent stops) (_, stops))

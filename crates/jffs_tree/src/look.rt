@@ -127,6 +127,18 @@ impl Tree {
         self.marks.least(first, last)
     }
 
+    /// The least live version from `first` on, and the least inode that it lives in; `None` if none
+    /// is. Takes no memory.
+    pub fn next_live(&self, first: u32) -> Option<(u32, u32)>
+        ensures live { IfSome result
+            (λ p. (first ≤ p.0) × (holds_version self.now p.1 p.0 ≡ true)) }
+        ensures least { IfSome result
+            (λ p. (w i : ℕ) → first ≤ w → w < p.0 → holds_version self.now i w ≡ false) }
+        ensures none { IfNone result ((v i : ℕ) → first ≤ v → holds_version self.now i v ≡ false) }
+    {
+        self.marks.next(first)
+    }
+
     /// Whether a version of that range, with both its ends, is live. Takes no memory.
     pub fn any_live(&self, first: u32, last: u32) -> bool
         ensures held { result ≡ any_live_in self.now first last }

@@ -1,7 +1,7 @@
 //! The tree.
 
-ghost use Rattle.std.specs.Prelude.{◌≡◌, ◌+◌, ◌≤◌, ℕ, ◌∷◌, [], List, true, false, Some, IsSome, IsTrue};
-ghost use Rattle.std.specs.Prelude.{OnOk, OnErr, IfErr, is_some, option_map};
+ghost use Rattle.std.specs.Prelude.{◌≡◌, ◌+◌, ◌≤◌, ℕ, ◌∷◌, [], List, true, false, Some, None, IsSome, IsTrue};
+ghost use Rattle.std.specs.Prelude.{OnOk, OnErr, IfErr, is_some, option_map, option_copied};
 ghost use Rattle.jffs_node.specs.declared.node.Node.{Node};
 ghost use Rattle.jffs_node.specs.Record.{file_max, is_lawful};
 ghost use Rattle.jffs_tree.specs.Origin.{tree_of};
@@ -101,7 +101,7 @@ impl Tree {
         ensures ok { OnOk result (self.new ≡ put_node self.old node.now) }
         ensures err { OnErr result (self.new ≡ self.old) }
     {
-        let place = self.parent_name(node.inode);
+        let place = self.find(node.inode).map(|found| (found.parent, found.name));
         if is_place(&place, node.parent, &name) {
             self.write_here(node, name)
         } else {
@@ -207,9 +207,31 @@ fn newest_of(inodes: &BTreeMap<u32, Inode>, inode: u32) -> Option<u32>
         ≡ option_map (λ h. h.newest) (held_in inodes.now.entries inode) }
     ensures few { (v : ℕ) → held_marks inodes.now.entries v inode ≤ file_max + 1 }
 {
-    match inodes.get(&inode) {
+    match find_inode(inodes, inode) {
         Some(found) => Some(found.newest),
         None => None,
+    }
+}
+
+/// What a map has of an inode. A new inode has a number above all others, and is found to be absent
+/// by a look at the last one.
+pub(crate) fn find_inode(inodes: &BTreeMap<u32, Inode>, inode: u32) -> Option<&Inode>
+    ensures { option_copied result ≡ held_in inodes.now.entries inode }
+{
+    if is_above_all(inodes, inode) {
+        None
+    } else {
+        inodes.get(&inode)
+    }
+}
+
+/// Whether an inode's number is above all those of a map.
+fn is_above_all(inodes: &BTreeMap<u32, Inode>, inode: u32) -> bool
+    ensures { result ≡ true → held_in inodes.now.entries inode ≡ None }
+{
+    match inodes.last_key_value() {
+        Some((last, _)) => *last < inode,
+        None => false,
     }
 }
 

@@ -101,7 +101,9 @@ impl Tree {
         ensures ok { OnOk result (self.new ≡ put_node self.old node.now) }
         ensures err { OnErr result (self.new ≡ self.old) }
     {
-        let place = self.find(node.inode).map(|found| (found.parent, found.name));
+        let place = self
+            .find(node.inode)
+            .map(|found| (found.parent, found.name));
         if is_place(&place, node.parent, &name) {
             self.write_here(node, name)
         } else {
@@ -277,11 +279,9 @@ fn write_absent(
     ensures err { OnErr result
         ((inodes.new.entries ≡ inodes.old.entries) × SameMarks marks.old marks.new) }
 {
-    inodes.insert(node.inode, Inode::empty(alloc, node, name))?;
-    if let Err(refused) = write_present(inodes, marks, node, name) {
-        inodes.remove(&node.inode);
-        return Err(refused);
-    }
+    let mut first = Inode::empty(alloc, node, name);
+    first.write(node, name, marks)?;
+    inodes.insert(node.inode, first)?;
     Ok(())
 }
 

@@ -3,6 +3,8 @@
 use crate::mounted_core::Core;
 use crate::tests::metered::{Calls, Metered, calls_of, over_metered};
 use crate::tests::session::{SECTOR_SIZE, Session};
+use jffs_flash::{LimitedFlash, MemoryFlash};
+use jffs_log::ScanWhy;
 use jffs_tree::{Cause, Outcome};
 use std::alloc::Global;
 use std::process::Abort;
@@ -118,5 +120,25 @@ fn a_mount_reads_each_byte_once(rt: HostRuntime) -> Result<(), Fail> {
     let mut reads = core.log().flash().reads.iter();
     assert!(rt; reads.all(|count| *count == 1));
     assert!(rt; core.log().records().len() > 7);
+    Ok(())
+}
+
+#[test]
+fn each_mount_takes_one_read_of_each_byte(rt: HostRuntime) -> Result<(), Fail> {
+    let inner = MemoryFlash::new(rt.alloc(), 6, SECTOR_SIZE)?;
+    let flash = LimitedFlash::new(rt.alloc(), inner, 2)?;
+    let core = Core::mount(rt.alloc(), flash).map_err(|fault| fault.why)?;
+    let mut session = Session::of(rt.alloc(), core);
+    session.play(&rt, "create /f : appended 2 1")?;
+    let core = Core::mount(rt.alloc(), session.into_flash()).map_err(|fault| fault.why)?;
+    assert_eq!(rt; core.log().records().len(), 1);
+    let why = match Core::mount(rt.alloc(), core.into_flash()) {
+        Ok(_) => panic!(rt; "each byte was read twice before"),
+        Err(fault) => fault.why,
+    };
+    if why == ScanWhy::Memory {
+        return Err(why.into());
+    }
+    assert_eq!(rt; why, ScanWhy::Device);
     Ok(())
 }

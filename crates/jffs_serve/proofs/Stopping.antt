@@ -91,18 +91,18 @@ closed_ends unmounts (Appended inode version) is = absurd (cc)
 closed_ends unmounts (Copied version) is = absurd (cc)
 closed_ends unmounts (Refused cause) is = absurd (cc)
 
+in_order_after : (replies : List Reply) (now e : Option Unmounted) → (StopsAt None replies now → AllReply replies) → StopsAt e replies now → AllReply replies
+in_order_after replies now None goes_on s = goes_on s
+in_order_after replies now (Some ending) goes_on s = subst AllReply (sym s.0) tt
+
 -- where serving stopped at the first reply that ends it, none stands after one that closed the session
 pub stopped_in_order : (replies : List Reply) (now : Option Unmounted) → StopsAt None replies now → AllByRecursion Replies replies → AllReply replies
 stopped_in_order [] now stops each = tt
 stopped_in_order (r ∷ replies) now stops each = (
   each.0,
   λ closed. (subst (λ (e : Option Unmounted). StopsAt e replies now) (closed_ends (is_unmount_wish r.request.wish) r.step.outcome closed) stops).0,
-  rest (ending_with r) stops,
+  in_order_after replies now (ending_with r) (λ s. stopped_in_order replies now s each.1) stops,
 )
-  where
-    rest : (e : Option Unmounted) → StopsAt e replies now → AllReply replies
-    rest None s = stopped_in_order replies now s each.1
-    rest (Some ending) s = subst AllReply (sym s.0) tt
 
 -- how serving ends with a reply
 ends_fit :
@@ -123,15 +123,18 @@ fits_more unmounted.Closed r replies h = ap (λ (b : Bool). is_closed r.step.out
 fits_more (unmounted.NotClosed cause) r [] h = absurd h
 fits_more (unmounted.NotClosed cause) r (q ∷ replies) h = h
 
+fits_after :
+    (r : Reply) (replies : List Reply) (e : Unmounted) (t : Option Unmounted)
+    → (StopsAt None replies (Some e) → FitsServed (served_as e) (any_closed (map answer_in replies)) replies)
+    → ending_with r ≡ t → StopsAt t replies (Some e) → FitsServed (served_as e) (any_closed (map answer_in (r ∷ replies))) (r ∷ replies)
+fits_after r replies e None goes_on is s = fits_more e r replies (goes_on s)
+fits_after r replies e (Some ending) goes_on is s =
+    subst (λ (rest : List Reply). FitsServed (served_as e) (any_closed (map answer_in (r ∷ rest))) (r ∷ rest)) (sym s.0)
+    (ends_fit (is_unmount_wish r.request.wish) r.step.outcome r (unmount_wish r.request.wish) refl e (is ∙ sym s.1))
+
 stopped_fits : (replies : List Reply) (e : Unmounted) → StopsAt None replies (Some e) → FitsServed (served_as e) (any_closed (map answer_in replies)) replies
 stopped_fits [] e stops = absurd (cc)
-stopped_fits (r ∷ replies) e stops = last (ending_with r) refl stops
-  where
-    last : (t : Option Unmounted) → ending_with r ≡ t → StopsAt t replies (Some e) → FitsServed (served_as e) (any_closed (map answer_in (r ∷ replies))) (r ∷ replies)
-    last None is s = fits_more e r replies (stopped_fits replies e s)
-    last (Some ending) is s =
-        subst (λ (rest : List Reply). FitsServed (served_as e) (any_closed (map answer_in (r ∷ rest))) (r ∷ rest)) (sym s.0)
-        (ends_fit (is_unmount_wish r.request.wish) r.step.outcome r (unmount_wish r.request.wish) refl e (is ∙ sym s.1))
+stopped_fits (r ∷ replies) e stops = fits_after r replies e (ending_with r) (stopped_fits replies e) refl stops
 
 -- what serving answers is what its last reply says, where nothing was owed at first
 pub stopped_fits_served :

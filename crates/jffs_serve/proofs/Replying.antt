@@ -194,6 +194,11 @@ module _ {F : Type 0} where
     lawful = λ mounted past stands. runs_from session.core mounted past;
   }
 
+  -- nothing happened
+  pub no_reply : (session : Session F) (put : List Step) (taken : ℕ → List Request) → RepliesMore session put taken session put taken None
+  no_reply session put taken =
+      nothing_more (start_of session put taken) session.core session.unsent put taken None (nothing_replied session put taken) refl
+
   -- one stretch of replies after another
   replied_along :
       (start : Start) (old : Session F) (new : CoreState) (unsent : Option PendingStep) (put now : List Step) (before taken : ℕ → List Request) (first second : List Reply)

@@ -1,12 +1,24 @@
-use Rattle.std.proofs.Common.{rules, ◌≡◌, false, [], ap, refl, Some, None}
+use Rattle.std.proofs.Common.{rules, ◌≡◌, true, false, [], ap, refl, Some, None}
 use Rattle.jffs_core.specs.CoreState.{CoreState}
 use Rattle.jffs_serve.specs.declared.session.Served.TheVariants as served
 use Rattle.jffs_serve.specs.Answered.{start_of}
-use Rattle.jffs_serve.proofs.Replying.{nothing_more, nothing_replied, replied_capacity, then_more}
-use Rattle.jffs_serve.proofs.Stopping.{still_owed, nothing_owed}
+use Rattle.jffs_serve.proofs.Replying.{nothing_more, nothing_replied, no_reply, replied_capacity, then_more}
+use Rattle.jffs_serve.proofs.Stopping.{still_owed, nothing_owed, closed_owed}
 use Rattle.jffs_serve.proofs.Showing.{capacity_tree, shown_on, shown_sent}
 use Rattle.jffs_serve.specs.PendingStep.{unput}
 use Rattle.jffs_serve.proofs.serving.answer_next.Goals as goal
+
+pub returns-then-is_some-clause-replies : goal.returns-then-is_some-clause-replies
+returns-then-is_some-clause-replies g c put = no_reply c.args.session.now put (g.T.Taker.taken c.args.taker.now)
+
+pub returns-then-closed-clause-replies : goal.returns-then-closed-clause-replies
+returns-then-closed-clause-replies g c put =
+    let old = c.args.session.now in
+    let taken = g.T.Taker.taken c.args.taker.now in
+    let none : old.unsent ≡ None = search rules in
+    let closed : old.core.closed ≡ true = search rules in
+    nothing_more (start_of old put taken) old.core old.unsent put taken (Some served.Closed) (nothing_replied old put taken)
+    (closed_owed old.core old.unsent none closed)
 
 pub returns-then-is_err-clause-replies : goal.returns-then-is_err-clause-replies
 returns-then-is_err-clause-replies g c put =

@@ -6,7 +6,7 @@ use Rattle.jffs_serve.specs.declared.session.PendingStep.TheVariants.{Unput, Unp
 use Rattle.jffs_serve.specs.PendingStep.{ending_of}
 use Rattle.jffs_serve.specs.Stopping.{or_closed}
 use Rattle.jffs_serve.specs.Answered.{start_of, HasReplied}
-use Rattle.jffs_serve.proofs.Replying.{nothing_more, nothing_replied, replied_put}
+use Rattle.jffs_serve.proofs.Replying.{nothing_more, nothing_replied, no_reply, replied_put}
 use Rattle.jffs_serve.proofs.Showing.{can_put, steps_put, put_shown}
 use Rattle.jffs_serve.proofs.serving.put_pending.Goals as goal
 
@@ -37,3 +37,13 @@ returns-in-Ok-clause-ready g c =
     record {
       shown = put_shown c.args.session.now c.args.publisher.now c.put.new.self arm.step arm.ending unsent c.requires.ready c.in-Ok.ensures.view;
     }
+
+pub returns-in-Err-clause-replies : goal.returns-in-Err-clause-replies
+returns-in-Err-clause-replies g c taken =
+    let none = no_reply c.args.session.now (all_put c.args.publisher.now).steps taken in
+    search (rules, none)
+
+pub returns-in_default-clause-replies : goal.returns-in_default-clause-replies
+returns-in_default-clause-replies g c taken =
+    let none = no_reply c.args.session.now (all_put c.args.publisher.now).steps taken in
+    search (rules, none)

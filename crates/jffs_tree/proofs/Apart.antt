@@ -31,7 +31,7 @@ same_order : (tree : Tree) → entries.is_sorted nat_cmp (state_in tree) ≡ ent
 same_order [] = refl
 same_order (h ∷ tree) = λ i. below_state h.0 tree i && same_order tree i
 
-sorted_state_in : (tree : Tree) → T (entries.is_sorted nat_cmp tree) → T (entries.is_sorted nat_cmp (state_in tree))
+pub sorted_state_in : (tree : Tree) → T (entries.is_sorted nat_cmp tree) → T (entries.is_sorted nat_cmp (state_in tree))
 sorted_state_in tree h = subst T (sym (same_order tree)) h
 
 -- ---- the keys of a list

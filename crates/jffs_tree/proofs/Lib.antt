@@ -30,6 +30,7 @@ pub mod Sources
 pub mod States
 pub mod Kept
 pub mod Apart
+pub mod Near
 pub mod Resolving
 pub mod Entries
 pub mod Ruled

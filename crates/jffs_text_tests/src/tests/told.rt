@@ -1,7 +1,6 @@
 //! What people are told of a script that is refused.
 
-use crate::fault::ScriptWhy;
-use crate::script::Script;
+use jffs_text::{Script, ScriptWhy};
 use std::alloc::Global;
 use std::process::Abort;
 use std::test::Fail;

@@ -4,11 +4,7 @@ mod bounds;
 mod calls;
 mod told;
 
-use crate::dumping::dump;
-use crate::mistake::Mistake;
-use crate::quote::Quote;
-use crate::script::Script;
-use crate::word::Words;
+use jffs_text::{Mistake, Quote, Script, Words, dump};
 use jffs_tree::{Limits, Tree};
 use std::alloc::Global;
 use std::process::Abort;

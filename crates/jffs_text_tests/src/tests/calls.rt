@@ -1,6 +1,6 @@
 //! What people are told of a call.
 
-use crate::arguments::{Usage, Work};
+use jffs_text::{Usage, Work};
 use std::alloc::Global;
 use std::test::Fail;
 

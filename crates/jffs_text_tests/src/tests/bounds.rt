@@ -1,7 +1,6 @@
 //! Each bound of a script: what is accepted up to it, and refused beyond it.
 
-use crate::fault::{ScriptFault, ScriptWhy};
-use crate::script::{LineChoice, LineForm, Script};
+use jffs_text::{LineChoice, LineForm, Script, ScriptFault, ScriptWhy};
 use std::alloc::Global;
 use std::process::Abort;
 use std::test::Fail;

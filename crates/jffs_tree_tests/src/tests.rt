@@ -5,8 +5,8 @@ mod look_ups;
 mod wishes;
 
 use crate::tests::wishes::{path, wish_of};
-use crate::{Cause, Limits, Tree, Wish};
 use jffs_node::{Kind, Name, NoMemory, Node};
+use jffs_tree::{Cause, Limits, Tree, Wish};
 use std::alloc::{AllocError, Global};
 use std::process::Abort;
 use std::test::Fail;

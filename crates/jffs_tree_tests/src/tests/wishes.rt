@@ -1,7 +1,7 @@
 //! Wishes in words.
 
-use crate::Wish;
 use jffs_node::{Bytes, Name, Path, PathFault, copied};
+use jffs_tree::Wish;
 use std::alloc::Global;
 use std::test::Fail;
 

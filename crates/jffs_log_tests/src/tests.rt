@@ -1,7 +1,7 @@
 //! The log on concrete devices: what each call leaves, seen by a further scan.
 
-use super::*;
 use jffs_flash::{Fail, Flash, FuseFlash, Fused, MemoryFlash};
+use jffs_log::{Log, Mounted, RECORD_MAX, Room, scan};
 use jffs_node::{Bytes, Kind, Name, Node, record_len};
 use jffs_tree::{Cause, Tree};
 use std::alloc::{AllocError, Global};
@@ -9,7 +9,7 @@ use std::process::Abort;
 use std::test::Fail as TestFail;
 
 /// A node that writes `amount` bytes over the start of the one file.
-fn written(alloc: Global, version: u32, amount: u32) -> Result<Node, AllocError> {
+pub(super) fn written(alloc: Global, version: u32, amount: u32) -> Result<Node, AllocError> {
     let bytes = vec![in alloc; 0x61u8; amount as usize]?;
     Ok(Node {
         kind: Kind::File,
@@ -28,7 +28,7 @@ fn written(alloc: Global, version: u32, amount: u32) -> Result<Node, AllocError>
     })
 }
 
-fn mount<F: Flash + Drop>(rt: &(impl Abort + AllocGlobal), flash: F) -> Mounted<F> {
+pub(super) fn mount<F: Flash + Drop>(rt: &(impl Abort + AllocGlobal), flash: F) -> Mounted<F> {
     match scan(rt.alloc(), flash) {
         Ok(mounted) => mounted,
         Err(fault) => panic!(rt; "{}", fault.why),
@@ -36,7 +36,7 @@ fn mount<F: Flash + Drop>(rt: &(impl Abort + AllocGlobal), flash: F) -> Mounted<
 }
 
 /// Appends a fresh node once all conditions are tested.
-fn append<F: Flash>(
+pub(super) fn append<F: Flash>(
     rt: &impl Abort,
     log: &mut Log<F>,
     tree: &Tree,
@@ -192,10 +192,10 @@ fn a_log_goes_round_the_end_of_the_image(rt: HostRuntime) -> Result<(), TestFail
             assert_eq!(rt; log.erases(), 1);
         }
         let kept = versions(&log);
-        let (first, tail) = (log.oldest(), log.index.tail);
+        let ring = (log.oldest(), log.held());
         let again = mount(&rt, log.into_flash());
         assert_eq!(rt; versions(&again.log), kept);
-        assert_eq!(rt; (again.log.oldest(), again.log.index.tail), (first, tail));
+        assert_eq!(rt; (again.log.oldest(), again.log.held()), ring);
         flash = again.log.into_flash();
     }
     Ok(())

@@ -1,7 +1,8 @@
 //! Scans of images that were written by hand: what each finds, and why it is refused.
 
-use super::*;
+use crate::tests::{append, mount, written};
 use jffs_flash::{Fail, FuseFlash, Fused, MemoryFlash};
+use jffs_log::{Log, Mounted, RECORD_MAX, ScanFault, ScanWhy, scan};
 use jffs_node::{Bytes, Kind, Name, Node, Why, copied, encode_into, record_len};
 use jffs_tree::Tree;
 use std::alloc::{AllocError, Global};
@@ -99,7 +100,7 @@ fn mounted(found: &Mounted<MemoryFlash>) -> Seen {
     let limits = found.limits;
     Seen::Mounted {
         clean: found.clean,
-        records: found.log.index.records.len(),
+        records: found.log.records().len(),
         size: found.tree.size(2),
         limits: (limits.data_max, limits.next_inode, limits.next_version),
     }
@@ -284,18 +285,23 @@ fn a_torn_tail_is_not_clean_and_has_no_room(rt: HostRuntime) -> Result<(), TestF
     put_bytes(&rt, &mut image, 300, &[0]);
     assert!(rt; image.len() == LEN);
     let flash = MemoryFlash::from_bytes(SECTORS, SECTOR_SIZE, image);
-    match scan(rt.alloc(), flash) {
-        Ok(found) => {
-            let index = &found.log.index;
-            assert!(rt; !found.clean);
-            assert_eq!(rt;
-                (index.held, index.tail, index.used, index.free),
-                (1, 0, 200, 0)
-            );
-        }
-        Err(fault) => panic!(rt; "{}", fault.why),
-    }
+    let Mounted {
+        mut log,
+        tree,
+        clean,
+        ..
+    } = mount(&rt, flash);
+    assert!(rt; !clean);
+    assert_eq!(rt; (log.held(), newest(&log)), (1, Some((0, 136, 64))));
+    append(&rt, &mut log, &tree, &written(rt.alloc(), 4, 5)?)?;
+    assert_eq!(rt; (log.held(), newest(&log)), (2, Some((1, 0, 72))));
     Ok(())
+}
+
+/// Sector, offset and length of the newest record.
+fn newest(log: &Log<MemoryFlash>) -> Option<(u32, u32, u32)> {
+    let last = log.records().back()?;
+    Some((last.sector, last.offset, last.length))
 }
 
 #[test]

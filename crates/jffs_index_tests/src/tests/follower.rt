@@ -3,9 +3,9 @@ ghost use Rattle.std.specs.Prelude.{◌≡◌, IfOk};
 ghost use Rattle.jffs_index.specs.Histories.{view_of};
 ghost use Rattle.jffs_index.specs.Ends.{all_put, index_of, publisher_index};
 
-use crate::reader::Reader;
 use crate::tests::source::Source;
 use crossbeam_utils::Backoff;
+use jffs_index::Reader;
 use jffs_tree::Wish;
 use std::sync::Wait;
 use std::test::Fail;

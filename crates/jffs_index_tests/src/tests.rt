@@ -6,10 +6,9 @@ ghost use Rattle.jffs_index.specs.Ends.{all_put, index_of, publisher_index};
 mod follower;
 mod source;
 
-use crate::open::{IndexFault, publish_index};
-use crate::reader::Reader;
 use crate::tests::follower::{Seen, follow};
 use crate::tests::source::Source;
+use jffs_index::{IndexFault, Reader, publish_index};
 use jffs_node::{Kind, Path, copied};
 use jffs_tree::{Outcome, Tree, Wish};
 use std::alloc::Global;

@@ -1,6 +1,6 @@
 use Rattle.std.proofs.Common.{◌≡◌}
 use Rattle.jffs_line.specs.Line.{End}
-use Rattle.jffs_line.proofs.tests.sessions.insist.Given as goal
+use Rattle.jffs_line_tests.proofs.tests.sessions.insist.Given as goal
 
 -- it stays the same end
 abbrev pub invariant-loop : goal.invariant-loop

@@ -1,5 +1,5 @@
 use Rattle.std.proofs.Common.{◌≡◌}
-use Rattle.jffs_line.proofs.tests.sessions.take_all.Given as goal
+use Rattle.jffs_line_tests.proofs.tests.sessions.take_all.Given as goal
 
 -- it takes from the same ends
 abbrev pub invariant-loop : goal.invariant-loop

@@ -5,12 +5,11 @@ ghost use Rattle.std.specs.Prelude.{◌≡◌, map, [], ◌∷◌, ◌++◌};
 mod sessions;
 mod waking;
 
-use crate::hand::{Ends, Hand, Settle, Taker};
-use crate::request::{LineFault, NotTaken, Settled, Why};
-use crate::rings::{self, ring_line};
-use crate::shared::{self, shared_line};
 use crate::tests::sessions::{Session, run_session};
 use crate::tests::waking::{take_asleep, unmount_asleep};
+use jffs_line::{
+    Ends, Hand, LineFault, NotTaken, Settle, Settled, Taker, Why, ring_line, shared_line,
+};
 use jffs_node::Path;
 use jffs_tree::Wish;
 use std::alloc::Global;
@@ -110,10 +109,10 @@ fn lines_that_nobody_used_are_settled(rt: HostRuntime) -> Result<(), Fail> {
     for writers in [0, 8] {
         let Ends { hands, taker } = shared_line(&rt, alloc, 1, writers)?;
         assert_eq!(rt; hands.writers.len(), usize::from(writers));
-        assert!(rt; shared::settle(&rt, alloc, hands, taker)?.waiting.is_empty());
+        assert!(rt; taker.settle(&rt, alloc, hands)?.waiting.is_empty());
         let Ends { hands, taker } = ring_line(alloc, 1, writers)?;
         assert_eq!(rt; hands.writers.len(), usize::from(writers));
-        assert!(rt; rings::settle(alloc, hands, taker)?.waiting.is_empty());
+        assert!(rt; taker.settle(&rt, alloc, hands)?.waiting.is_empty());
     }
     Ok(())
 }

@@ -1,5 +1,5 @@
 use Rattle.std.proofs.Common.{◌+◌, ◌*◌, length}
-use Rattle.jffs_line.proofs.tests.sessions.+fn-write_all-join+arg3+write_all.Given as goal
+use Rattle.jffs_line_tests.proofs.tests.sessions.+fn-write_all-join+arg3+write_all.Given as goal
 
 -- each call has one hand less
 abbrev pub decreases-join+arg3 : goal.decreases-join+arg3

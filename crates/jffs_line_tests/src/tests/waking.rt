@@ -1,5 +1,5 @@
 //! An end that sleeps is woken by the other.
-use crate::hand::{Ends, Hand, Taker};
+use jffs_line::{Ends, Hand, Taker};
 use std::sync::Wait;
 use std::thread;
 use std::thread::Threads;

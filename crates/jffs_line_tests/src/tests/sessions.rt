@@ -3,9 +3,8 @@ ghost use Rattle.std.specs.Prelude.{◌≡◌, [], ◌∷◌, ◌++◌, map, IfS
 ghost use Rattle.jffs_line.specs.Line.{End};
 
 use super::wish;
-use crate::hand::{Ends, Hand, Hands, Settle, Taker};
-use crate::request::{NotTaken, Request, Why};
 use crossbeam_utils::Backoff;
+use jffs_line::{Ends, Hand, Hands, NotTaken, Request, Settle, Taker, Why};
 use jffs_tree::Wish;
 use std::alloc::Global;
 use std::sync::Wait;

@@ -1,8 +1,8 @@
 //! What each answer programs and erases, counted by the device.
 
-use crate::mounted_core::Core;
 use crate::tests::metered::{Calls, Metered, calls_of, over_metered};
 use crate::tests::session::{SECTOR_SIZE, Session};
+use jffs_core::Core;
 use jffs_tree::{Cause, Outcome};
 use std::alloc::Global;
 use std::process::Abort;

@@ -14,11 +14,11 @@ mod wear;
 mod wishes;
 mod work;
 
-use crate::answer::Answer;
 use crate::tests::images::{
     TRUNCATED, WRITTEN_BEHIND, WRITTEN_NOTHING, image_of_last_version, image_of_old_form,
 };
 use crate::tests::session::{Session, holds};
+use jffs_core::Answer;
 use jffs_flash::MemoryFlash;
 use jffs_tree::{Cause, Outcome};
 use std::alloc::Global;

@@ -1,7 +1,7 @@
 //! Cleaning.
 
-use crate::cleaning::Cleaned;
 use crate::tests::session::{Session, holds, is_blank, part};
+use jffs_core::Cleaned;
 use jffs_flash::MemoryFlash;
 use jffs_node::Path;
 use std::process::Abort;

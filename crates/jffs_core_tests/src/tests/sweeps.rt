@@ -1,7 +1,7 @@
 //! Devices that fail at each call in turn.
 
-use crate::mounted_core::Core;
 use crate::tests::session::{SECTOR_SIZE, Session};
+use jffs_core::Core;
 use jffs_flash::{Fail as FuseFail, Flash, FuseFlash, Fused, MemoryFlash};
 use jffs_log::ScanWhy;
 use jffs_node::{Kind, Name, ROOT_INODE};

@@ -1,7 +1,7 @@
 //! A core with the number of the next request.
 
-use crate::mounted_core::Core;
 use crate::tests::wishes::wish_of;
+use jffs_core::Core;
 use jffs_flash::{ERASED_BYTE, Flash, MemoryFlash};
 use jffs_line::Request;
 use jffs_log::ScanWhy;

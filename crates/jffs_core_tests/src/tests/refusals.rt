@@ -1,8 +1,8 @@
 //! Runs in which any one allocation may fail.
 
-use crate::cleaning::Cleaned;
 use crate::tests::session::Session;
 use crate::tests::sweeps::{FILLING, RENAMING};
+use jffs_core::Cleaned;
 use jffs_flash::MemoryFlash;
 use jffs_tree::{Cause, Outcome};
 use std::process::Abort;

@@ -2,9 +2,6 @@
 
 ghost use Rattle.jffs_serve.specs.Showing.{CanServe};
 
-use crate::jobs::{Jobs, job_ring};
-use crate::serving::serve;
-use crate::session::{Served, Session};
 use crate::tests::rounds::index;
 use crate::tests::volumes::{create, erased, write};
 use jffs_core::{Answer, Core};
@@ -12,6 +9,7 @@ use jffs_flash::MemoryFlash;
 use jffs_index::{Publisher, Reader};
 use jffs_line::{Ends, SharedTaker, shared_line};
 use jffs_node::{Path, ROOT_INODE};
+use jffs_serve::{Jobs, Served, Session, job_ring, serve};
 use jffs_tree::{Cause, Outcome};
 use std::alloc::Global;
 use std::process::Abort;
@@ -159,7 +157,7 @@ fn check_scan(
 
 // Run it with each allocation failing in turn.
 #[test]
-#[tactic(auto, using(crate::proofs::Showing::can_begin))]
+#[tactic(auto, using(jffs_serve::proofs::Showing::can_begin))]
 fn each_growth_refused_in_turn(rt: HostRuntime) -> Result<(), Fail> {
     let alloc = rt.alloc();
     let core = erased(alloc, 8)?;

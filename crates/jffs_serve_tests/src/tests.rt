@@ -6,14 +6,12 @@ mod rounds;
 mod tidying;
 mod volumes;
 
-use crate::cleaner::clean_until;
-use crate::jobs::{JobEnd, Jobs, job_ring};
-use crate::pauses::Ended;
 use crate::tests::rounds::{asked, cleaned_by, index, outcomes_of, served};
 use crate::tests::volumes::{filled, moved};
 use jffs_core::Core;
 use jffs_flash::MemoryFlash;
 use jffs_line::{Ends, LineFault, shared_line};
+use jffs_serve::{Ended, JobEnd, Jobs, clean_until, job_ring};
 use jffs_tree::{Cause, Outcome};
 use std::alloc::Global;
 use std::test::Fail;

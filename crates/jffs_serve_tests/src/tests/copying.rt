@@ -1,11 +1,10 @@
 //! Which copies a cleaner asks for, and how it waits for room on the line.
 
-use crate::cleaner::{CleanerEnd, clean_loop};
-use crate::jobs::JobEnd;
 use crate::tests::rounds::{cleaned_by, index, source_of};
 use crate::tests::volumes::{moved, six_created};
 use crate::tests::with_job;
 use jffs_line::{Ends, Taker, shared_line};
+use jffs_serve::{CleanerEnd, JobEnd, clean_loop};
 use jffs_tree::Tree;
 use std::alloc::Global;
 use std::sync::Wait;

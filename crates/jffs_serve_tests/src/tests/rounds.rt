@@ -4,15 +4,12 @@ ghost use Rattle.std.specs.Prelude.{◌≡◌, [], IfOk};
 ghost use Rattle.jffs_index.specs.Histories.{opening_of};
 ghost use Rattle.jffs_index.specs.Ends.{published, pending};
 
-use crate::cleaner::clean_loop;
-use crate::jobs::{JobEnd, job_ring};
-use crate::serving::serve;
-use crate::session::{Served, Session};
 use crate::tests::volumes::cut;
 use jffs_core::Core;
 use jffs_flash::MemoryFlash;
 use jffs_index::{Publisher, Reader, publish_index};
 use jffs_line::{Ends, Hand, Request, SharedTaker, Taker, shared_line};
+use jffs_serve::{JobEnd, Served, Session, clean_loop, job_ring, serve};
 use jffs_tree::{Outcome, Tree, Wish};
 use std::alloc::Global;
 use std::sync::Wait;
@@ -55,7 +52,7 @@ fn last_two(core: &Core<MemoryFlash>) -> Result<[Outcome; 2], Fail> {
     }
 }
 
-#[tactic(auto, using(crate::proofs::Showing::can_begin))]
+#[tactic(auto, using(jffs_serve::proofs::Showing::can_begin))]
 /// Serves a file of 1,728 bytes; gives the last two outcomes, and the cleaner's end of the jobs.
 pub(super) fn served<R: Wait>(
     rt: &R,

@@ -1,13 +1,11 @@
 //! What is done between two answers: dead sectors are erased.
 
-use crate::jobs::job_ring;
-use crate::serving::serve;
-use crate::session::{Served, Session};
 use crate::tests::rounds::index;
 use crate::tests::volumes::{create, dead_below_tail};
 use jffs_core::Core;
 use jffs_flash::MemoryFlash;
 use jffs_line::{Ends, Hand, SharedTaker, shared_line};
+use jffs_serve::{Served, Session, job_ring, serve};
 use jffs_tree::Wish;
 use std::alloc::Global;
 use std::sync::Wait;
@@ -39,7 +37,7 @@ fn all_waiting<R: Wait>(
     Ok(taker)
 }
 
-#[tactic(auto, using(crate::proofs::Showing::can_begin))]
+#[tactic(auto, using(jffs_serve::proofs::Showing::can_begin))]
 /// Serves these wishes of a writer, and perhaps an Unmount, until nothing waits.
 fn serve_all<R: Wait>(
     rt: &R,

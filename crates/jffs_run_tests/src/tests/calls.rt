@@ -1,6 +1,6 @@
 //! Calls of the program, each with its status, what it prints and what people are told.
 
-use crate::run_called;
+use jffs_run::run_called;
 use std::io::{ErrorKind, Read, Write};
 use std::process::Abort;
 use std::rt::Files;

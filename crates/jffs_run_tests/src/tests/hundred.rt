@@ -1,10 +1,10 @@
 //! The same scripts again and again, each run held against plain counting.
 
-use crate::{NoGate, ReaderEnd, Served, run_threads};
 use jffs_core::Answer;
 use jffs_flash::MemoryFlash;
 use jffs_line::Request;
 use jffs_log::scan;
+use jffs_run::{NoGate, ReaderEnd, Served, run_threads};
 use jffs_text::{Script, dump};
 use jffs_tree::{Cause, Outcome};
 use std::alloc::Global;

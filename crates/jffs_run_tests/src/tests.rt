@@ -7,8 +7,8 @@ mod lines;
 mod many;
 mod threads;
 
-use crate::{NoGate, run_program, run_threads};
 use jffs_flash::MemoryFlash;
+use jffs_run::{NoGate, run_program, run_threads};
 use jffs_text::Script;
 use std::alloc::Global;
 use std::io;

@@ -1,8 +1,8 @@
 //! Which wishes a gate is called for, and what a cleaner does while a gate holds a writer up.
 
-use crate::{Gate, Run, run_threads};
 use jffs_flash::MemoryFlash;
 use jffs_line::CLEANER;
+use jffs_run::{Gate, Run, run_threads};
 use jffs_text::Script;
 use std::alloc::Global;
 use std::sync::Wait;

@@ -1,8 +1,8 @@
 //! The lines of answers and of a run's end.
 
-use crate::printing::{print_answers, print_ending};
 use jffs_core::Answer;
 use jffs_line::{CLEANER, CONTROL};
+use jffs_run::{print_answers, print_ending};
 use jffs_tree::{Cause, Outcome};
 use std::alloc::Global;
 use std::test::Fail;

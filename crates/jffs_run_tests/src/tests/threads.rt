@@ -2,8 +2,8 @@
 
 ghost use Rattle.std.specs.Prelude.{◌≡◌, length, IfOk};
 
-use crate::{Gate, NoGate, RunFault, RunWhy, Served, run_threads};
 use jffs_flash::MemoryFlash;
+use jffs_run::{Gate, NoGate, RunFault, RunWhy, Served, run_threads};
 use jffs_text::Script;
 use std::alloc::{AllocError, Global};
 use std::io::Write;

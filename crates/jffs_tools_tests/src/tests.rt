@@ -6,8 +6,7 @@ mod records;
 mod streams;
 mod turns;
 
-use crate::program::{run_image, run_lines, run_replay};
-use crate::replay::Replay;
+use jffs_tools::{Replay, run_image, run_lines, run_replay};
 use std::alloc::{AllocError, Global};
 use std::process::Abort;
 use std::rt::Files;

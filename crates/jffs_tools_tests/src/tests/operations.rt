@@ -2,7 +2,7 @@
 
 use super::records::{DIRECTORY, FILE, Record, image_of};
 use super::{replayed, replays, replays_from};
-use crate::program::run_replay;
+use jffs_tools::run_replay;
 use std::process::Abort;
 use std::rt::Files;
 use std::test::Fail;

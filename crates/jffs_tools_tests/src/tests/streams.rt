@@ -1,7 +1,7 @@
 //! What is read and when it is answered, and streams that fail.
 
 use super::{called, replayed, replays};
-use crate::program::{run_image, run_replay};
+use jffs_tools::{run_image, run_replay};
 use std::io;
 use std::io::{BufWriter, ErrorKind, Read, Write};
 use std::test::Fail;

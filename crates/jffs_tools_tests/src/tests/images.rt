@@ -2,7 +2,7 @@
 
 use super::records::{DIRECTORY, FILE, OLD_FORM, Record, UNMOUNT, changed, image_of};
 use super::{called, replays_from, shows};
-use crate::program::run_image;
+use jffs_tools::run_image;
 use std::process::Abort;
 use std::rt::Files;
 use std::test::Fail;

@@ -1,7 +1,7 @@
 //! Standard input and output that fail.
 
 use super::plays;
-use crate::run_volume;
+use jffs_manage::run_volume;
 use std::io::{ErrorKind, Read, Write};
 use std::test::Fail;
 use std::{fs, io};

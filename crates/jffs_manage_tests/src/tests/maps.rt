@@ -1,7 +1,7 @@
 //! What takes the room of a volume, counted by hand from the lengths of its records.
 
 use super::plays;
-use crate::run_volume;
+use jffs_manage::run_volume;
 use std::alloc::Global;
 use std::fs;
 use std::process::Abort;

@@ -8,7 +8,7 @@ mod texts;
 mod trees;
 mod words;
 
-use crate::run_volume;
+use jffs_manage::run_volume;
 use std::fs;
 use std::process::Abort;
 use std::rt::Files;

@@ -1,9 +1,8 @@
 //! The texts of faults that no call meets on a machine that works, from plain values.
 
-use crate::arguments::CallFault;
-use crate::fault::VolumeFault;
 use jffs_file::{FileFault, StoreFault};
 use jffs_log::ScanWhy;
+use jffs_manage::{CallFault, VolumeFault};
 use jffs_node::PathFault;
 use jffs_tree::Cause;
 use std::alloc::Global;

@@ -24,6 +24,3 @@ pub use laws::{
     mounts_read_each_byte_once, one_sector_is_erased, runs_go_on, scans_find_contents,
 };
 pub use mounted_core::Core;
-
-#[cfg(test)]
-mod tests;

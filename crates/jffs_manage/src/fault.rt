@@ -92,8 +92,8 @@ pub enum VolumeFault {
 }
 
 impl VolumeFault {
-    /// The status that the program ends with.
-    pub(crate) fn status(self) -> u8 {
+    /// The status that the program ends with: 1 to 4, as `run_volume` says.
+    pub fn status(self) -> u8 {
         match self {
             VolumeFault::File(FileFault::Memory | FileFault::Write) | VolumeFault::HostWrite => {
                 BROKEN
@@ -121,7 +121,7 @@ impl VolumeFault {
     }
 
     /// What an error of standard input ends a command with.
-    pub(crate) fn of_input(error: io::Error) -> VolumeFault {
+    pub fn of_input(error: io::Error) -> VolumeFault {
         match error.kind() {
             ErrorKind::OutOfMemory => VolumeFault::Memory,
             _ => VolumeFault::Read,
@@ -130,7 +130,7 @@ impl VolumeFault {
 
     /// What an error of a directory or file of the host ends a command with that reads it. A name
     /// that is no text is one that no path has.
-    pub(crate) fn of_host_read(error: io::Error) -> VolumeFault {
+    pub fn of_host_read(error: io::Error) -> VolumeFault {
         match error.kind() {
             ErrorKind::OutOfMemory => VolumeFault::Memory,
             ErrorKind::NotFound => VolumeFault::HostMissing,
@@ -140,7 +140,7 @@ impl VolumeFault {
     }
 
     /// What an error ends a command with that makes a directory or file of the host.
-    pub(crate) fn of_host_make(error: io::Error) -> VolumeFault {
+    pub fn of_host_make(error: io::Error) -> VolumeFault {
         match error.kind() {
             ErrorKind::OutOfMemory => VolumeFault::Memory,
             ErrorKind::NotFound => VolumeFault::HostMissing,
@@ -150,7 +150,7 @@ impl VolumeFault {
     }
 
     /// What an error ends a command with that writes a file of the host.
-    pub(crate) fn of_host_write(error: io::Error) -> VolumeFault {
+    pub fn of_host_write(error: io::Error) -> VolumeFault {
         match error.kind() {
             ErrorKind::OutOfMemory => VolumeFault::Memory,
             _ => VolumeFault::HostWrite,

@@ -35,10 +35,8 @@ pub use laws::{
     runs_without_faults, runs_work_little, sessions_are_done, space_is_sure,
 };
 pub use outcome::{AcceptedBy, Run};
+pub use printing::{print_answers, print_ending, print_readers};
 pub use program::{run_called, run_program, run_program_on_file};
 pub use reader::ReaderEnd;
 pub use run::run_threads;
 pub use writer::{Gate, NoGate};
-
-#[cfg(test)]
-mod tests;

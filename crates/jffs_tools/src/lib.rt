@@ -14,15 +14,13 @@ mod program;
 mod reading;
 mod replay;
 mod telling;
-#[cfg(test)]
-mod tests;
 mod texts;
 
 pub use did::{Answered, Did, Totals};
 pub use fault::ToolFault;
 pub use image::{Seen, print_image};
 pub use operation::{Fuse, Operation};
-pub use program::{run_image, run_replay};
+pub use program::{Stopped, run_image, run_lines, run_replay};
 pub use replay::Replay;
 pub use texts::{
     answered_text, digest_text, mounted_next_text, mounted_text, next_text, record_text,

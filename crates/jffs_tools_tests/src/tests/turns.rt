@@ -105,6 +105,25 @@ fn a_ring_turns_after_copies_without_room(rt: HostRuntime) -> Result<(), Fail> {
     )
 }
 
+/// The device fails at the third copy that is to make room for the tenth fill.
+#[test]
+fn a_failure_tells_of_no_copies(rt: HostRuntime) -> Result<(), Fail> {
+    let alloc = rt.alloc();
+    let mut script = String::from_str(
+        alloc,
+        "flash 6 1024\nfuse 24 Writes Nothing\nmount\nrequest 1 1 create /f\n",
+    )?;
+    push_fills(
+        alloc,
+        &mut script,
+        &[0, 192, 384, 576, 768, 960, 1152, 1344, 1536, 1728],
+    )?;
+    let out = replayed(&rt, script.as_str(), 0)?;
+    let told = "\nappended 2 10 at 2560 ; erased 3 erases 0 weight 2304 next 11 3\nrefused Device\n";
+    assert!(rt; out.as_str().ends_with(told), "{out}");
+    Ok(())
+}
+
 #[test]
 fn a_fresh_node_tells_of_the_copies_before_it(rt: HostRuntime) -> Result<(), Fail> {
     let alloc = rt.alloc();

@@ -1,8 +1,9 @@
 //! Two tools to look inside: what is on an image, and what a core does, step by step.
 //!
 //! It stands on `jffs_core` and `jffs_log`, and on `jffs_text` for words and dumps. `run_image` and
-//! `run_replay` are the programs; `Operation` is one line of a replay, `Replay` what stands between
-//! two of them; `answered_text` and its neighbours are the lines that both print.
+//! `run_replay` are the programs, and `run_lines` is what the second does with its lines;
+//! `Operation` is one of them, `Replay` what stands between two; `answered_text` and its neighbours
+//! are the lines that both print.
 #![tactic(auto)]
 
 mod did;

@@ -3,7 +3,7 @@
 //! `run_threads` starts a thread for the log, one for each writer and each reader, and one for the
 //! cleaner where the script asks for it, and joins them all; `run_program` does all that the
 //! program does with a script, whatever its input and output are, and `run_called` what its words
-//! ask for. `print_answers` and its neighbours are the lines that a run's answers have.
+//! ask for. `print_answers` and its neighbours write the lines of answers, readers and the end.
 //! It stands on `jffs_text` for texts, on `jffs_line` and `jffs_index` for what flows between the
 //! threads, and on `jffs_serve` for the log's side.
 #![tactic(auto)]

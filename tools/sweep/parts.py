@@ -17,9 +17,9 @@ DATA = TOP / "crates/jffs_replay/data"
 SOON = 2
 # Tests that bear each refusal: they pass, or give up with an error that tells of memory. The one of jffs_line that is
 # left out compares errors, of which Memory is one.
-STEADFAST = re.compile(r"jffs_(tree|flash|node) |jffs_line (?!tests::a_line_refuses_)|jffs_core tests::refusals::")
+STEADFAST = re.compile(r"jffs_(tree_tests|flash|node) |jffs_line_tests (?!tests::a_line_refuses_)|jffs_core_tests tests::refusals::")
 # Tests of threads that wait for one another: where no thread can be made, all run in one, and never end.
-NEED_THREADS = re.compile(r"jffs_line tests::(a_taker_asleep|an_unmount_asleep|eight_writers_hand_in)_")
+NEED_THREADS = re.compile(r"jffs_line_tests tests::(a_taker_asleep|an_unmount_asleep|eight_writers_hand_in)_")
 # Where an assertion of a test's own has stopped it.
 STOPPED = re.compile(r"test stopped at src/\w*tests[./]")
 GAVE_UP = re.compile(r"\Aerror: [^\n]*(memory|AllocError)[^\n]*\nthe test failed: its result", re.IGNORECASE)

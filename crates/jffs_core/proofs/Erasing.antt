@@ -1,5 +1,5 @@
 -- Sectors are erased, and how often.
-use Rattle.std.proofs.Common.{◌≡◌, ℕ, zero, suc, ◌+◌, ◌≤◌, ◌<◌, Bool, true, false, List, [], ◌∷◌, length, take, drop, get_or, refl, sym, ap, subst, ◌∙◌, arith, drop-cons}
+use Rattle.std.proofs.Common.{◌≡◌, ℕ, zero, suc, ◌+◌, ◌≤◌, ◌<◌, Bool, true, false, cond, ◌||◌, List, [], ◌∷◌, length, take, drop, get_or, refl, sym, ap, subst, ◌∙◌, arith, drop-cons}
 use Rattle.std.specs.List.{AllByRecursion}
 use Rattle.std.proofs.Math.Seq.{take-suc}
 use Rattle.std.proofs.lemmas.Bool.{both_ways}
@@ -7,6 +7,8 @@ use Rattle.jffs_node.specs.declared.node.Node.{Node}
 use Rattle.jffs_tree.specs.Origin.{Tree}
 use Rattle.jffs_tree.specs.Laws.{NoneLive}
 use Rattle.jffs_tree.specs.declared.wish.Limits.{Limits}
+use Rattle.jffs_tree.specs.declared.wish.Wish.{Wish}
+use Rattle.jffs_tree.specs.Decide.{is_copy_wish, is_unmount_wish}
 use Rattle.jffs_log.specs.declared.log_index.LogIndex.{LogIndex}
 use Rattle.jffs_log.specs.LogIndex.{IsLogIndex, HasSizes, IsSameLogIndex, layout_in, lives_in, oldest_in}
 use Rattle.jffs_log.specs.LogState.{KeepsNumbers}
@@ -21,7 +23,7 @@ use Rattle.jffs_core.specs.Cleaning.{ErasesOldest, IsDeadOldest, AreDead, erased
 use Rattle.jffs_log.specs.Wear.{ErasedInTurn}
 use Rattle.jffs_log.proofs.erase.Wear.{in_turn_none, turns_go_on}
 use Rattle.jffs_log.proofs.erase.WearOverSessions.{images_fix_first}
-use Rattle.jffs_core.specs.Erases.{ErasesAtMost, Leaves, StaysBounded, MountsGoOn}
+use Rattle.jffs_core.specs.Erases.{ErasesAtMost, Leaves, StaysBounded, MountsGoOn, erased_for}
 use Rattle.jffs_core.proofs.RoomMade.{oldest_known}
 use Rattle.jffs_core.proofs.Sweeping.{held_is, oldest_is}
 
@@ -105,11 +107,24 @@ leaves_kept old seen new middle is same s k = subst (λ (c : CoreState). Leaves 
 pub leaves_reserved : (old seen new : CoreState) → old ≡ seen → SameAnswers old new → IsSameLogIndex old.index new.index → Leaves 0 seen new
 leaves_reserved old seen new is same s = leaves_kept old seen new new.index is same s (record { sizes = (refl, refl); first = refl; erases = refl })
 
+-- No more sectors are erased than hold the log.
+pub erased_within : (wish : Wish) (held : ℕ) → erased_for wish held ≤ held
+erased_within wish held = elim (is_copy_wish wish || is_unmount_wish wish) as (λ t. cond t 0 held ≤ held) [ true ↦ omega arith | false ↦ omega arith ]
+
+-- A copy or an unmount node was appended, or a fresh node.
+pub leaves_unerased : (wish : Wish) (old new : CoreState) → Leaves 0 old new → Leaves (erased_for wish old.index.held) old new
+leaves_unerased wish old new h = leaves_more 0 (erased_for wish old.index.held) old new (omega arith) h
+
+pub leaves_fresh : (wish : Wish) (old new : CoreState) → is_copy_wish wish ≡ false → is_unmount_wish wish ≡ false → Leaves old.index.held old new → Leaves (erased_for wish old.index.held) old new
+leaves_fresh wish old new copy unmount h =
+    subst (λ (most : ℕ). Leaves most old new) (λ i. cond (sym copy i || sym unmount i) 0 old.index.held) h
+
 -- An answer was carried out, and kept.
 pub answer_bounded :
-    (old middle new : CoreState) → Leaves old.index.held old middle → new.index ≡ middle.index → new.failed ≡ middle.failed
-    → (new.failed ≡ false → new.index.held ≤ new.index.sectors) → new.index.erases ≤ old.index.erases + old.index.sectors → StaysBounded old new
-answer_bounded old middle new h index failed most few =
+    (wish : Wish) (old middle new : CoreState) → Leaves (erased_for wish old.index.held) old middle → new.index ≡ middle.index → new.failed ≡ middle.failed
+    → (new.failed ≡ false → new.index.held ≤ new.index.sectors) → new.index.erases ≤ old.index.erases + old.index.sectors → StaysBounded wish old new
+answer_bounded wish old middle new h index failed most few =
+    let within = erased_within wish old.index.held in
     let erases = ap (λ (b : LogIndex). b.erases) index in
     let sectors = ap (λ (b : LogIndex). b.sectors) index in
     let bound = h.erases in
@@ -121,6 +136,7 @@ answer_bounded old middle new h index failed most few =
         held = λ works. let held = most works in omega arith;
         turned = λ works. subst (ErasedInTurn old.index) (sym index) (h.turned (sym failed ∙ works));
       };
+      for_wish = omega arith;
       few = few;
     }
 

@@ -19,3 +19,4 @@ pub mod Scanning
 pub mod Handed
 pub mod Done
 pub mod Working
+pub mod Reading

@@ -1,7 +1,9 @@
 -- How often a call erases, in which order, and that a sector stays erased.
-use Rattle.std.specs.Prelude.{◌≡◌, ℕ, ◌+◌, ◌≤◌, false, List}
+use Rattle.std.specs.Prelude.{◌≡◌, ℕ, ◌+◌, ◌≤◌, ◌||◌, false, List, if◌then◌else◌}
 use Rattle.jffs_node.specs.declared.node.Node.{Node}
 use Rattle.jffs_flash.specs.Device.{Device}
+use Rattle.jffs_tree.specs.declared.wish.Wish.{Wish}
+use Rattle.jffs_tree.specs.Decide.{is_copy_wish, is_unmount_wish}
 use Rattle.jffs_log.specs.LogIndex.{HasSizes, layout_in}
 use Rattle.jffs_log.specs.Wear.{ErasedInTurn}
 use Rattle.jffs_core.specs.CoreState.{CoreState, SameAnswers}
@@ -16,11 +18,17 @@ pub record ErasesAtMost (more : ℕ) (old new : CoreState) : Type 0 where
       → new.index.erases + new.index.held ≤ old.index.erases + old.index.held + more
   pub turned : new.failed ≡ false → ErasedInTurn old.index new.index
 
+-- How many sectors may be erased for a wish where so many hold the log: all of them for a fresh
+-- node, none for a copy that was handed in, nor for an unmount node.
+abbrev pub erased_for : Wish → ℕ → ℕ
+erased_for wish held = if is_copy_wish wish || is_unmount_wish wish then 0 else held
+
 -- The device keeps its sizes over an answer, which erases no more than that, and no more sectors
 -- than there are.
-pub record StaysBounded (old new : CoreState) : Type 0 where
+pub record StaysBounded (wish : Wish) (old new : CoreState) : Type 0 where
   pub sizes : HasSizes old.index.sectors old.index.sector_size new.index
   pub erases : ErasesAtMost old.index.sectors old new
+  pub for_wish : new.index.erases ≤ old.index.erases + erased_for wish old.index.held
   pub few : new.index.erases ≤ old.index.erases + old.index.sectors
 
 -- What a call inside the core leaves: the answers and the sizes as they were, and no more than that

@@ -11,6 +11,7 @@ pub mod Erases
 pub mod Finding
 pub mod RoomSteps
 pub mod Rows
+pub mod Mounts
 pub mod Nodes
 pub mod Trees
 pub mod Jobs

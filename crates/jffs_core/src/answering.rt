@@ -21,7 +21,7 @@ impl<F: Flash> Core<F> {
     ghost use Rattle.jffs_core.specs.Past.{RepresentsWorking, Represents, has_room_for};
     ghost use Rattle.jffs_core.specs.Answering.{Answers, AnswersWith, HasAnswered, HasActed};
     ghost use Rattle.jffs_core.specs.Answering.{AddsAnswer, IsNodeOf, KeepsAnswer, WantsFresh};
-    ghost use Rattle.jffs_core.specs.Erases.{Leaves, StaysBounded};
+    ghost use Rattle.jffs_core.specs.Erases.{Leaves, StaysBounded, erased_for};
     ghost use Rattle.jffs_core.specs.Trees.{TellsNode};
 
     /// Reserves memory for one more answer.
@@ -50,7 +50,7 @@ impl<F: Flash> Core<F> {
         ensures kept { AddsAnswer request.writer request.seq result self.old self.new }
         ensures step { (mounted past : List Node) → Represents mounted past self.old
             → Answers mounted past self.old self.new request result }
-        ensures bounded { StaysBounded self.old self.new }
+        ensures bounded { StaysBounded request.wish self.old self.new }
     {
         self.answer_with_node(request).outcome
     }
@@ -65,7 +65,7 @@ impl<F: Flash> Core<F> {
             → AnswersWith mounted past self.old self.new request result.outcome result.node }
         ensures node { HasNode result.outcome result.node }
         ensures tree { TellsNode self.old self.new result.node }
-        ensures bounded { StaysBounded self.old self.new }
+        ensures bounded { StaysBounded request.wish self.old self.new }
     {
         let answered = if self.log.failed() {
             Answered {
@@ -98,7 +98,8 @@ impl<F: Flash> Core<F> {
         requires working { self.old.failed ≡ false }
         ensures acted { (past : List Node) → RepresentsWorking past self.old
             → HasAnswered past self.old self.new request.now result.outcome result.node }
-        ensures leaves { Leaves self.old.index.held self.old self.new }
+        ensures leaves { Leaves (erased_for request.now.wish self.old.index.held)
+            self.old self.new }
     {
         match self.carry_out(request) {
             Ok(answered) => answered,
@@ -114,7 +115,8 @@ impl<F: Flash> Core<F> {
         requires working { self.old.failed ≡ false }
         ensures acted { (past : List Node) → RepresentsWorking past self.old
             → HasActed past self.old self.new request.now result }
-        ensures leaves { Leaves self.old.index.held self.old self.new }
+        ensures leaves { Leaves (erased_for request.now.wish self.old.index.held)
+            self.old self.new }
     {
         if request.wish.is_unmount() && self.clean {
             return Ok(Answered {
@@ -136,7 +138,8 @@ impl<F: Flash> Core<F> {
         requires decided { IsNodeOf self.old request.now node }
         ensures acted { (past : List Node) → RepresentsWorking past self.old
             → HasActed past self.old self.new request.now result }
-        ensures leaves { Leaves self.old.index.held self.old self.new }
+        ensures leaves { Leaves (erased_for request.now.wish self.old.index.held)
+            self.old self.new }
     {
         if request.wish.is_unmount() {
             return self.append_unmount(request, node);

@@ -2,6 +2,7 @@
 
 ghost use Rattle.jffs_core.specs.Erases.{OneIsErased, MountsGoOn};
 ghost use Rattle.jffs_core.specs.History.{ContentsAreState};
+ghost use Rattle.jffs_core.specs.Mounts.{MountsReadOnce};
 ghost use Rattle.jffs_core.specs.RoomSteps.{CleaningOnlyCopies, StoppedOnlyCopies};
 ghost use Rattle.jffs_core.specs.RoomSteps.{MakingRoomOnlyCopies, NoSpaceIsAStep, UnmountsHaveRoom};
 ghost use Rattle.jffs_core.specs.Past.{ScansFindContents, FailedScansFind};
@@ -52,6 +53,12 @@ pub fn one_sector_is_erased()
 /// so the next session erases on from there.
 pub fn mounts_go_on()
     ensures { MountsGoOn }
+{}
+
+/// A mount reads each byte of the device once at most: where each can be read once more, it is not
+/// refused because a read failed.
+pub fn mounts_read_each_byte_once()
+    ensures { MountsReadOnce }
 {}
 
 /// Before an answer no more bytes are copied than the live records of the log took when the request

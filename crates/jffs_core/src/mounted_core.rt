@@ -1,6 +1,7 @@
 //! A mounted device.
 
 ghost use Rattle.std.specs.Prelude.{◌≡◌, IfOk, IfErr};
+ghost use Rattle.jffs_flash.specs.ReadsLeft.{FailsWhereSpent};
 ghost use Rattle.jffs_log.specs.ScanFound.{IsRefused};
 
 use crate::answer::Answer;
@@ -58,10 +59,13 @@ impl<F: Flash> Core<F> {
     ///
     /// Each refusal is that of the scan, and hands the device back with the bytes that it had. Its
     /// reason is in the image and none that is tried before it is, but for `Device`, where a read
-    /// failed, and `Memory`, where allocation failed.
+    /// failed, and `Memory`, where allocation failed. No read fails on a device each of whose bytes
+    /// can be read once more.
     pub fn mount(alloc: Global, flash: F) -> Result<Core<F>, ScanFault<F>>
         ensures mounted { IfOk result (λ c. IsFresh (F.device flash) c) }
         ensures refused { IfErr result (λ f. IsRefused (F.device flash) f.why (F.device f.flash)) }
+        ensures once { IfErr result
+            (λ f. FailsWhereSpent (F.reads_left flash) (F.device flash) (F.device f.flash)) }
     {
         let Mounted {
             log,

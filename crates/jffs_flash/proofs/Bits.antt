@@ -1,7 +1,8 @@
 -- Bytes of which both bits are kept.
-use Rattle.std.proofs.Common.{◌≡◌, ℕ, zero, suc, List, [], ◌∷◌, length, get_or, refl, arith}
+use Rattle.std.proofs.Common.{◌≡◌, ℕ, zero, suc, ◌+◌, ◌≤◌, List, [], ◌∷◌, ◌++◌, length, take, drop, get_or, refl, arith, length-append, length-drop}
 use Rattle.std.specs.Int.Bits.{bit_and}
-use Rattle.jffs_flash.specs.Image.{both_bits}
+use Rattle.std.proofs.lemmas.List.{length-take-le}
+use Rattle.jffs_flash.specs.Image.{window, programmed, both_bits}
 
 pub length-both_bits : (old bytes : List ℕ) → length old ≡ length bytes → length (both_bits old bytes) ≡ length bytes
 length-both_bits [] bytes e = e
@@ -14,3 +15,16 @@ get_or-both_bits [] (b ∷ bytes) k e = absurd (omega arith)
 get_or-both_bits (o ∷ old) [] k e = absurd (omega arith)
 get_or-both_bits (o ∷ old) (b ∷ bytes) zero e = refl
 get_or-both_bits (o ∷ old) (b ∷ bytes) (suc k) e = get_or-both_bits old bytes k (omega arith)
+
+pub length-programmed : (at : ℕ) (bytes image : List ℕ) → at + length bytes ≤ length image → length (programmed at bytes image) ≡ length image
+length-programmed at bytes image h =
+    let was = window at (length bytes) image in
+    let part = both_bits was bytes in
+    let rest = length-drop at image in
+    let seen : length was ≡ length bytes = length-take-le (length bytes) (drop at image) (omega arith) in
+    let long = length-both_bits was bytes seen in
+    let whole = length-append (take at image ++ part) (drop (at + length part) image) in
+    let begun = length-append (take at image) part in
+    let front = length-take-le at image (omega arith) in
+    let back = length-drop (at + length part) image in
+    omega arith

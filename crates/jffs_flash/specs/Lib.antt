@@ -1,4 +1,6 @@
 pub mod Device
 pub mod Fuse
 pub mod Image
+pub mod Limited
+pub mod ReadsLeft
 pub mod Sizes

@@ -1,8 +1,9 @@
 //! What a flash device promises.
 
-ghost use Rattle.std.specs.Prelude.{◌≡◌, ◌+◌, ◌<◌, ◌≤◌, length, OnOk};
+ghost use Rattle.std.specs.Prelude.{◌≡◌, ℕ, ◌+◌, ◌<◌, ◌≤◌, length, OnOk};
 ghost use Rattle.jffs_flash.specs.Image.{window};
 ghost use Rattle.jffs_flash.specs.Device.{Device, IsWhole, Reads, Programs, Erases};
+ghost use Rattle.jffs_flash.specs.ReadsLeft.{TakesReads};
 
 use thiserror::Error;
 
@@ -23,6 +24,10 @@ pub trait Flash {
     // The device as its callers see it.
     ghost device: { Self → Device };
 
+    // How often the byte at each index can still be read before a read of it may fail. A device
+    // that promises nothing of the kind says 0.
+    ghost reads_left: { Self → ℕ → ℕ } = { λ _ _. 0 };
+
     /// How many sectors the device has. The image is as long as all of them together.
     fn sectors(&self) -> u32
         ensures count { result ≡ (device self.now).sectors }
@@ -39,12 +44,16 @@ pub trait Flash {
     /// Fills the buffer with the bytes from `at` on. Precondition: the range lies inside the
     /// device.
     ///
-    /// The image stays as it is, after a failure too; the buffer may then hold any bytes.
+    /// The image stays as it is, after a failure too; the buffer may then hold any bytes. Each byte
+    /// of the range is read once. Where the device says how often each can still be read, a read
+    /// fails only once some byte of the range has none left.
     fn read(&mut self, at: u32, buffer: &mut [u8]) -> Result<(), FlashFault>
         requires { at + length buffer.old ≤ length (device self.old).image }
         ensures device { Reads result (device self.old) (device self.new) }
         ensures filled { OnOk result
-            (buffer.new ≡ window at (length buffer.old) (device self.old).image) };
+            (buffer.new ≡ window at (length buffer.old) (device self.old).image) }
+        ensures left { TakesReads at (length buffer.old) result (reads_left self.old)
+            (reads_left self.new) };
 
     /// Programs the bytes from `at` on: each byte `old` of the range becomes `old & new`.
     /// Precondition: the range lies inside the device.

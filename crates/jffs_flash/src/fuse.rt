@@ -1,8 +1,9 @@
 //! Flash that fails from a chosen call on.
 
 ghost use Rattle.std.specs.Prelude.{◌≡◌, ◌+◌, ◌<◌, ◌≤◌, ◌↔◌, ◌&&◌, length, OnOk, OnErr, IsErr};
-ghost use Rattle.std.specs.Prelude.{IsTrue};
+ghost use Rattle.std.specs.Prelude.{IsTrue, MatchResult};
 ghost use Rattle.jffs_flash.specs.Device.{Reads, Programs, Erases};
+ghost use Rattle.jffs_flash.specs.ReadsLeft.{TakesReads};
 ghost use Rattle.jffs_flash.specs.Image.{window, programmed, erased};
 ghost use Rattle.jffs_flash.specs.Fuse.{seen_device, is_blown, fuses_reads, after_pass, after_read};
 ghost use Rattle.jffs_flash.specs.Fuse.{after_fault, after_failed_erase, program_left, erase_left};
@@ -182,13 +183,14 @@ impl Flash for FuseFlash {
     fn read(&mut self, at: u32, buffer: &mut [u8]) -> Result<(), FlashFault>
         requires { at + length buffer.old ≤ length self.old.inner.image }
         ensures fails { IsErr result ↔ IsTrue (fuses_reads self.old.fused && is_blown self.old) }
-        ensures passed { OnOk result (self.new ≡ after_read self.old.fused self.old) }
-        ensures failed { OnErr result (FailsRead at buffer.old buffer.new self.old self.new) }
+        ensures done { MatchResult result (λ _. self.new ≡ after_read self.old.fused self.old)
+            (λ _. FailsRead at buffer.old buffer.new self.old self.new) }
 
         // What each device promises.
         ensures device { Reads result (seen_device self.old) (seen_device self.new) }
         ensures filled { OnOk result
             (buffer.new ≡ window at (length buffer.old) self.old.inner.image) }
+        ensures left { TakesReads at (length buffer.old) result (λ _. 0) (λ _. 0) }
     {
         if self.fused == Fused::Writes {
             self.inner.copy_out(at, buffer);

@@ -147,3 +147,22 @@ fn the_half_of_an_odd_sector_is_rounded_down(rt: HostRuntime) -> Result<(), Test
     assert_eq!(rt; inner.bytes(), [0, 0, 0, 0xff, 0, 0].as_slice());
     Ok(())
 }
+
+#[test]
+fn each_byte_can_be_read_as_often_as_allowed(rt: HostRuntime) -> Result<(), TestFail> {
+    let inner = MemoryFlash::new(rt.alloc(), 6, 1024)?;
+    let mut flash = LimitedFlash::new(rt.alloc(), inner, 2)?;
+    program(&rt, &mut flash, 3, &[0x0f])?;
+    let mut buffer = [0; 4];
+    read(&rt, &mut flash, 0, &mut buffer)?;
+    assert_eq!(rt; buffer, [0xff, 0xff, 0xff, 0x0f]);
+    read(&rt, &mut flash, 2, &mut buffer)?;
+    assert!(rt; read(&rt, &mut flash, 3, &mut buffer).is_err());
+    assert!(rt; read(&rt, &mut flash, 0, &mut buffer).is_err());
+    assert_eq!(rt; flash.faults(), 2);
+    read(&rt, &mut flash, 4, &mut buffer)?;
+    assert_eq!(rt; flash.faults(), 2);
+    erase(&rt, &mut flash, 0)?;
+    assert!(rt; read(&rt, &mut flash, 5, &mut buffer).is_err());
+    Ok(())
+}

@@ -13,8 +13,6 @@ mod reader;
 mod rule;
 mod sight;
 mod step;
-#[cfg(test)]
-mod tests;
 mod view;
 
 pub use laws::{latest_outcomes_count, views_show_answers};

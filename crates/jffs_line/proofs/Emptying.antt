@@ -13,6 +13,7 @@ use Rattle.rtrb.specs.Ring.{sent}
 use Rattle.jffs_line.specs.Line.{End}
 use Rattle.jffs_line.specs.Requests.{of}
 use Rattle.jffs_line.specs.Rings.{as_request, ring_end, ring_hand_end, ring_taken, ring_accepted, taken_in, Apart}
+use Rattle.jffs_line.specs.Settling.{all_hands}
 use Rattle.jffs_line.proofs.Lists.{All-right, All-mapped}
 use Rattle.jffs_line.proofs.Ringing.{numbers}
 

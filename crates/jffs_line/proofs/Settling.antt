@@ -20,7 +20,8 @@ use Rattle.jffs_line.specs.InOrder.{knows, sent_by, silent, joined, Told, Learne
 use Rattle.jffs_line.specs.Line.{Line, End, senders}
 use Rattle.jffs_line.specs.declared.hand.Hands.{Hands}
 use Rattle.jffs_line.specs.declared.shared.SharedTaker.{SharedTaker}
-use Rattle.jffs_line.specs.Shared.{channel_line, shared_line, shared_end, shared_ends, shared_accepted, hand_sent, all_hands}
+use Rattle.jffs_line.specs.Shared.{channel_line, shared_line, shared_end, shared_ends, shared_accepted, hand_sent}
+use Rattle.jffs_line.specs.Settling.{all_hands}
 use Rattle.jffs_line.proofs.Lists.{All-left, All-right, All-mapped}
 use Rattle.jffs_line.proofs.Making.{numbers_all}
 

@@ -4,3 +4,4 @@ pub mod Line
 pub mod Rings
 pub mod Shared
 pub mod Numbered
+pub mod Settling

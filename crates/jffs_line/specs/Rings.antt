@@ -7,7 +7,6 @@ use Rattle.jffs_line.specs.declared.rings.Note.{Note}
 use Rattle.jffs_line.specs.declared.rings.Ring.{Ring}
 use Rattle.jffs_line.specs.declared.rings.RingHand.{RingHand}
 use Rattle.jffs_line.specs.declared.rings.RingTaker.{RingTaker}
-use Rattle.jffs_line.specs.declared.hand.Hands.{Hands}
 use Rattle.jffs_line.specs.Line.{Line, End}
 use Rattle.jffs_line.specs.Line as line
 use Rattle.jffs_line.specs.Requests.{request}
@@ -45,9 +44,6 @@ rings_ends t = map ring_end t.rings.items
 
 abbrev pub rings_taken : RingTaker → ℕ → List Request
 rings_taken t w = taken_in w t.rings.items
-
-abbrev pub all_ring_hands : Hands RingHand → List RingHand
-all_ring_hands hands = hands.writers.items ++ hands.cleaner ∷ hands.control.hand ∷ []
 
 abbrev pub ring_capacity : RingHand → ℕ
 ring_capacity h = producer_capacity h.producer

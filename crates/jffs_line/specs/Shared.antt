@@ -7,7 +7,6 @@ use Rattle.crossbeam_channel.specs.declared.flavors.array.Rows.{Rows}
 use Rattle.crossbeam_channel.specs.declared.flavors.array.Key.{Key}
 use Rattle.atomic_table.specs.declared.badge.Badge.{Badge}
 use Rattle.jffs_line.specs.declared.request.Request.{Request}
-use Rattle.jffs_line.specs.declared.hand.Hands.{Hands}
 use Rattle.jffs_line.specs.declared.shared.SharedHand.{SharedHand}
 use Rattle.jffs_line.specs.declared.shared.SharedTaker.{SharedTaker}
 use Rattle.jffs_line.specs.Requests.{of}
@@ -44,10 +43,6 @@ shared_ends t = map (λ w. (w, channel_line (receives_on t.receives))) (senders 
 -- what a hand's sender handed in, besides the sender
 abbrev pub hand_sent : SharedHand → Sent
 hand_sent h = sent_by h.number (shared_accepted h)
-
--- the writers' hands in order, the cleaner's and the control's
-abbrev pub all_hands : Hands SharedHand → List SharedHand
-all_hands hands = hands.writers.items ++ hands.cleaner ∷ hands.control.hand ∷ []
 
 abbrev pub shared_taken : SharedTaker → ℕ → List Request
 shared_taken t w = of w (view t.pass).taken

@@ -3,6 +3,7 @@ ghost use Rattle.std.specs.Prelude.{◌≡◌, ℕ, ◌+◌, ◌↔◌, List, []
 ghost use Rattle.std.specs.Prelude.{Contains, IfOk, IfErr, IsErr, IsErrAnd, IfSome, IfNone};
 ghost use Rattle.jffs_line.specs.Line.{Line, End};
 ghost use Rattle.jffs_line.specs.Requests.{of, request, IsNumbered};
+ghost use Rattle.jffs_line.specs.Settling.{all_hands, IsSettled};
 ghost use Rattle.jffs_line.specs.declared.request.Request.{Request};
 ghost use Rattle.jffs_line.specs.declared.request.Why.TheVariants.{Spent};
 
@@ -190,18 +191,7 @@ pub trait Settle: Taker {
         hands: Hands<Self::Of>,
     ) -> Result<Settled, SettleFault>
         requires { Self.ends self
-            ≡ map (λ h. (Self.Of.sender h, Self.Of.line h))
-            (hands.writers.items ++ hands.cleaner ∷ hands.control.hand ∷ []) }
-        ensures settled { IfOk result
-            (λ s. All (λ h. Self.taken self (Self.Of.sender h)
-            ++ of (Self.Of.sender h) s.waiting.items ≡ Self.Of.accepted h)
-            (hands.writers.items ++ hands.cleaner ∷ hands.control.hand ∷ [])) }
-        ensures numbered { IfOk result
-            (λ _. All (λ h. IsNumbered (Self.Of.accepted h))
-            (hands.writers.items ++ hands.cleaner ∷ hands.control.hand ∷ [])) }
-        ensures others { IfOk result
-            (λ s. (w : ℕ) → ¬ (Contains
-            (map Self.Of.sender (hands.writers.items
-            ++ hands.cleaner ∷ hands.control.hand ∷ [])) w)
-            → Self.taken self w ++ of w s.waiting.items ≡ []) };
+            ≡ map (λ h. (Self.Of.sender h, Self.Of.line h)) (all_hands hands) }
+        ensures { IfOk result (λ s. IsSettled Self.Of.sender Self.Of.accepted (all_hands hands)
+            (Self.taken self) s.waiting.items) };
 }

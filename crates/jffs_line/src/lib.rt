@@ -15,8 +15,6 @@ mod knows;
 mod request;
 mod rings;
 mod shared;
-#[cfg(test)]
-mod tests;
 
 pub use hand::{CLEANER, CONTROL, Control, Ends, Hand, Hands, Settle, Taker};
 pub use request::{LineFault, NotTaken, Request, SettleFault, Settled, Why};

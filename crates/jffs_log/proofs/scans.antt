@@ -1,6 +1,7 @@
 -- What a scan finds, step by step.
 pub mod MountHistory
 pub mod MountedLog
+pub mod ReadOnce
 pub mod ScanFold
 pub mod ScanFound
 pub mod ScanIndex

@@ -1,10 +1,12 @@
 -- What a scan reads of the sectors, and where the log begins among them.
-use Rattle.std.specs.Prelude.{◌≡◌, ℕ, ◌/◌, ◌<◌, not, List, length, drop, get_or, sum_by, Option}
+use Rattle.std.specs.Prelude.{◌≡◌, ◌⊎◌, ℕ, ◌+◌, ◌/◌, ◌<◌, ◌≤◌, not, List, length, drop, get_or}
+use Rattle.std.specs.Prelude.{sum_by, Option}
 use Rattle.std.specs.Prelude.{Some, None, Result, Ok, Err, IsTrue, if◌then◌else◌}
 use Rattle.std.specs.List.{list_any, enumerate_from, AllByRecursion}
 use Rattle.jffs_node.specs.Record.{record_len, is_lawful}
 use Rattle.jffs_node.specs.Reading.{reading, reading_len, found}
 use Rattle.jffs_flash.specs.Device.{Device as FlashDevice}
+use Rattle.jffs_flash.specs.ReadsLeft.{HasSpent}
 use Rattle.jffs_log.specs.declared.sector.SectorRead.TheInside.{Inside}
 use Rattle.jffs_log.specs.declared.scanning.ScanWhy.{ScanWhy}
 use Rattle.jffs_log.specs.declared.scanning.ScanWhy.TheVariants.{Device, Memory, NoErased}
@@ -80,3 +82,9 @@ pub record HasRead (s : ℕ × Sector) (number : ℕ) (bytes : List ℕ) : Type 
   pub read : s ≡ (number, sector_of bytes)
   pub spelled : IsSpelled bytes
   pub sound : bad_in s ≡ None
+
+-- The range was read once at most: the bytes outside it can be read as often as before, and the call
+-- failed only where some byte inside it could not be read once more.
+pub record IsReadOnce (at len : ℕ) (before after : FlashDevice) (old new : ℕ → ℕ) : Type 0 where
+  pub rest : after.faults ≡ before.faults → (i : ℕ) → (i < at) ⊎ (at + len ≤ i) → old i ≤ new i
+  pub fails : before.faults < after.faults → 1 ≤ len → HasSpent old at len

@@ -33,8 +33,3 @@ pub use room::Room;
 pub use scanning::{Mounted, ScanFault, ScanWhy, scan};
 pub use sector::RECORDS_PER_SECTOR;
 pub use writing::RECORD_MAX;
-
-#[cfg(test)]
-mod scan_tests;
-#[cfg(test)]
-mod tests;

@@ -6,6 +6,7 @@ ghost use Rattle.std.specs.Prelude.{IsTrue};
 ghost use Rattle.std.specs.List.{AllByRecursion, list_any, last_or};
 ghost use Rattle.jffs_node.specs.Record.{is_lawful};
 ghost use Rattle.jffs_flash.specs.Device.{Unchanged};
+ghost use Rattle.jffs_flash.specs.ReadsLeft.{FailsWhereSpent};
 ghost use Rattle.jffs_log.specs.Image.{Sector, sector_of, records_in, turned, is_erased_option};
 ghost use Rattle.jffs_log.specs.Image.{free_of_tail, free_in as free_bytes, is_free as ends_free};
 ghost use Rattle.jffs_log.specs.Image.{is_clean_tail, ends_with_unmount as unmounted};
@@ -14,6 +15,7 @@ ghost use Rattle.jffs_log.specs.Scan.{first_bad};
 ghost use Rattle.jffs_log.specs.LogIndex.{ref_of};
 ghost use Rattle.jffs_log.specs.ScanRead.{oldest_sector, AreRead, HasRead, IsUnread, bad_in};
 ghost use Rattle.jffs_log.specs.ScanRead.{number_of_tail, used_of_tail};
+ghost use Rattle.jffs_log.specs.ScanRead.{IsReadOnce};
 
 use crate::log_index::RecordRef;
 use crate::scanning::ScanWhy;
@@ -37,6 +39,8 @@ pub(crate) fn read_sectors<F: Flash>(
     ensures same { IfOk result (λ _. Unchanged (F.device flash.old) (F.device flash.new)) }
     ensures refused { IfErr result (λ why. IsUnread why (F.device flash.old) (F.device flash.new)
         (first_bad 0 (sectors_in sectors sector_size (F.device flash.old).image))) }
+    ensures once { 1 ≤ sector_size
+        → FailsWhereSpent (F.reads_left flash.old) (F.device flash.old) (F.device flash.new) }
 {
     let mut found = Vec::new(alloc);
     let mut buffer = vec![in alloc; 0u8; sector_size as usize]?;
@@ -47,16 +51,16 @@ pub(crate) fn read_sectors<F: Flash>(
     Ok(found)
 }
 
-/// Reads a sector as long as the buffer, and refuses a bad record.
+/// Reads a sector as long as the buffer, once, and refuses a bad record.
 fn read_one<F: Flash>(
     alloc: Global,
     flash: &mut F,
     sector: u32,
     buffer: &mut [u8],
 ) -> Result<SectorRead, ScanWhy>
-    requires inside { sector * length buffer.old + length buffer.old
-        ≤ length (F.device flash.old).image }
-    requires small { sector * length buffer.old + length buffer.old < 2 ^ 32 }
+    requires inside { (sector * length buffer.old + length buffer.old
+        ≤ length (F.device flash.old).image)
+        × (sector * length buffer.old + length buffer.old < 2 ^ 32) }
     ensures read { IfOk result
         (λ s. HasRead s sector
         (sector_bytes (length buffer.old) sector (F.device flash.old).image)) }
@@ -68,6 +72,8 @@ fn read_one<F: Flash>(
               (sector_bytes (length buffer.old) sector (F.device flash.old).image),
         ))) }
     ensures length { length buffer.new ≡ length buffer.old }
+    ensures once { IsReadOnce (sector * length buffer.old) (length buffer.old) (F.device flash.old)
+        (F.device flash.new) (F.reads_left flash.old) (F.reads_left flash.new) }
 {
     let len = buffer.len() as u32;
     flash.read(sector * len, buffer)?;

@@ -2,6 +2,7 @@
 
 ghost use Rattle.std.specs.Prelude.{◌≡◌, IfOk, IfErr};
 ghost use Rattle.jffs_flash.specs.Device.{Unchanged};
+ghost use Rattle.jffs_flash.specs.ReadsLeft.{FailsWhereSpent};
 ghost use Rattle.jffs_log.specs.ScanFound.{IsFound, IsMounted, IsRefused};
 
 use crate::folding::{GreatestNumbers, tree_of_log};
@@ -107,10 +108,13 @@ pub struct ScanFault<F> {
 /// Scans a device, whatever it holds. It is read, each sector once, and never written.
 ///
 /// Each refusal hands the device back. Its cause is in the image and none that is tried before it
-/// is, but for `Device`, where a read failed, and `Memory`, where allocation failed.
+/// is, but for `Device`, where a read failed, and `Memory`, where allocation failed. No read fails
+/// on a device each of whose bytes can be read once more.
 pub fn scan<F: Flash>(alloc: Global, mut flash: F) -> Result<Mounted<F>, ScanFault<F>>
     ensures found { IfOk result (λ m. IsMounted (F.device flash) m.log m.tree m.clean m.limits) }
     ensures refused { IfErr result (λ f. IsRefused (F.device flash) f.why (F.device f.flash)) }
+    ensures once { IfErr result
+        (λ f. FailsWhereSpent (F.reads_left flash) (F.device flash) (F.device f.flash)) }
 {
     match find_log(alloc, &mut flash) {
         Ok(found) => Ok(Mounted {
@@ -145,6 +149,7 @@ fn find_log<F: Flash>(alloc: Global, flash: &mut F) -> Result<FoundLog, ScanWhy>
     ensures same { IfOk result (λ _. Unchanged (F.device flash.old) (F.device flash.new)) }
     ensures refused { IfErr result
         (λ why. IsRefused (F.device flash.old) why (F.device flash.new)) }
+    ensures once { FailsWhereSpent (F.reads_left flash.old) (F.device flash.old) (F.device flash.new) }
 {
     let sectors = flash.sectors();
     let sector_size = flash.sector_size();

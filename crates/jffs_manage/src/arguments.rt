@@ -142,25 +142,36 @@ pub(crate) enum Change<'a> {
     Load(&'a str),
 }
 
-/// Why the program's words are no call.
+/// Why words are no call of the program. `run_volume` writes its text.
 #[derive(Clone, Copy, Debug, Error)]
-pub(crate) enum CallFault<'a> {
-    #[error("a command is wanted: format, ls, cat, put, mkdir, mv, rm, df, check, map, save or load; --help tells more")]
+pub enum CallFault<'a> {
+    /// There is no word after the program's name.
+    #[error("a command is wanted: format, ls, cat, put, mkdir, mv, rm, df, check, map, save or \
+    load; --help tells more")]
     NoCommand,
-    #[error("unknown command '{0}'; commands are format, ls, cat, put, mkdir, mv, rm, df, check, map, save and load")]
+    /// The first word is no command.
+    #[error("unknown command '{0}'; commands are format, ls, cat, put, mkdir, mv, rm, df, check, \
+    map, save and load")]
     Command(&'a str),
+    /// A word that begins with `-` is no option.
     #[error("unknown option '{0}'; options are -l, -r, --svg, --sector-size, --help and --version")]
     Option(&'a str),
+    /// An option that this command doesn't have, and the words that it has.
     #[error("unexpected option '{0}': {1}")]
     Foreign(&'static str, &'static str),
+    /// A word after the last that the command has.
     #[error("unexpected word '{0}'")]
     Extra(&'a str),
+    /// The command has more words, which are these.
     #[error("words are missing: {0}")]
     Few(&'static str),
+    /// A word that should be a number isn't one.
     #[error("a number is wanted, got '{0}'")]
     Number(&'a str),
+    /// No word stands after `--sector-size`.
     #[error("--sector-size wants a number")]
     NoNumber,
+    /// Allocation failed.
     #[error("out of memory")]
     Memory,
 }

@@ -116,7 +116,8 @@ pub(crate) fn draw_svg<W: Write>(map: &Map, out: &mut W) -> io::Result<()> {
     let height = rows.saturating_add(2).saturating_mul(ROW_HEIGHT);
     writeln!(
         out,
-        "<svg xmlns=\"http://www.w3.org/2000/svg\" width=\"{width}\" height=\"{height}\" font-family=\"monospace\" font-size=\"12\">"
+        "<svg xmlns=\"http://www.w3.org/2000/svg\" width=\"{width}\" height=\"{height}\" \
+        font-family=\"monospace\" font-size=\"12\">"
     )?;
     for row in map.rows.iter() {
         let top = row.sector.saturating_mul(ROW_HEIGHT);

@@ -47,7 +47,8 @@ pub enum VolumeFault {
     #[error("a directory stands at the path")]
     Directory,
     /// A file of a put that was cut off stands in the directory.
-    #[error("a put was cut off, and left what it had in the file '.put.new' beside the path: mv it or rm it")]
+    #[error("a put was cut off, and left what it had in the file '.put.new' beside the \
+    path: mv it or rm it")]
     Left,
     /// The path is one that an unfinished put has.
     #[error("the name '.put.new' is kept for puts that aren't finished")]
@@ -91,8 +92,8 @@ pub enum VolumeFault {
 }
 
 impl VolumeFault {
-    /// The status that the program ends with.
-    pub(crate) fn status(self) -> u8 {
+    /// The status that the program ends with: 1 to 4, as `run_volume` says.
+    pub fn status(self) -> u8 {
         match self {
             VolumeFault::File(FileFault::Memory | FileFault::Write) | VolumeFault::HostWrite => {
                 BROKEN
@@ -120,7 +121,7 @@ impl VolumeFault {
     }
 
     /// What an error of standard input ends a command with.
-    pub(crate) fn of_input(error: io::Error) -> VolumeFault {
+    pub fn of_input(error: io::Error) -> VolumeFault {
         match error.kind() {
             ErrorKind::OutOfMemory => VolumeFault::Memory,
             _ => VolumeFault::Read,
@@ -129,7 +130,7 @@ impl VolumeFault {
 
     /// What an error of a directory or file of the host ends a command with that reads it. A name
     /// that is no text is one that no path has.
-    pub(crate) fn of_host_read(error: io::Error) -> VolumeFault {
+    pub fn of_host_read(error: io::Error) -> VolumeFault {
         match error.kind() {
             ErrorKind::OutOfMemory => VolumeFault::Memory,
             ErrorKind::NotFound => VolumeFault::HostMissing,
@@ -139,7 +140,7 @@ impl VolumeFault {
     }
 
     /// What an error ends a command with that makes a directory or file of the host.
-    pub(crate) fn of_host_make(error: io::Error) -> VolumeFault {
+    pub fn of_host_make(error: io::Error) -> VolumeFault {
         match error.kind() {
             ErrorKind::OutOfMemory => VolumeFault::Memory,
             ErrorKind::NotFound => VolumeFault::HostMissing,
@@ -149,7 +150,7 @@ impl VolumeFault {
     }
 
     /// What an error ends a command with that writes a file of the host.
-    pub(crate) fn of_host_write(error: io::Error) -> VolumeFault {
+    pub fn of_host_write(error: io::Error) -> VolumeFault {
         match error.kind() {
             ErrorKind::OutOfMemory => VolumeFault::Memory,
             _ => VolumeFault::HostWrite,

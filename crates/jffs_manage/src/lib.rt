@@ -18,9 +18,8 @@ mod mapping;
 mod mounting;
 mod program;
 mod session;
-#[cfg(test)]
-mod tests;
 mod walking;
 
+pub use arguments::CallFault;
 pub use fault::VolumeFault;
 pub use program::run_volume;

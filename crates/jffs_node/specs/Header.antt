@@ -1,5 +1,5 @@
 -- What the functions that read a header answer.
-use Rattle.std.specs.Prelude.{ℕ, ◌<◌, Bool, List, [], ◌∷◌, length, take, bytes_eq, is_some, Option}
+use Rattle.std.specs.Prelude.{ℕ, ◌<◌, Bool, List, [], length, Option}
 use Rattle.std.specs.Prelude.{Some, None, Result, Ok, Err, if◌then◌else◌}
 use Rattle.jffs_node.specs.declared.read.Why.{Why}
 use Rattle.jffs_node.specs.declared.read.Read.{Read}
@@ -7,10 +7,7 @@ use Rattle.jffs_node.specs.declared.read.Read.TheVariants.{Closed, Free, Torn, B
 use Rattle.jffs_node.specs.declared.header.Flags.{Flags}
 use Rattle.jffs_node.specs.declared.header.Labels.{Labels}
 use Rattle.jffs_node.specs.declared.header.Head.{Head}
-use Rattle.jffs_node.specs.declared.read.Why.TheVariants as why
-use Rattle.jffs_node.specs.Record.{magic}
-use Rattle.jffs_node.specs.Reading.{node_at, data_len, kind_at, flags_hold, name_holds, form_holds}
-use Rattle.jffs_node.specs.Reading.{spare_holds}
+use Rattle.jffs_node.specs.Reading.{node_at, data_len}
 
 -- what was read where its rule holds, else the rule
 abbrev pub checked : {A : Type 0} → Bool → Why → A → Result A Why
@@ -28,17 +25,6 @@ labels_at rest = record {
   name = (node_at rest).name;
   size = (node_at rest).size;
 }
-
--- the first six rules of a closed record
-abbrev pub label_rules : List ℕ → List (Bool × Why)
-label_rules rest =
-    (bytes_eq (take 4 rest) magic, why.Magic)
-    ∷ (is_some (kind_at rest), why.Kind)
-    ∷ (flags_hold rest, why.Flags)
-    ∷ (name_holds rest, why.Name)
-    ∷ (form_holds rest, why.Form)
-    ∷ (spare_holds rest, why.Spare)
-    ∷ []
 
 -- what the labels are where their rules hold
 abbrev pub labels_or_why : List ℕ → Option Why → Result Labels Why

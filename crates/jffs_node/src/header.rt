@@ -5,8 +5,8 @@ ghost use Rattle.jffs_node.specs.declared.layout.TheConstants.{HEADER_LEN};
 ghost use Rattle.std.specs.Prelude.{◌≡◌, ◌==◌, ◌≤◌, length, Ok, Err, bytes_eq, is_some, take};
 ghost use Rattle.jffs_node.specs.Record.{magic, is_unmount};
 ghost use Rattle.jffs_node.specs.Reading.{kind_at, flags_hold, name_holds, form_holds, form_at};
-ghost use Rattle.jffs_node.specs.Reading.{spare_holds, node_at, first_broken};
-ghost use Rattle.jffs_node.specs.Header.{checked, flags_at, labels_at, label_rules, labels_or_why};
+ghost use Rattle.jffs_node.specs.Reading.{spare_holds, node_at, first_broken, label_rules};
+ghost use Rattle.jffs_node.specs.Header.{checked, flags_at, labels_at, labels_or_why};
 ghost use Rattle.jffs_node.specs.Header.{head_at};
 
 use crate::layout::*;

@@ -1,5 +1,5 @@
 -- Lemmas on what a fault hands back.
-use Rattle.std.proofs.Common.{◌≡◌, ℕ, List, [], sym, subst, refl, Option, Some, None, ap, ◌∙◌}
+use Rattle.std.proofs.Common.{◌≡◌, ℕ, List, [], sym, subst, refl, Some, None, ap, ◌∙◌}
 use Rattle.std.proofs.lemmas.Option.{same_Some, none-some}
 use Rattle.jffs_flash.specs.Device.{Device}
 use Rattle.jffs_line.specs.declared.request.Request.{Request}
@@ -7,12 +7,10 @@ use Rattle.jffs_core.specs.CoreState.{CoreState}
 use Rattle.jffs_core.specs.Past.{IsLeftBy}
 use Rattle.jffs_index.specs.declared.step.Step.{Step}
 use Rattle.jffs_serve.specs.declared.session.Session.{Session}
-use Rattle.jffs_serve.specs.declared.session.PendingStep.{PendingStep}
 use Rattle.jffs_serve.specs.declared.session.Served.{Served}
 use Rattle.jffs_index.specs.declared.publisher.Publisher.{Publisher}
 use Rattle.jffs_index.specs.Ends.{all_put}
-use Rattle.jffs_serve.specs.Replies.{any_closed}
-use Rattle.jffs_serve.specs.Answered.{Start, HasReplied}
+use Rattle.jffs_serve.specs.Answered.{start_of}
 use Rattle.jffs_serve.proofs.Replying.{nothing_replied, nothing_more}
 use Rattle.jffs_serve.proofs.Chains.{runs_from}
 use Rattle.jffs_serve.proofs.Erasing.{since_start}
@@ -46,7 +44,7 @@ module _ {F : Type 0} where
     put_now = put;
     taken_now = taken;
     ending = None;
-    more = λ start replies was. nothing_more start session.core session.unsent put taken replies None was tt refl;
+    more = nothing_more (start_of session put taken) session.core session.unsent put taken None (nothing_replied session put taken) refl;
     left = left;
   }
 
@@ -67,14 +65,9 @@ module _ {F : Type 0} where
   -- a session over a core that had answered nothing
   pub served_turns :
       (session : Session F) (core : CoreState) (put : List Step) (taken : ℕ → List Request) (device : Device)
-      → session.core ≡ core → session.unsent ≡ None → core.closed ≡ any_closed core.answers
-      → LeftByServing session put taken device → LeftByTurns core device
-  served_turns session core put taken device same unsent closed left =
-      let start : Start = record { taken = taken; core = core; put = put } in
-      let beginning : HasReplied start session.core session.unsent put taken [] =
-      subst (λ (k : Option PendingStep). HasReplied start session.core k put taken []) (sym unsent)
-      (subst (λ (c : CoreState). HasReplied start c None put taken []) (sym same) (nothing_replied core put taken closed)) in
-      let more = left.more start [] beginning in record {
+      → session.core ≡ core → LeftByServing session put taken device → LeftByTurns core device
+  served_turns session core put taken device same left =
+      let more = left.more in subst (λ (c : CoreState). LeftByTurns c device) same record {
         replies = more.0;
         core = left.new.core;
         left = left.left;

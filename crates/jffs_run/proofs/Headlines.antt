@@ -11,15 +11,17 @@ use Rattle.jffs_line.specs.declared.request.Request.{Request}
 use Rattle.jffs_line.specs.Requests.{of, request, IsNumbered}
 use Rattle.jffs_line.specs.declared.hand.Hand as Hand
 use Rattle.jffs_line.specs.declared.hand.Hands.{Hands}
+use Rattle.jffs_line.specs.Settling.{all_hands}
 use Rattle.jffs_serve.specs.declared.session.Served.{Served}
 use Rattle.jffs_serve.specs.Replies.{Reply, AllReply, answer_in, any_closed, FitsServed}
+use Rattle.jffs_serve.specs.Stopping.{StopsAtFirst}
 use Rattle.jffs_text.specs.declared.script.Writer.{Writer}
 use Rattle.jffs_text.specs.declared.script.ReaderStatement.{ReaderStatement}
 use Rattle.jffs_run.specs.declared.reader.ReaderEnd.{ReaderEnd}
 use Rattle.jffs_run.specs.Looking.{HaveSeen}
 use Rattle.jffs_text.specs.Wishes.{wishes_of}
 use Rattle.jffs_run.specs.Numbered.{numbered}
-use Rattle.jffs_run.specs.Ends.{EachFrom, AreCopies, commands_at, accepted_by, all_hands, HandedIn, HandedInAll}
+use Rattle.jffs_run.specs.Ends.{EachFrom, AreCopies, commands_at, accepted_by, HandedIn, HandedInAll}
 use Rattle.jffs_flash.specs.Device.{Device}
 use Rattle.jffs_core.specs.Past.{IsLeftBy}
 use Rattle.jffs_run.specs.Account.{Account}
@@ -174,7 +176,7 @@ module _ {H : Type 0} (g : Hand.Ghosts H) where
   account_with script statements hands answers waiting ends served device = record {
     script = script;
     statements = statements;
-    accepted = λ sender. accepted_by g sender (all_hands g hands);
+    accepted = λ sender. accepted_by g sender (all_hands hands);
     answers = answers;
     waiting = waiting;
     ends = ends;
@@ -186,21 +188,21 @@ module _ {H : Type 0} (g : Hand.Ghosts H) where
   pub is_run :
       (start core : CoreState) (script : List Writer) (statements : List ReaderStatement) (hands : Hands H) (replies : List Reply) (waiting : List Request) (ends : List ReaderEnd) (served : Served) (device : Device)
       → length script ≤ 8 → length hands.writers.items ≡ length script
-      → map g.sender (all_hands g hands) ≡ senders (length script)
+      → map g.sender (all_hands hands) ≡ senders (length script)
       → EachFrom (HandedIn g script) 0 hands.writers.items
       → (g.accepted hands.control.hand ≡ []) ⊎ EachFrom (HandedInAll g script) 0 hands.writers.items
       → AreCopies (g.accepted hands.cleaner)
       → (g.accepted hands.control.hand ≡ []) ⊎ (g.accepted hands.control.hand ≡ request (g.sender hands.control.hand) 1 Unmount ∷ [])
       → AllReply replies
-      → All (λ hand. of (g.sender hand) (requests_in replies) ++ of (g.sender hand) waiting ≡ g.accepted hand) (all_hands g hands)
-      → All (λ hand. IsNumbered (g.accepted hand)) (all_hands g hands)
-      → ((sender : ℕ) → (Contains (map g.sender (all_hands g hands)) sender → ⊥) → of sender (requests_in replies) ++ of sender waiting ≡ [])
+      → All (λ hand. of (g.sender hand) (requests_in replies) ++ of (g.sender hand) waiting ≡ g.accepted hand) (all_hands hands)
+      → All (λ hand. IsNumbered (g.accepted hand)) (all_hands hands)
+      → ((sender : ℕ) → (Contains (map g.sender (all_hands hands)) sender → ⊥) → of sender (requests_in replies) ++ of sender waiting ≡ [])
       → HaveSeen (record { opening = start.tree; steps = map (λ (r : Reply). r.step) replies }) statements ends
       → HasSizes start.index.sectors start.index.sector_size core.index → ErasesSince start (length replies) core
       → IsLeftBy core device → ((mounted past : List Node) → Represents mounted past start → RunsTo start core mounted past replies)
-      → FitsServed served (any_closed (map answer_in replies)) replies
+      → FitsServed served (any_closed (map answer_in replies)) replies → StopsAtFirst replies
       → IsRun start (account_with script statements hands (map answer_in replies) waiting ends served device)
-  is_run start core script statements hands replies waiting ends served device eight count numbers first whole copies unmounts replied settled counted others seen sizes erases left lawful ending =
+  is_run start core script statements hands replies waiting ends served device eight count numbers first whole copies unmounts replied settled counted others seen sizes erases left lawful ending stops =
       let writers : List H = hands.writers.items in
       let tail : List H = hands.cleaner ∷ hands.control.hand ∷ [] in
       let accepted : ℕ → List Request = λ sender. accepted_by g sender (writers ++ tail) in
@@ -218,10 +220,11 @@ module _ {H : Type 0} (g : Hand.Ghosts H) where
       elsewhere 10 (λ slot below ten_is. absurd (omega arith))
       ∙ (passed 10 hands.cleaner (hands.control.hand ∷ []) (λ is. absurd (omega arith)) ∙ found 10 hands.control.hand [] ten) in
       let each : (sender : ℕ) → of sender (requests_in replies) ++ of sender waiting ≡ accepted sender =
-      λ sender. each_settled (requests_in replies) waiting (all_hands g hands) settled sender (others sender) in
+      λ sender. each_settled (requests_in replies) waiting (all_hands hands) settled sender (others sender) in
       record {
         seen = seen;
         ending = ending;
+        stops = stops;
         core = core;
         left = left;
         sizes = sizes;
@@ -234,7 +237,7 @@ module _ {H : Type 0} (g : Hand.Ghosts H) where
         numbers = λ sender.
             let mine : List Request = of sender (requests_in replies) in
             let both : seqs mine ++ seqs (of sender waiting) ≡ range_with_len 1 (length (accepted sender)) =
-            sym (map-append (λ (r : Request). r.seq) mine (of sender waiting)) ∙ (ap seqs (each sender) ∙ each_numbered (all_hands g hands) counted sender) in
+            sym (map-append (λ (r : Request). r.seq) mine (of sender waiting)) ∙ (ap seqs (each sender) ∙ each_numbered (all_hands hands) counted sender) in
             let begins = counted_first 1 (length (accepted sender)) (seqs mine) (seqs (of sender waiting)) both in
             same_numbers sender replies replied ∙ (begins ∙ ap (range_with_len 1) (length-map mine (λ (r : Request). r.seq)));
         writers = λ slot below.

@@ -1,5 +1,5 @@
 -- Lemmas that put a run together.
-use Rattle.std.proofs.Common.{◌≡◌, ◌≤◌, ℕ, Bool, ◌+◌, List, [], ◌∷◌, ◌++◌, length, map, sym, ◌∙◌, ap, ap₂, subst, arith, append_assoc, length-append, get_or, Option}
+use Rattle.std.proofs.Common.{◌≡◌, ◌≤◌, ℕ, ◌+◌, List, [], ◌∷◌, ◌++◌, length, map, sym, ◌∙◌, ap, ap₂, subst, arith, append_assoc, length-append, get_or, Option, None, Some}
 use Rattle.std.specs.List.{All, Contains, range_with_len}
 use Rattle.std.proofs.lemmas.List.{length-map}
 use Rattle.std.proofs.lemmas.List.FromFn.{length-range_with_len}
@@ -10,6 +10,7 @@ use Rattle.jffs_line.specs.declared.request.Request.{Request}
 use Rattle.jffs_line.specs.Requests.{of, IsNumbered}
 use Rattle.jffs_line.specs.declared.hand.Hand as Hand
 use Rattle.jffs_line.specs.declared.hand.Hands.{Hands}
+use Rattle.jffs_line.specs.Settling.{all_hands}
 use Rattle.jffs_line.proofs.Lists.{All-left, All-right}
 use Rattle.jffs_core.specs.CoreState.{CoreState}
 use Rattle.jffs_tree.specs.Origin.{Tree}
@@ -22,14 +23,16 @@ use Rattle.jffs_index.proofs.Kept.{answered-fold}
 use Rattle.jffs_serve.specs.declared.session.PendingStep.{PendingStep}
 use Rattle.jffs_serve.specs.PendingStep.{unput}
 use Rattle.jffs_serve.specs.declared.session.Served.{Served}
-use Rattle.jffs_serve.specs.Replies.{Reply, answer_in, any_closed, FitsServed}
+use Rattle.jffs_serve.specs.Replies.{Reply, answer_in}
+use Rattle.jffs_serve.specs.Stopping.{ending_in, StopsAt}
+use Rattle.jffs_serve.proofs.Stopping.{stopped_in_order, stopped_fits_served}
 use Rattle.jffs_serve.specs.Answered.{Start, HasReplied}
 use Rattle.jffs_core.specs.declared.answer.Answer.{Answer}
 use Rattle.jffs_text.specs.declared.script.Writer.{Writer}
 use Rattle.jffs_text.specs.declared.script.ReaderStatement.{ReaderStatement}
 use Rattle.jffs_run.specs.declared.reader.ReaderEnd.{ReaderEnd}
 use Rattle.jffs_run.specs.declared.crew.Crew.{Crew}
-use Rattle.jffs_run.specs.Ends.{end_of, all_hands}
+use Rattle.jffs_run.specs.Ends.{end_of}
 use Rattle.jffs_run.specs.Crew.{HasHandedIn, crew_hands}
 use Rattle.jffs_run.specs.Looking.{HaveSeen, IsWhole}
 use Rattle.jffs_flash.specs.Device.{Device}
@@ -54,7 +57,7 @@ module _ {H : Type 0} (g : Hand.Ghosts H) where
       omega arith
 
   -- no hand of a new line handed anything in
-  pub new_hands : (hands : Hands H) → All (λ hand. g.accepted hand ≡ []) (all_hands g hands) → All (λ hand. g.accepted hand ≡ []) hands.writers.items × (g.accepted hands.cleaner ≡ []) × (g.accepted hands.control.hand ≡ [])
+  pub new_hands : (hands : Hands H) → All (λ hand. g.accepted hand ≡ []) (all_hands hands) → All (λ hand. g.accepted hand ≡ []) hands.writers.items × (g.accepted hands.cleaner ≡ []) × (g.accepted hands.control.hand ≡ [])
   new_hands hands fresh =
       let P : H → Type 0 = λ hand. g.accepted hand ≡ [] in
       let tail = All-right P hands.writers.items (hands.cleaner ∷ hands.control.hand ∷ []) fresh in (
@@ -72,17 +75,17 @@ module _ {H : Type 0} (g : Hand.Ghosts H) where
       → HasHandedIn g script crew hands
       → ((w : ℕ) → start.taken w ≡ []) → start.core.answers ≡ [] → start.put ≡ [] → published.opening ≡ start.core.tree
       → HasReplied start core unsent (published.steps ++ pending) taken replies
-      → All (λ hand. taken (g.sender hand) ++ of (g.sender hand) waiting ≡ g.accepted hand) (all_hands g hands)
-      → All (λ hand. IsNumbered (g.accepted hand)) (all_hands g hands)
-      → ((w : ℕ) → (Contains (map g.sender (all_hands g hands)) w → ⊥) → taken w ++ of w waiting ≡ [])
+      → All (λ hand. taken (g.sender hand) ++ of (g.sender hand) waiting ≡ g.accepted hand) (all_hands hands)
+      → All (λ hand. IsNumbered (g.accepted hand)) (all_hands hands)
+      → ((w : ℕ) → (Contains (map g.sender (all_hands hands)) w → ⊥) → taken w ++ of w waiting ≡ [])
       → ((history : History) → IsWhole published (length core.answers) history → HaveSeen history statements ends)
       → IsLeftBy core device
-      → FitsServed served core.closed replies
+      → StopsAt None replies (ending_in (Some served) core unsent)
       → IsRun start.core (account_with g script statements hands core.answers waiting ends served device)
-  whole_run script statements crew hands core unsent published pending start taken replies waiting ends served device eight numbers handed untaken unanswered unput_before opened_is has settled numbered others seen left ending =
+  whole_run script statements crew hands core unsent published pending start taken replies waiting ends served device eight numbers handed untaken unanswered unput_before opened_is has settled numbered others seen left stops =
       let answers_are : core.answers ≡ map answer_in replies = has.answered ∙ ap (λ (l : List Answer). l ++ map answer_in replies) unanswered in
       let taken_is : (w : ℕ) → taken w ≡ of w (requests_in replies) = λ w. has.all_taken w ∙ ap (λ (l : List Request). l ++ of w (requests_in replies)) (untaken w) in
-      let now = same_senders (all_hands g hands) (crew_hands g crew) handed.ends ∙ numbers in
+      let now = same_senders (all_hands hands) (crew_hands g crew) handed.ends ∙ numbers in
       let steps : List Step = map (λ (r : Reply). r.step) replies in
       let history : History = record { opening = start.core.tree; steps = steps } in
       let put : published.steps ++ (pending ++ unput unsent) ≡ steps =
@@ -96,9 +99,9 @@ module _ {H : Type 0} (g : Hand.Ghosts H) where
       subst (λ (answers : List Answer). IsRun start.core (account_with g script statements hands answers waiting ends served device)) (sym answers_are)
       (is_run g start.core core script statements hands replies waiting ends served device eight
       (count_writers hands.writers.items hands.cleaner hands.control.hand (length script) now) now
-      handed.first handed.whole handed.cleaner handed.control has.reply
-      (λ k d below. let w : ℕ = g.sender (get_or (all_hands g hands) k d) in ap (λ (l : List Request). l ++ of w waiting) (sym (taken_is w)) ∙ settled k d below)
+      handed.first handed.whole handed.cleaner handed.control (stopped_in_order replies _ stops has.reply)
+      (λ k d below. let w : ℕ = g.sender (get_or (all_hands hands) k d) in ap (λ (l : List Request). l ++ of w waiting) (sym (taken_is w)) ∙ settled k d below)
       numbered
       (λ w none. ap (λ (l : List Request). l ++ of w waiting) (sym (taken_is w)) ∙ others w none)
       (seen history whole) has.sizes has.erases left has.lawful
-      (subst (λ (closed : Bool). FitsServed served closed replies) (has.closed ∙ ap any_closed answers_are) ending))
+      (stopped_fits_served served replies core unsent stops) (_, stops))

@@ -9,6 +9,7 @@ use Rattle.jffs_line.specs.Requests.{request}
 use Rattle.jffs_line.specs.declared.hand.Hand as Hand
 use Rattle.jffs_line.specs.declared.hand.Hands.{Hands}
 use Rattle.jffs_line.specs.declared.hand.Taker as Taker
+use Rattle.jffs_line.specs.Settling.{all_hands}
 use Rattle.jffs_index.specs.declared.rule.Index.{Index}
 use Rattle.jffs_index.specs.declared.rule.History.{History}
 use Rattle.jffs_index.specs.Ends.{index_of, published}
@@ -18,7 +19,7 @@ use Rattle.jffs_text.specs.declared.script.Writer.{Writer}
 use Rattle.jffs_run.specs.declared.crew.Crew.{Crew}
 use Rattle.jffs_run.specs.declared.crew.Finished.{Finished}
 use Rattle.jffs_run.specs.declared.promise.LogSide.{LogSide}
-use Rattle.jffs_run.specs.Ends.{EachFrom, AreCopies, end_of, all_hands, HandedIn, HandedInAll}
+use Rattle.jffs_run.specs.Ends.{EachFrom, AreCopies, end_of, HandedIn, HandedInAll}
 use Rattle.jffs_run.specs.Looking.{HaveSeen, IsWhole}
 use Rattle.jffs_text.specs.declared.script.TheConstants.{WRITERS_MAX}
 
@@ -45,7 +46,7 @@ module _ {H : Type 0} (g : Hand.Ghosts H) where
   -- the hands are those of the crew. Each writer's handed in the first of its commands, and all of
   -- them where the control asked for the Unmount; the cleaner's asked for copies alone
   pub record HasHandedIn (script : List Writer) (crew : Crew H) (hands : Hands H) : Type 0 where
-    pub ends : map (end_of g) (all_hands g hands) ≡ map (end_of g) (crew_hands crew)
+    pub ends : map (end_of g) (all_hands hands) ≡ map (end_of g) (crew_hands crew)
     pub first : EachFrom (HandedIn g script) 0 hands.writers.items
     pub whole : (g.accepted hands.control.hand ≡ [])
         ⊎ EachFrom (HandedInAll g script) 0 hands.writers.items
@@ -72,9 +73,9 @@ module _ {H : Type 0} (g : Hand.Ghosts H) where
   -- the ends of a line for `writers` writers, from which nothing was handed in and nothing taken
   pub record IsNewLine (ends : List End) (taken : ℕ → List Request) (hands : Hands H)
       (writers : ℕ) : Type 0 where
-    pub ends_are : ends ≡ map (end_of g) (all_hands g hands)
-    pub numbers : map g.sender (all_hands g hands) ≡ senders writers
-    pub fresh : All (λ hand. g.accepted hand ≡ []) (all_hands g hands)
+    pub ends_are : ends ≡ map (end_of g) (all_hands hands)
+    pub numbers : map g.sender (all_hands hands) ≡ senders writers
+    pub fresh : All (λ hand. g.accepted hand ≡ []) (all_hands hands)
     pub untaken : (sender : ℕ) → taken sender ≡ []
     pub eight : writers ≤ WRITERS_MAX
 

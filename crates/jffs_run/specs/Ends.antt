@@ -39,10 +39,6 @@ module _ {H : Type 0} (g : Hand.Ghosts H) where
   abbrev pub end_of : H → End
   end_of hand = (g.sender hand, g.line hand)
 
-  -- all hands: those of the writers in order, the cleaner's and the control's
-  abbrev pub all_hands : Hands H → List H
-  all_hands hands = hands.writers.items ++ hands.cleaner ∷ hands.control.hand ∷ []
-
   -- what the first of the hands with this sender accepted
   abbrev pub accepted_by : ℕ → List H → List Request
   accepted_by sender [] = []
@@ -58,12 +54,3 @@ module _ {H : Type 0} (g : Hand.Ghosts H) where
   -- it handed in all of them
   abbrev pub HandedInAll : List Writer → ℕ → H → Type 0
   HandedInAll script slot hand = length (g.accepted hand) ≡ length (commands_at script slot)
-
-  -- Of each hand what it accepted, numbered 1, 2, 3, .., was taken or else waits; and of a sender
-  -- that has no hand nothing was taken, and nothing waits.
-  pub record IsSettled (hands : List H) (taken : ℕ → List Request) (waiting : List Request) :
-      Type 0 where
-    pub each : All (λ hand. taken (g.sender hand) ++ of (g.sender hand) waiting ≡ g.accepted hand)
-        hands
-    pub numbered : All (λ hand. IsNumbered (g.accepted hand)) hands
-    pub others : (w : ℕ) → (Contains (map g.sender hands) w → ⊥) → taken w ++ of w waiting ≡ []

@@ -13,6 +13,7 @@ use Rattle.jffs_log.specs.LogIndex.{HasSizes}
 use Rattle.jffs_serve.specs.Chain.{RunsTo}
 use Rattle.jffs_serve.specs.Answered.{ErasesSince}
 use Rattle.jffs_serve.specs.Replies.{Reply, AllReply, answer_in, any_closed, FitsServed}
+use Rattle.jffs_serve.specs.Stopping.{StopsAtFirst}
 use Rattle.jffs_text.specs.Wishes.{wishes_of}
 use Rattle.jffs_run.specs.Numbered.{numbered}
 use Rattle.jffs_run.specs.Ends.{commands_at, AreCopies}
@@ -39,7 +40,7 @@ numbers_of sender (answer ∷ answers) =
 -- From whatever history the core represented at the start, these requests were answered in a chain
 -- of turns, to the core at the end, which left the device as it is, of the same sizes, with so many
 -- erases at most.
--- What was served is determined by the answers.
+-- What was served is determined by the answers, and the first that answers an Unmount is the last.
 -- There is an end for each reader's statement: it saw what its path reads after a beginning of the
 -- answers, from the tree at the start on, or counts as one that saw nothing.
 pub record IsRun (start : CoreState) (account : Account) : Type 0 where
@@ -70,5 +71,6 @@ pub record IsRun (start : CoreState) (account : Account) : Type 0 where
   pub lawful : (mounted past : List Node) → Represents mounted past start
       → RunsTo start core mounted past replies
   pub ending : FitsServed account.served (any_closed account.answers) replies
+  pub stops : StopsAtFirst replies
   pub seen : HaveSeen (record { opening = start.tree; steps = map (λ (r : Reply). r.step) replies })
       account.statements account.ends

@@ -3,7 +3,7 @@
 //! `run_threads` starts a thread for the log, one for each writer and each reader, and one for the
 //! cleaner where the script asks for it, and joins them all; `run_program` does all that the
 //! program does with a script, whatever its input and output are, and `run_called` what its words
-//! ask for.
+//! ask for. `print_answers` and its neighbours write the lines of answers, readers and the end.
 //! It stands on `jffs_text` for texts, on `jffs_line` and `jffs_index` for what flows between the
 //! threads, and on `jffs_serve` for the log's side.
 #![tactic(auto)]
@@ -35,10 +35,8 @@ pub use laws::{
     runs_without_faults, runs_work_little, sessions_are_done, space_is_sure,
 };
 pub use outcome::{AcceptedBy, Run};
+pub use printing::{print_answers, print_ending, print_readers};
 pub use program::{run_called, run_program, run_program_on_file};
 pub use reader::ReaderEnd;
 pub use run::run_threads;
 pub use writer::{Gate, NoGate};
-
-#[cfg(test)]
-mod tests;

@@ -11,7 +11,9 @@ use std::io::Write;
 /// The line of each answered request of a writer, `appended` or `refused CAUSE` after `W.N`, by
 /// writer and then by number. The cleaner and the control, which have higher numbers, have no
 /// lines.
-pub(crate) fn print_answers<W: Write>(answers: &[Answer], out: &mut W) -> io::Result<()> {
+///
+/// An error of `out`, which may then have a part of the lines.
+pub fn print_answers<W: Write>(answers: &[Answer], out: &mut W) -> io::Result<()> {
     for writer in 1..=WRITERS_MAX {
         for answer in answers
             .iter()
@@ -25,7 +27,9 @@ pub(crate) fn print_answers<W: Write>(answers: &[Answer], out: &mut W) -> io::Re
 
 /// The line of each reader, counted from 1: after `reader R` the bytes in hex, `none` where its
 /// path was no file, or `not seen`.
-pub(crate) fn print_readers<W: Write>(readers: &[ReaderEnd], out: &mut W) -> io::Result<()> {
+///
+/// An error of `out`, which may then have a part of the lines.
+pub fn print_readers<W: Write>(readers: &[ReaderEnd], out: &mut W) -> io::Result<()> {
     for (index, end) in readers.iter().enumerate() {
         write!(out, "reader {} ", index + 1)?;
         match end {
@@ -41,7 +45,9 @@ pub(crate) fn print_readers<W: Write>(readers: &[ReaderEnd], out: &mut W) -> io:
 
 /// `closed`, or `not closed CAUSE`, as the control's Unmount was answered; the cause is Ended where
 /// nothing answered it.
-pub(crate) fn print_ending<W: Write>(answers: &[Answer], out: &mut W) -> io::Result<()> {
+///
+/// An error of `out`, which may then have a part of the line.
+pub fn print_ending<W: Write>(answers: &[Answer], out: &mut W) -> io::Result<()> {
     match answers.iter().find(|answer| answer.writer == CONTROL) {
         Some(answer) => match answer.outcome {
             Outcome::Refused(cause) => writeln!(out, "not closed {}", cause_name(cause)),

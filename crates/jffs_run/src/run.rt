@@ -4,7 +4,7 @@ ghost use Rattle.std.specs.Prelude.{◌≡◌, [], map, false, IfOk, IfErr, vec_
 ghost use Rattle.std.specs.List.{All};
 ghost use Rattle.jffs_index.specs.Histories.{opening_of};
 ghost use Rattle.jffs_index.specs.Ends.{published, pending, publisher_index, index_of};
-ghost use Rattle.jffs_run.specs.Ends.{all_hands, accepted_by, end_of, IsSettled};
+ghost use Rattle.jffs_run.specs.Ends.{accepted_by, end_of};
 ghost use Rattle.jffs_run.specs.Crew.{IsNewLine};
 ghost use Rattle.jffs_core.specs.CoreState.{CoreState};
 ghost use Rattle.jffs_core.specs.Past.{IsFresh, IsLeftBy};
@@ -12,6 +12,7 @@ ghost use Rattle.jffs_run.specs.Account.{account_of};
 ghost use Rattle.jffs_run.specs.Headline.{IsRun};
 ghost use Rattle.jffs_run.specs.Faults.{GivesBack, IsGivenUp, LeftByTurns};
 ghost use Rattle.jffs_run.specs.Accepted.{accepted_of};
+ghost use Rattle.jffs_line.specs.Settling.{all_hands, IsSettled};
 
 use crate::crew::{Crew, Finished};
 use crate::fault::{RunFault, RunWhy};
@@ -96,7 +97,7 @@ where
     ensures fault { IfErr result (GivesBack F.device (LeftByTurns core)) }
     ensures run { IfOk result
         (λ r. IsRun core (account_of F.Flash script.now
-        (λ sender. accepted_by T.Of.Hand sender (all_hands T.Of.Hand r.0.value)) r.1)) }
+        (λ sender. accepted_by T.Of.Hand sender (all_hands r.0.value)) r.1)) }
 {
     let Opened {
         publisher,
@@ -138,13 +139,13 @@ fn settle_all<R: Wait, F: Flash + Drop, T: Settle, W: Wait + Drop>(
     finished: Finished<T::Of, F, T, W>,
 ) -> Result<Run<F, ()>, RunFault<F>>
     requires ends { T.ends finished.log.side.taker
-        ≡ map (end_of T.Of.Hand) (all_hands T.Of.Hand finished.hands) }
+        ≡ map (end_of T.Of.Hand) (all_hands finished.hands) }
     ensures fault { IfErr result (GivesBack F.device (IsLeftBy finished.log.side.session.core)) }
     ensures rest { IfOk result
         (λ run. (run.answers.items ≡ finished.log.side.session.core.answers)
         × (run.readers ≡ finished.readers) × (run.served ≡ finished.log.served)) }
     ensures settled { IfOk result
-        (λ run. IsSettled T.Of.Hand (all_hands T.Of.Hand finished.hands)
+        (λ run. IsSettled T.Of.sender T.Of.accepted (all_hands finished.hands)
         (T.taken finished.log.side.taker) run.waiting.items) }
     ensures left { IfOk result
         (λ run. IsLeftBy finished.log.side.session.core (F.device run.flash)) }

@@ -6,8 +6,8 @@ use Rattle.jffs_index.specs.declared.publisher.Publisher.{Publisher}
 use Rattle.jffs_index.specs.Ends.{all_put}
 use Rattle.jffs_serve.specs.declared.session.Session.{Session}
 use Rattle.jffs_serve.specs.declared.session.Served.TheVariants.{Memory}
-use Rattle.jffs_serve.specs.Answered.{RepliesMore}
-use Rattle.jffs_serve.proofs.Replying.{nothing_more}
+use Rattle.jffs_serve.specs.Answered.{start_of, RepliesMore}
+use Rattle.jffs_serve.proofs.Replying.{nothing_more, nothing_replied}
 
 module _ {F W : Type 0} where
   -- nothing was answered yet
@@ -15,10 +15,10 @@ module _ {F W : Type 0} where
       → RepliesMore session (all_put old).steps taken session (all_put new).steps taken None
   begun session old new taken same =
       subst (λ (h : History). RepliesMore session (all_put old).steps taken session h.steps taken None) (sym same)
-      (λ start replies was. nothing_more start session.core session.unsent (all_put old).steps taken replies None was tt refl)
+      (nothing_more (start_of session (all_put old).steps taken) session.core session.unsent (all_put old).steps taken None (nothing_replied session (all_put old).steps taken) refl)
 
   pub begun_short : (session : Session F) (old new : Publisher W) (taken : ℕ → List Request) → all_put new ≡ all_put old
       → RepliesMore session (all_put old).steps taken session (all_put new).steps taken (Some Memory)
   begun_short session old new taken same =
       subst (λ (h : History). RepliesMore session (all_put old).steps taken session h.steps taken (Some Memory)) (sym same)
-      (λ start replies was. nothing_more start session.core session.unsent (all_put old).steps taken replies (Some Memory) was tt refl)
+      (nothing_more (start_of session (all_put old).steps taken) session.core session.unsent (all_put old).steps taken (Some Memory) (nothing_replied session (all_put old).steps taken) refl)

@@ -43,6 +43,30 @@ pub runs_more :
 runs_more start old new mounted past replies r run replied =
     record { after = after_reply replied; chain = chain_more mounted past run.after start old new replies r run.chain replied }
 
+chain_before :
+    (mounted past after : List Node) (start old new : CoreState) (replies : List Reply)
+    → KeepsHistory start old → Chain mounted past old replies new after → Chain mounted past start replies new after
+chain_before mounted past after start old new [] keeps chain = (keeps_along start old new keeps chain.0, chain.1)
+chain_before mounted past after start old new (r ∷ replies) keeps chain = (
+  record { was = chain.0.was; now = chain.0.now; between = keeps_along start old chain.0.was keeps chain.0.between; replied = chain.0.replied },
+  chain.1,
+)
+
+chain_along :
+    (mounted past middle after : List Node) (start old new : CoreState) (first second : List Reply)
+    → Chain mounted past start first old middle → Chain mounted middle old second new after → Chain mounted past start (first ++ second) new after
+chain_along mounted past middle after start old new [] second here there =
+    chain_before mounted past after start old new second here.0 (subst (λ (nodes : List Node). Chain mounted nodes old second new after) here.1 there)
+chain_along mounted past middle after start old new (r ∷ first) second here there =
+    (here.0, chain_along mounted (after_reply here.0.replied) middle after here.0.now old new first second here.1 there)
+
+-- one stretch of turns after another
+pub runs_along :
+    (start old new : CoreState) (mounted past : List Node) (first second : List Reply)
+    → (run : RunsTo start old mounted past first) → RunsTo old new mounted run.after second → RunsTo start new mounted past (first ++ second)
+runs_along start old new mounted past first second run more =
+    record { after = more.after; chain = chain_along mounted past run.after more.after start old new first second run.chain more.chain }
+
 -- the core represents the history that a chain led to
 pub chain_stands :
     (mounted past after : List Node) (start core : CoreState) (replies : List Reply)

@@ -1,8 +1,9 @@
 -- How often a session erases.
-use Rattle.std.proofs.Common.{◌≡◌, ◌+◌, ◌*◌, ℕ, inl, inr, true, false, List, [], ◌∷◌, ◌++◌, length, sym, subst, arith, length-append}
+use Rattle.std.proofs.Common.{◌≡◌, ◌+◌, ◌*◌, ℕ, inl, inr, true, false, List, [], ◌∷◌, ◌++◌, length, sym, ap, subst, arith, length-append}
 use Rattle.std.proofs.Math.Nat.{add-mul}
 use Rattle.std.proofs.lemmas.Bool.{both_ways, cases_Bool}
 use Rattle.jffs_tree.specs.declared.wish.Outcome.{Outcome}
+use Rattle.jffs_log.specs.declared.log_index.LogIndex.{LogIndex}
 use Rattle.jffs_core.specs.CoreState.{CoreState}
 use Rattle.jffs_core.specs.Answering.{KeepsAnswer}
 use Rattle.jffs_core.specs.Erases.{ErasesAtMost}
@@ -56,3 +57,25 @@ since_same start old new answers keeps was = elim (cases_Bool old.failed) [
       let erased = keeps.erases in
       record { erases = let now = erased.erases in omega arith; held = λ still. let now = erased.held still in omega arith }
 ]
+
+-- one stretch of answers after another
+pub since_along :
+    (start old new : CoreState) (first second : ℕ) → start.index.sectors ≡ old.index.sectors
+    → (old.failed ≡ true → (new.failed ≡ true) × (new.index ≡ old.index))
+    → ErasesSince start first old → ErasesSince old second new → ErasesSince start (first + second) new
+since_along start old new first second same kept was more =
+    let both : (first + second) * start.index.sectors ≡ first * start.index.sectors + second * start.index.sectors = add-mul first second start.index.sectors in
+    elim (cases_Bool old.failed) [
+      | inl had ↦
+          let stays = kept had in
+          let erases : new.index.erases ≡ old.index.erases = ap (λ (b : LogIndex). b.erases) stays.1 in
+          let before = was.erases in
+          record { erases = omega (arith, before, both, erases); held = λ works. absurd (both_ways new.failed works stays.0) }
+      | inr works ↦
+          let before = was.held works in
+          let sizes : second * old.index.sectors ≡ second * start.index.sectors = ap (λ (z : ℕ). second * z) (sym same) in
+          record {
+            erases = let now = more.erases in omega (arith, before, both, sizes, now);
+            held = λ still. let now = more.held still in omega (arith, before, both, sizes, now);
+          }
+    ]

@@ -1,5 +1,10 @@
 -- When serving stops.
-use Rattle.std.proofs.Common.{◌≡◌, Bool, true, false, ◌||◌, List, [], ◌∷◌, ◌++◌, refl, sym, ap, ap₂, subst, ◌∙◌, Option, Some, None}
+use Rattle.std.proofs.Common.{◌≡◌, Bool, true, false, ◌||◌, List, [], ◌∷◌, ◌++◌, map, refl, sym, ap, ap₂, subst, ◌∙◌, Option, Some, None}
+use Rattle.std.specs.List.{AllByRecursion}
+use Rattle.std.proofs.Math.Bool.{or-true}
+use Rattle.jffs_tree.specs.Decide.{is_unmount_wish}
+use Rattle.jffs_tree.specs.declared.wish.Wish.TheVariants.{Unmount}
+use Rattle.jffs_tree.proofs.Wishes.{unmount_wish}
 use Rattle.jffs_tree.specs.declared.wish.Outcome.{Outcome}
 use Rattle.jffs_tree.specs.declared.wish.Outcome.TheVariants.{Appended, Copied, Closed, Refused}
 use Rattle.jffs_core.specs.CoreState.{CoreState}
@@ -10,7 +15,7 @@ use Rattle.jffs_serve.specs.declared.session.Unmounted.TheVariants as unmounted
 use Rattle.jffs_serve.specs.declared.session.Served.{Served}
 use Rattle.jffs_serve.specs.declared.session.Served.TheVariants as served
 use Rattle.jffs_serve.specs.PendingStep.{ending_of, ending_after, served_as, served_by}
-use Rattle.jffs_serve.specs.Replies.{Reply}
+use Rattle.jffs_serve.specs.Replies.{Reply, Replies, AllReply, answer_in, any_closed, FitsServed}
 use Rattle.jffs_serve.specs.Stopping.{ending_with, or_closed, owed, ending_in, StopsAt}
 
 -- no reply was made
@@ -78,3 +83,64 @@ ends_by None old new unsent unsent' is none closed =
 pub not_ended : (ending : Unmounted) → served_as ending ≡ served.Ended → ⊥
 not_ended unmounted.Closed is = cc
 not_ended (unmounted.NotClosed cause) is = cc
+
+-- an answer Closed ends serving so
+closed_ends : (unmounts : Bool) (outcome : Outcome) → is_closed outcome ≡ true → ending_after unmounts outcome ≡ Some unmounted.Closed
+closed_ends unmounts Closed is = refl
+closed_ends unmounts (Appended inode version) is = absurd (cc)
+closed_ends unmounts (Copied version) is = absurd (cc)
+closed_ends unmounts (Refused cause) is = absurd (cc)
+
+in_order_after : (replies : List Reply) (now e : Option Unmounted) → (StopsAt None replies now → AllReply replies) → StopsAt e replies now → AllReply replies
+in_order_after replies now None goes_on s = goes_on s
+in_order_after replies now (Some ending) goes_on s = subst AllReply (sym s.0) tt
+
+-- where serving stopped at the first reply that ends it, none stands after one that closed the session
+pub stopped_in_order : (replies : List Reply) (now : Option Unmounted) → StopsAt None replies now → AllByRecursion Replies replies → AllReply replies
+stopped_in_order [] now stops each = tt
+stopped_in_order (r ∷ replies) now stops each = (
+  each.0,
+  λ closed. (subst (λ (e : Option Unmounted). StopsAt e replies now) (closed_ends (is_unmount_wish r.request.wish) r.step.outcome closed) stops).0,
+  in_order_after replies now (ending_with r) (λ s. stopped_in_order replies now s each.1) stops,
+)
+
+-- how serving ends with a reply
+ends_fit :
+    (unmounts : Bool) (outcome : Outcome) (r : Reply) → (unmounts ≡ true → r.request.wish ≡ Unmount) → r.step.outcome ≡ outcome
+    → (e : Unmounted) → ending_after unmounts outcome ≡ Some e → FitsServed (served_as e) (is_closed outcome || false) (r ∷ [])
+ends_fit unmounts Closed r wish is e ends =
+    let same : unmounted.Closed ≡ e = cc in
+    subst (λ (t : Unmounted). FitsServed (served_as t) true (r ∷ [])) same refl
+ends_fit true (Refused cause) r wish is e ends =
+    let same : unmounted.NotClosed cause ≡ e = cc in
+    subst (λ (t : Unmounted). FitsServed (served_as t) false (r ∷ [])) same (wish refl, is)
+ends_fit _ _ r wish is e ends = absurd (cc)
+
+-- and with a reply before the last
+fits_more : (e : Unmounted) (r : Reply) (replies : List Reply) → FitsServed (served_as e) (any_closed (map answer_in replies)) replies
+    → FitsServed (served_as e) (any_closed (map answer_in (r ∷ replies))) (r ∷ replies)
+fits_more unmounted.Closed r replies h = ap (λ (b : Bool). is_closed r.step.outcome || b) h ∙ or-true (is_closed r.step.outcome)
+fits_more (unmounted.NotClosed cause) r [] h = absurd h
+fits_more (unmounted.NotClosed cause) r (q ∷ replies) h = h
+
+fits_after :
+    (r : Reply) (replies : List Reply) (e : Unmounted) (t : Option Unmounted)
+    → (StopsAt None replies (Some e) → FitsServed (served_as e) (any_closed (map answer_in replies)) replies)
+    → ending_with r ≡ t → StopsAt t replies (Some e) → FitsServed (served_as e) (any_closed (map answer_in (r ∷ replies))) (r ∷ replies)
+fits_after r replies e None goes_on is s = fits_more e r replies (goes_on s)
+fits_after r replies e (Some ending) goes_on is s =
+    subst (λ (rest : List Reply). FitsServed (served_as e) (any_closed (map answer_in (r ∷ rest))) (r ∷ rest)) (sym s.0)
+    (ends_fit (is_unmount_wish r.request.wish) r.step.outcome r (unmount_wish r.request.wish) refl e (is ∙ sym s.1))
+
+stopped_fits : (replies : List Reply) (e : Unmounted) → StopsAt None replies (Some e) → FitsServed (served_as e) (any_closed (map answer_in replies)) replies
+stopped_fits [] e stops = absurd (cc)
+stopped_fits (r ∷ replies) e stops = fits_after r replies e (ending_with r) (stopped_fits replies e) refl stops
+
+-- what serving answers is what its last reply says, where nothing was owed at first
+pub stopped_fits_served :
+    (served : Served) (replies : List Reply) (core : CoreState) (unsent : Option PendingStep)
+    → StopsAt None replies (ending_in (Some served) core unsent) → FitsServed served (any_closed (map answer_in replies)) replies
+stopped_fits_served served.Closed replies core unsent stops = stopped_fits replies unmounted.Closed stops
+stopped_fits_served (served.NotClosed cause) replies core unsent stops = stopped_fits replies (unmounted.NotClosed cause) stops
+stopped_fits_served served.Ended replies core unsent stops = tt
+stopped_fits_served served.Memory replies core unsent stops = tt

@@ -38,3 +38,7 @@ abbrev pub StopsAt : Option Unmounted → List Reply → Option Unmounted → Ty
 StopsAt (Some ending) replies now = (replies ≡ []) × (now ≡ Some ending)
 StopsAt None [] now = now ≡ None
 StopsAt None (r ∷ replies) now = StopsAt (ending_with r) replies now
+
+-- nothing is owed at first, and the first reply by which serving ends is the last
+abbrev pub StopsAtFirst : List Reply → Type 0
+StopsAtFirst replies = (now : Option Unmounted) × StopsAt None replies now

@@ -71,8 +71,8 @@ impl JobEnd {
     ghost use Rattle.rtrb.specs.Ring.{received};
     ghost use Rattle.jffs_serve.specs.Cleaning.{images_of};
 
-    /// Takes the image that was sent first. Takes no memory.
-    pub(crate) fn take(&mut self) -> Option<Vec<u8>>
+    /// Takes the image that was sent first; none where no image waits. Takes no memory.
+    pub fn take(&mut self) -> Option<Vec<u8>>
         ensures { received self.new.consumer ≡ received self.old.consumer ++ images_of result }
     {
         self.consumer.pop().ok()

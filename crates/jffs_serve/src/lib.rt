@@ -17,8 +17,6 @@ mod laws;
 mod pauses;
 mod serving;
 mod session;
-#[cfg(test)]
-mod tests;
 
 pub use cleaner::{CleanerEnd, clean_loop, clean_until};
 pub use jobs::{JOBS_MAX, JobEnd, Jobs, job_ring};

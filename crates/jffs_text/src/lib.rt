@@ -13,8 +13,6 @@ mod keyword;
 mod mistake;
 mod quote;
 mod script;
-#[cfg(test)]
-mod tests;
 mod word;
 
 pub use arguments::{Usage, Work};

@@ -36,13 +36,16 @@ pub enum Mistake {
     #[error("a sector has 1024, 2048, 4096, 8192 or 16384 bytes, got {0}")]
     SectorSize(u32),
     /// The first word is none of a script's.
-    #[error("unknown command {0}; commands are mkdir, create, write, fill, truncate, rename and remove, and before them stand volume, line, cleaner, reader and writer")]
+    #[error("unknown command {0}; commands are mkdir, create, write, fill, truncate, rename and \
+    remove, and before them stand volume, line, cleaner, reader and writer")]
     Command(Quote),
     /// The first word of a replay's request is none of its own.
-    #[error("unknown command {0}; commands are mkdir, create, write, fill, truncate, rename, remove, copy and unmount")]
+    #[error("unknown command {0}; commands are mkdir, create, write, fill, truncate, rename, \
+    remove, copy and unmount")]
     Request(Quote),
     /// The first word of a replay's line is none of its own.
-    #[error("unknown operation {0}; operations are flash, image, fuse, mount, request, clean_oldest and erase_dead")]
+    #[error("unknown operation {0}; operations are flash, image, fuse, mount, request, \
+    clean_oldest and erase_dead")]
     Operation(Quote),
     /// A word that may be only one of these.
     #[error("{wanted} expected, got {word}")]
@@ -87,7 +90,8 @@ pub enum Mistake {
     #[error("number from {least} to {most} expected, got {word}")]
     Range { least: u32, most: u32, word: Quote },
     /// A word that isn't hex.
-    #[error("hex expected, got {0}: digits 0 to 9 and a to f, two for each byte, or '-' for no bytes")]
+    #[error("hex expected, got {0}: digits 0 to 9 and a to f, two for each byte, or '-' \
+    for no bytes")]
     Hex(Quote),
     /// Hex of an odd number of digits.
     #[error("hex expected, got {0}: the number of its digits is odd")]

@@ -141,9 +141,10 @@ fn replay_lines<Rt: Files + AllocGlobal, R: Read, W: Write, E: Write>(
 
 /// The line at which a replay stopped, and why.
 #[derive(Clone, Copy, Debug, PartialEq, Eq)]
-pub(crate) struct Stopped {
-    /// Counted from 1.
+pub struct Stopped {
+    /// The line of the text, counted from 1.
     pub line: u64,
+    /// What is wrong with it, or what failed there.
     pub fault: ToolFault,
 }
 
@@ -161,9 +162,13 @@ fn replay_all<Rt: Files + AllocGlobal, R: Read, W: Write>(
     }
 }
 
-/// Runs the operations of a text and writes a line for each. It stops at the first line that is no
-/// operation or can't be done.
-pub(crate) fn run_lines<Rt: Files + AllocGlobal, B: BufRead, W: Write>(
+/// Runs the operations of a text on a replay, and writes one line for each to `out`, which is flushed
+/// at once; an empty line and a comment are none.
+///
+/// `Stopped` at the first line that is no operation or can't be done, or at which reading, writing or
+/// allocation fails: the replay stands as the operations before it left it, or as that one did whose
+/// line could not be written.
+pub fn run_lines<Rt: Files + AllocGlobal, B: BufRead, W: Write>(
     rt: &Rt,
     replay: &mut Replay,
     input: &mut B,

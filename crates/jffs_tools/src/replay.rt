@@ -180,9 +180,10 @@ impl Replay {
         Ok(())
     }
 
-    /// The bytes of the whole image. `NoFlash` where there is none, `Large` of flash that is larger
-    /// than any volume.
-    pub(crate) fn bytes(&self) -> Result<&[u8], ToolFault> {
+    /// The bytes of the whole image, as the digest is of.
+    ///
+    /// `NoFlash` where there is none, `Large` of flash that is larger than any volume.
+    pub fn bytes(&self) -> Result<&[u8], ToolFault> {
         match &self.device {
             Device::Absent => Err(ToolFault::NoFlash),
             Device::Large => Err(ToolFault::Large),

@@ -163,7 +163,7 @@ module _ (most : ℕ) (s t : State) (i : ℕ) (old : IsOrderly most s) (p : IsGo
 is_it : (f : Entry) (j : ℕ) (g : Entry) → f.parent ≡ g.parent → f.name ≡ g.name → is_child f.parent f.name (j, g) ≡ true
 is_it f j g parent name = and_from (eqb g.parent f.parent) _ (eq-eqb g.parent f.parent (sym parent)) ((bytes_eq-Decides g.name f.name).1 (sym name))
 
-names_apart : (s : State) (j k : ℕ) (f g : Entry) → names_differ s ≡ true → at s j ≡ Some f → at s k ≡ Some g → f.parent ≡ g.parent → f.name ≡ g.name → j ≡ k
+pub names_apart : (s : State) (j k : ℕ) (f g : Entry) → names_differ s ≡ true → at s j ≡ Some f → at s k ≡ Some g → f.parent ≡ g.parent → f.name ≡ g.name → j ≡ k
 names_apart [] j k f g h is was parent name = cc
 names_apart (x ∷ s) j k f g h is was parent name =
     let parts = and_parts (not (list_any (is_child x.1.parent x.1.name) s)) (names_differ s) h in
@@ -184,7 +184,7 @@ names_apart (x ∷ s) j k f g h is was parent name =
         let yes = is_it f k g parent name in
         both_ways (is_child f.parent f.name (k, g)) no yes
 
-names_apart_from : (s : State) → T (entries.is_sorted nat_cmp s) → ((j k : ℕ) (f g : Entry) → at s j ≡ Some f → at s k ≡ Some g → f.parent ≡ g.parent → f.name ≡ g.name → j ≡ k) → names_differ s ≡ true
+pub names_apart_from : (s : State) → T (entries.is_sorted nat_cmp s) → ((j k : ℕ) (f g : Entry) → at s j ≡ Some f → at s k ≡ Some g → f.parent ≡ g.parent → f.name ≡ g.name → j ≡ k) → names_differ s ≡ true
 names_apart_from [] sorted h = refl
 names_apart_from (x ∷ s) sorted h =
     and_from (not (list_any (is_child x.1.parent x.1.name) s)) (names_differ s)

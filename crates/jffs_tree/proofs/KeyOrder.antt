@@ -76,6 +76,19 @@ between p o j k low high =
 pub first_of_name : (p : ℕ) (o : Option (List ℕ)) (j : ℕ) → is_gt (key_cmp (p, o, 0) (p, o, j)) ≡ false
 first_of_name p o j = ap (λ a. is_gt (ordering_then a (nat_cmp 0 j))) (tied_itself head_total (p, o, 0)) ∙ zero_low j
 
+-- Two keys of a name are in the order of their inodes.
+pub by_inode : (p : ℕ) (o : Option (List ℕ)) (j k : ℕ) → key_cmp (p, o, j) (p, o, k) ≡ nat_cmp j k
+by_inode p o j k = ap (λ a. ordering_then a (nat_cmp j k)) (tied_itself head_total (p, o, 0))
+
+-- What is after a key of a name is after the first that the name may have.
+pub after_first : (p : ℕ) (o : Option (List ℕ)) (j : ℕ) (k : ChildKey) → is_gt (key_cmp (p, o, j) k) ≡ false → is_gt (key_cmp (p, o, 0) k) ≡ false
+after_first p o j k low = by_head (head_cmp (p, o, 0) k) (then_low (head_cmp (p, o, 0) k) (nat_cmp j k.2) low)
+  where
+    by_head : (a : Ordering) → is_gt a ≡ false → is_gt (ordering_then a (nat_cmp 0 k.2)) ≡ false
+    by_head Less h = refl
+    by_head Equal h = zero_low k.2
+    by_head Greater h = cc
+
 -- The same of a directory.
 pub between_names : (p : ℕ) (o : Option (List ℕ)) (j : ℕ) (k : ChildKey) → is_gt (key_cmp (p, None, 0) k) ≡ false → is_gt (key_cmp k (p, o, j)) ≡ false → k.0 ≡ p
 between_names p o j k low high =

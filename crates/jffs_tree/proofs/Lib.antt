@@ -24,12 +24,13 @@ pub mod Listed
 pub mod Members
 pub mod Directories
 pub mod Standing
-pub mod Differ
 pub mod Reindexed
 pub mod Tested
 pub mod Sources
 pub mod States
 pub mod Kept
+pub mod Apart
+pub mod Near
 pub mod Resolving
 pub mod Entries
 pub mod Ruled
@@ -45,6 +46,7 @@ pub mod Reading
 pub mod Comparing
 pub mod SameCells
 pub mod FileWritten
+pub mod FirstWritten
 pub mod Counted
 pub mod InodeWritten
 pub mod Appending

@@ -183,7 +183,7 @@ module _ (old : Tree) (i : ℕ) (h : Held) (k : ℕ) (is : held_in old i ≡ Som
         none false m = refl
 
 -- A value that counts only where a test holds.
-under : (b : Bool) (x y : ℕ) → (b ≡ true → x ≡ y) → cond b x 0 ≡ cond b y 0
+pub under : (b : Bool) (x y : ℕ) → (b ≡ true → x ≡ y) → cond b x 0 ≡ cond b y 0
 under true x y h = h refl
 under false x y h = refl
 

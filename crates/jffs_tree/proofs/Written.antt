@@ -1,5 +1,5 @@
 -- One node more, in a tree that is a map of inodes.
-use Rattle.std.proofs.Common.{◌≡◌, ℕ, false, cond, not, eqb, T, IsTrue, map, is_some, List, refl, ⊎_elim, Option, Some, None, Result, Ok, Err, sym, ap, subst, ◌∙◌, nat_cmp}
+use Rattle.std.proofs.Common.{◌≡◌, ℕ, true, false, cond, not, eqb, ltb, T, IsSome, is_lt, arith, IsTrue, map, is_some, List, refl, ⊎_elim, Option, Some, None, Result, Ok, Err, sym, ap, subst, ◌∙◌, nat_cmp}
 use Rattle.std.specs.Cmp.{nat_cmp_total, unsigned_tied}
 use Rattle.std.specs.FinMap.{nat_cmp-IsAntisymmetric}
 use Rattle.std.specs.FinMap.Entries as entries
@@ -7,7 +7,8 @@ use Rattle.std.specs.List.Sorted.{IsStrictlySortedBy}
 use Rattle.std.specs.Result.{OnErr}
 use Rattle.std.specs.Map.{lookup}
 use Rattle.std.specs.BTreeMap.{is_at}
-use Rattle.std.proofs.lemmas.Bool.{cases_Bool, eqb-true}
+use Rattle.std.proofs.lemmas.Bool.{cases_Bool, eqb-true, ltb-true}
+use Rattle.std.proofs.lemmas.Map.Keys.{ge_from_not_lt}
 use Rattle.jffs_node.specs.declared.node.Node.{Node}
 use Rattle.jffs_tree.specs.Origin.{Held, Tree}
 use Rattle.jffs_tree.specs.After.{held_in, held_after, without_inode, put_node, IsWritten}
@@ -93,3 +94,11 @@ entered_back {X} old first mid new i x absent was ordered entered same away =
 -- what a map had at a key that was taken out
 pub taken_out : (i : ℕ) (old : Tree) (h seen : Held) → seen ≡ h → Some h ≡ lookup (is_at (nat_cmp i)) old → held_in old i ≡ Some seen
 taken_out i old h seen same is = sym (found_get i old) ∙ sym is ∙ ap (λ (x : Held). Some x) (sym same)
+
+-- An inode above all others isn't there.
+pub none_above : (tree : Tree) (last i : ℕ) → (IsSome (lookup (is_at (nat_cmp i)) tree) → is_lt (nat_cmp last i) ≡ false) → ltb last i ≡ true → held_in tree i ≡ None
+none_above tree last i bound below = sym (found_get i tree) ∙ by_found (lookup (is_at (nat_cmp i)) tree) bound
+  where
+    by_found : (o : Option Held) → (IsSome o → is_lt (nat_cmp last i) ≡ false) → o ≡ None
+    by_found None b = refl
+    by_found (Some h) b = absurd (let high = ge_from_not_lt last i (b refl) in let low = ltb-true last i below in omega (arith, high, low))

@@ -1,6 +1,6 @@
 -- The index of children: for each inode where it stands, in the order of directory, name and inode.
-use Rattle.std.specs.Prelude.{◌≡◌, ℕ, Bool, false, ◌&&◌, ◌==◌, List, [], flat_map, Option, Some}
-use Rattle.std.specs.Prelude.{None, option_map, bytes_eq, if◌then◌else◌}
+use Rattle.std.specs.Prelude.{◌≡◌, ℕ, Bool, true, false, not, ◌&&◌, ◌==◌, List, [], ◌∷◌, flat_map}
+use Rattle.std.specs.Prelude.{Option, Some, None, option_map, bytes_eq, if◌then◌else◌}
 use Rattle.std.specs.List.{list_any}
 use Rattle.std.specs.Option.{option_map_or, option_to_list, option_cmp}
 use Rattle.std.specs.Ordering.{ordering_then, nat_cmp}
@@ -26,6 +26,16 @@ has_child keys q = list_any (is_at (key_cmp q)) keys
 abbrev pub is_named : List ℕ → Option (List ℕ) → Bool
 is_named name None = false
 is_named name (Some other) = bytes_eq name other
+
+-- whether a key is of the same name and directory as another
+abbrev pub namesakes : ChildKey → ChildKey → Bool
+namesakes o k = (k.0 == o.0) && option_map_or (λ name. is_named name k.1) o.1 false
+
+-- No key is of the same name and directory as the one before it.
+abbrev pub apart_from : Option ChildKey → List ChildKey → Bool
+apart_from before [] = true
+apart_from before (k ∷ keys) =
+    not (option_map_or (λ o. namesakes o k) before false) && apart_from (Some k) keys
 
 -- whether the tree's inode stands at the key
 abbrev pub stands_at : Tree → ChildKey → Bool

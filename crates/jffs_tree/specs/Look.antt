@@ -9,7 +9,7 @@ use Rattle.std.specs.Option.{option_map_or}
 use Rattle.jffs_node.specs.declared.node.Node.{Node}
 use Rattle.jffs_node.specs.declared.node.Kind.{Kind}
 use Rattle.jffs_node.specs.declared.node.Kind.TheVariants.{Directory}
-use Rattle.jffs_tree.specs.State.{Entry, State, root, child, is_directory_in}
+use Rattle.jffs_tree.specs.State.{State, root, is_directory_in}
 use Rattle.jffs_tree.specs.Origin.{Tree, state_in, versions_held}
 use Rattle.jffs_tree.specs.After.{held_in}
 
@@ -48,10 +48,6 @@ IsVersionOf past v i = AllByRecursion (λ n. n.version ≡ v → n.inode ≡ i) 
 
 abbrev pub writers_in : Tree → ℕ → List (Option ℕ)
 writers_in tree i = unwrap_or (option_map (λ h. h.writers) (held_in tree i)) []
-
--- whether the entry is the first of its name in its directory
-abbrev pub stands_first : State → (ℕ × Entry) → Bool
-stands_first s e = option_map_or (λ c. c == e.0) (child s e.1.parent e.1.name) false
 
 -- the inodes with that parent, each under its name
 abbrev pub children : ℕ → State → List (List ℕ × ℕ)

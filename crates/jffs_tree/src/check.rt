@@ -3,11 +3,11 @@
 ghost use Rattle.std.specs.Prelude.{◌≡◌};
 ghost use Rattle.std.specs.List.{list_all};
 ghost use Rattle.jffs_tree.specs.Origin.{state_in};
-ghost use Rattle.jffs_tree.specs.Look.{stands_first};
 ghost use Rattle.jffs_tree.specs.Check.{check, parents_are_there, names_differ, bytes_are_written};
-ghost use Rattle.jffs_tree.specs.Check.{is_within};
+ghost use Rattle.jffs_tree.specs.Check.{is_within, is_near};
 ghost use Rattle.jffs_node.specs.declared.path.TheConstants.{PATH_DEPTH_MAX};
 
+use crate::children::are_apart;
 use crate::inode::Inode;
 use crate::look::ROOT;
 use crate::tree::Tree;
@@ -35,33 +35,12 @@ impl Tree {
         true
     }
 
-    /// Each inode is the first of its name, so no two have the same directory and name.
+    /// No two inodes have the same directory and name. Where two had, one key of the index would
+    /// follow the other.
     fn names_differ(&self) -> bool
         ensures { result ≡ names_differ (state_in self.now) }
     {
-        // Brings in that the inodes stand in order.
-        let _ = &self.inodes;
-        self.all_stand_first()
-    }
-
-    fn all_stand_first(&self) -> bool
-        ensures { result ≡ list_all (λ e. stands_first (state_in self.now) e) (state_in self.now) }
-    {
-        for (inode, found) in self.inodes.iter() {
-            if !self.stands_first(*inode, found) {
-                return false;
-            }
-        }
-        true
-    }
-
-    fn stands_first(&self, inode: u32, found: &Inode) -> bool
-        ensures { result ≡ stands_first (state_in self.now) (inode, found.now.entry) }
-    {
-        match self.child(found.parent, &found.name) {
-            Some(first) => first == inode,
-            None => false,
-        }
+        are_apart(&self.children)
     }
 
     fn bytes_are_written(&self) -> bool
@@ -79,12 +58,27 @@ impl Tree {
         ensures { result ≡ list_all (λ e. is_within PATH_DEPTH_MAX (state_in self.now) e.0)
             (state_in self.now) }
     {
-        for (inode, _) in self.inodes.iter() {
-            if !self.is_within(PATH_DEPTH_MAX as u32, *inode) {
+        // Brings in that the inodes stand in order.
+        let _ = &self.inodes;
+        self.parents_are_near()
+    }
+
+    /// An inode has a short path where its directory's path is shorter by one name.
+    fn parents_are_near(&self) -> bool
+        ensures { result ≡ list_all (is_near (state_in self.now)) (state_in self.now) }
+    {
+        for (inode, found) in self.inodes.iter() {
+            if !self.is_near(*inode, found) {
                 return false;
             }
         }
         true
+    }
+
+    fn is_near(&self, inode: u32, found: &Inode) -> bool
+        ensures { result ≡ is_near (state_in self.now) (inode, found.now.entry) }
+    {
+        inode == ROOT || self.is_within(PATH_DEPTH_MAX as u32 - 1, found.parent)
     }
 
     /// Whether at most `names` names lead from the root to the inode.

@@ -3,7 +3,9 @@
 ghost use Rattle.std.specs.Prelude.{◌≡◌, ◌==◌, ◌&&◌, ◌≤◌, ℕ, true, false, Some, None, Option};
 ghost use Rattle.std.specs.Prelude.{IfSome, IfNone, IfOk};
 ghost use Rattle.std.specs.List.Sorted.{IsStrictlySortedBy};
+ghost use Rattle.std.specs.Option.{option_map_or};
 ghost use Rattle.jffs_tree.specs.Index.{ChildKey, has_child, is_named, names_under};
+ghost use Rattle.jffs_tree.specs.Index.{key_cmp, namesakes, apart_from};
 ghost use Rattle.jffs_tree.specs.Look.{name_cmp};
 
 use jffs_node::Name;
@@ -68,6 +70,32 @@ pub(crate) fn names_of(
         }
     }
     Ok(names)
+}
+
+/// Whether no key is of the same name and directory as the one before it. Keys stand in order, so no
+/// two are then.
+pub(crate) fn are_apart(children: &BTreeSet<ChildKey>) -> bool
+    ensures apart { result ≡ apart_from None children.now.keys }
+    ensures ordered { IsStrictlySortedBy key_cmp children.now.keys }
+{
+    let mut before = None;
+    for key in children.iter() {
+        if is_namesake(&before, key) {
+            return false;
+        }
+        before = Some(*key);
+    }
+    true
+}
+
+/// Whether the key is of the same name and directory as another one, where there is one.
+fn is_namesake(other: &Option<ChildKey>, key: &ChildKey) -> bool
+    ensures { result ≡ option_map_or (λ o. namesakes o key.now) other.now false }
+{
+    match other {
+        Some((directory, Some(name), _)) => bears(*key, *directory, name),
+        _ => false,
+    }
 }
 
 /// Whether the key is one of that name in that directory.

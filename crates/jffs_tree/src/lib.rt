@@ -22,8 +22,6 @@ mod look;
 mod marks;
 mod names;
 mod piece;
-#[cfg(test)]
-mod tests;
 mod tree;
 mod wish;
 

@@ -13,7 +13,7 @@ ghost use Rattle.jffs_tree.specs.Look.{holds_version, marks_in, any_live_in, IsV
 
 use crate::children::first_named;
 use crate::inode::Inode;
-use crate::tree::Tree;
+use crate::tree::{Tree, find_inode};
 use jffs_node::{Kind, Name, Path};
 
 pub(crate) const ROOT: u32 = 1;
@@ -23,6 +23,13 @@ impl Tree {
         ensures { option_copied result ≡ held_in self.now inode }
     {
         self.inodes.get(&inode)
+    }
+
+    /// As `inode`, and quick where the inode's number is above all others.
+    pub(crate) fn find(&self, inode: u32) -> Option<&Inode>
+        ensures { option_copied result ≡ held_in self.now inode }
+    {
+        find_inode(&self.inodes, inode)
     }
 
     /// What the inode is; `None` if it isn't present.
@@ -125,6 +132,18 @@ impl Tree {
             ((v i : ℕ) → first ≤ v → v ≤ last → holds_version self.now i v ≡ false) }
     {
         self.marks.least(first, last)
+    }
+
+    /// The least live version from `first` on, and the least inode that it lives in; `None` if none
+    /// is. Takes no memory.
+    pub fn next_live(&self, first: u32) -> Option<(u32, u32)>
+        ensures live { IfSome result
+            (λ p. (first ≤ p.0) × (holds_version self.now p.1 p.0 ≡ true)) }
+        ensures least { IfSome result
+            (λ p. (w i : ℕ) → first ≤ w → w < p.0 → holds_version self.now i w ≡ false) }
+        ensures none { IfNone result ((v i : ℕ) → first ≤ v → holds_version self.now i v ≡ false) }
+    {
+        self.marks.next(first)
     }
 
     /// Whether a version of that range, with both its ends, is live. Takes no memory.

@@ -92,6 +92,20 @@ impl Marks {
         if key.0 == version { Some(key.1) } else { None }
     }
 
+    /// The least version from `first` on that has marks, and the least inode where it has them.
+    pub(crate) fn next(&self, first: u32) -> Option<(u32, u32)>
+        ensures some { IfSome result (λ p. (first ≤ p.0) × (0 < mark_of self.now p.0 p.1)) }
+        ensures least { IfSome result
+            (λ p. (w i : ℕ) → first ≤ w → w < p.0 → mark_of self.now w i ≡ 0) }
+        ensures none { IfNone result ((v i : ℕ) → first ≤ v → mark_of self.now v i ≡ 0) }
+    {
+        let mut rest = self.counts.range((first, 0)..);
+        let Some((key, _)) = rest.next() else {
+            return None;
+        };
+        Some(*key)
+    }
+
     /// The least version from `first` to `last`, both included, that has marks.
     pub(crate) fn least(&self, first: u32, last: u32) -> Option<u32>
         ensures some { IfSome result

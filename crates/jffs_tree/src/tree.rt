@@ -1,7 +1,7 @@
 //! The tree.
 
-ghost use Rattle.std.specs.Prelude.{◌≡◌, ◌+◌, ◌≤◌, ℕ, ◌∷◌, [], List, true, Some, IsSome, IsTrue};
-ghost use Rattle.std.specs.Prelude.{OnOk, OnErr, IfErr, option_map};
+ghost use Rattle.std.specs.Prelude.{◌≡◌, ◌+◌, ◌≤◌, ℕ, ◌∷◌, [], List, true, false, Some, None, IsSome, IsTrue};
+ghost use Rattle.std.specs.Prelude.{OnOk, OnErr, IfErr, is_some, option_map, option_copied};
 ghost use Rattle.jffs_node.specs.declared.node.Node.{Node};
 ghost use Rattle.jffs_node.specs.Record.{file_max, is_lawful};
 ghost use Rattle.jffs_tree.specs.Origin.{tree_of};
@@ -101,20 +101,13 @@ impl Tree {
         ensures ok { OnOk result (self.new ≡ put_node self.old node.now) }
         ensures err { OnErr result (self.new ≡ self.old) }
     {
-        if self.stands_at(node.inode, node.parent, &name) {
+        let place = self
+            .find(node.inode)
+            .map(|found| (found.parent, found.name));
+        if is_place(&place, node.parent, &name) {
             self.write_here(node, name)
         } else {
-            self.write_elsewhere(node, name)
-        }
-    }
-
-    /// Whether the inode stands in that directory under that name.
-    fn stands_at(&self, inode: u32, parent: u32, name: &Name) -> bool
-        ensures { result ≡ true → parent_name_in self.now inode ≡ Some (parent, name.now) }
-    {
-        match self.inode(inode) {
-            Some(found) => found.is_child(parent, name),
-            None => false,
+            self.write_elsewhere(node, name, place)
         }
     }
 
@@ -133,14 +126,19 @@ impl Tree {
 
     /// Writes a node over its inode, whose key may change. The new key is entered first and the
     /// old one left last, so that it can be taken back if allocation fails.
-    fn write_elsewhere(&mut self, node: &Node, name: Name) -> Result<(), AllocError>
+    fn write_elsewhere(
+        &mut self,
+        node: &Node,
+        name: Name,
+        old: Option<(u32, Name)>,
+    ) -> Result<(), AllocError>
         requires named { node.now.name ≡ Some name }
         requires small { IsSmall node.now }
         requires offsets { IsTrue (keeps_offsets_in self.old node.now) }
+        requires was { old ≡ parent_name_in self.old node.now.inode }
         ensures ok { OnOk result (self.new ≡ put_node self.old node.now) }
         ensures err { OnErr result (self.new ≡ self.old) }
     {
-        let old = self.parent_name(node.inode);
         let key = (node.parent, Some(name), node.inode);
         let is_new = self.children.insert(key)?;
         if let Err(refused) = write_marked(
@@ -165,6 +163,16 @@ impl Tree {
     }
 }
 
+/// Whether a place in the tree, where there is one, is that name in that directory.
+fn is_place(place: &Option<(u32, Name)>, parent: u32, name: &Name) -> bool
+    ensures { result ≡ true → place.now ≡ Some (parent, name.now) }
+{
+    match place {
+        Some((directory, found)) => *directory == parent && found.bytes() == name.bytes(),
+        None => false,
+    }
+}
+
 /// Writes a node over its inode in a map, present or not, and keeps the marks. Those that the
 /// node brings are added first, so that lowering is all that is left after the write.
 fn write_marked(
@@ -184,7 +192,7 @@ fn write_marked(
     let left = newest_of(inodes, node.inode);
     let brought = node.bytes.as_slice().len() as u32 + 1;
     marks.raise(node.version, node.inode, brought)?;
-    if let Err(refused) = write_inode(alloc, inodes, marks, node, name) {
+    if let Err(refused) = write_inode(alloc, inodes, marks, node, name, left.is_some()) {
         marks.lower(node.version, node.inode, brought);
         return Err(refused);
     }
@@ -201,9 +209,31 @@ fn newest_of(inodes: &BTreeMap<u32, Inode>, inode: u32) -> Option<u32>
         ≡ option_map (λ h. h.newest) (held_in inodes.now.entries inode) }
     ensures few { (v : ℕ) → held_marks inodes.now.entries v inode ≤ file_max + 1 }
 {
-    match inodes.get(&inode) {
+    match find_inode(inodes, inode) {
         Some(found) => Some(found.newest),
         None => None,
+    }
+}
+
+/// What a map has of an inode. A new inode has a number above all others, and is found to be absent
+/// by a look at the last one.
+pub(crate) fn find_inode(inodes: &BTreeMap<u32, Inode>, inode: u32) -> Option<&Inode>
+    ensures { option_copied result ≡ held_in inodes.now.entries inode }
+{
+    if is_above_all(inodes, inode) {
+        None
+    } else {
+        inodes.get(&inode)
+    }
+}
+
+/// Whether an inode's number is above all those of a map.
+fn is_above_all(inodes: &BTreeMap<u32, Inode>, inode: u32) -> bool
+    ensures { result ≡ true → held_in inodes.now.entries inode ≡ None }
+{
+    match inodes.last_key_value() {
+        Some((last, _)) => *last < inode,
+        None => false,
     }
 }
 
@@ -214,7 +244,9 @@ fn write_inode(
     marks: &mut Marks,
     node: &Node,
     name: Name,
+    is_present: bool,
 ) -> Result<(), AllocError>
+    requires present { is_present ≡ is_some (held_in inodes.old.entries node.now.inode) }
     requires writable { IsWritable inodes.old.entries node.now name }
     requires marked { HasMarksIn marks.old node.now inodes.old.entries }
     ensures ok { OnOk result (IsWritten inodes.old.entries inodes.new.entries node.now) }
@@ -223,14 +255,33 @@ fn write_inode(
     ensures err { OnErr result
         ((inodes.new.entries ≡ inodes.old.entries) × SameMarks marks.old marks.new) }
 {
-    if inodes.contains_key(&node.inode) {
-        return write_present(inodes, marks, node, name);
+    if is_present {
+        write_present(inodes, marks, node, name)
+    } else {
+        write_absent(alloc, inodes, marks, node, name)
     }
-    inodes.insert(node.inode, Inode::empty(alloc, node, name))?;
-    if let Err(refused) = write_present(inodes, marks, node, name) {
-        inodes.remove(&node.inode);
-        return Err(refused);
-    }
+}
+
+/// Writes a node over its inode in a map, where it isn't present, and moves the marks of its bytes.
+fn write_absent(
+    alloc: Global,
+    inodes: &mut BTreeMap<u32, Inode>,
+    marks: &mut Marks,
+    node: &Node,
+    name: Name,
+) -> Result<(), AllocError>
+    requires absent { is_some (held_in inodes.old.entries node.now.inode) ≡ false }
+    requires writable { IsWritable inodes.old.entries node.now name }
+    requires marked { HasMarksIn marks.old node.now inodes.old.entries }
+    ensures ok { OnOk result (IsWritten inodes.old.entries inodes.new.entries node.now) }
+    ensures marks { OnOk result
+        (MovesMarksIn marks.old marks.new node.now inodes.old.entries inodes.new.entries) }
+    ensures err { OnErr result
+        ((inodes.new.entries ≡ inodes.old.entries) × SameMarks marks.old marks.new) }
+{
+    let mut first = Inode::empty(alloc, node, name);
+    first.write(node, name, marks)?;
+    inodes.insert(node.inode, first)?;
     Ok(())
 }
 

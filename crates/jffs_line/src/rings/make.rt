@@ -4,10 +4,11 @@ ghost use Rattle.std.specs.Prelude.{OnOk, IsErrAnd};
 ghost use Rattle.std.specs.List.{range_with_len};
 ghost use Rattle.jffs_line.specs.Line.{senders};
 ghost use Rattle.jffs_line.specs.Rings.{ring_end, ring_hand_end, ring_accepted, ring_capacity};
-ghost use Rattle.jffs_line.specs.Rings.{ring_taken, rings_ends, rings_taken, all_ring_hands};
+ghost use Rattle.jffs_line.specs.Rings.{ring_taken, rings_ends, rings_taken};
 ghost use Rattle.jffs_line.specs.Rings.{AreFresh};
 ghost use Rattle.jffs_line.specs.declared.request.LineFault.TheVariants.{Capacity, Senders};
 ghost use Rattle.jffs_line.specs.declared.hand.TheConstants.{MOST_WRITERS, MOST_CAPACITY};
+ghost use Rattle.jffs_line.specs.Settling.{all_hands};
 
 use super::bell::Bell;
 use super::{Ring, RingHand, RingLine, RingTaker};
@@ -88,12 +89,12 @@ fn writer_rings(
 fn line(alloc: Global, capacity: usize, writers: u16) -> Result<RingLine, AllocError>
     requires few { writers ≤ MOST_WRITERS }
     ensures ends { IfOk result
-        (λ l. rings_ends l.taker ≡ map ring_hand_end (all_ring_hands l.hands)) }
+        (λ l. rings_ends l.taker ≡ map ring_hand_end (all_hands l.hands)) }
     ensures senders { IfOk result
-        (λ l. map (λ h. h.number) (all_ring_hands l.hands) ≡ senders writers) }
+        (λ l. map (λ h. h.number) (all_hands l.hands) ≡ senders writers) }
     ensures fresh { IfOk result
         (λ l. All (λ h. (ring_accepted h ≡ []) × (ring_capacity h ≡ capacity))
-        (all_ring_hands l.hands)) }
+        (all_hands l.hands)) }
     ensures taken { IfOk result (λ l. (w : ℕ) → rings_taken l.taker w ≡ []) }
 {
     let sleeper = Parker::new(alloc)?;
@@ -127,12 +128,12 @@ pub fn ring_line(alloc: Global, capacity: usize, writers: u16) -> Result<RingLin
     ensures writers { IsErrAnd result (λ e. e ≡ Senders)
         ↔ ((0 < capacity) × (capacity ≤ MOST_CAPACITY) × (MOST_WRITERS < writers)) }
     ensures ends { IfOk result
-        (λ l. rings_ends l.taker ≡ map ring_hand_end (all_ring_hands l.hands)) }
+        (λ l. rings_ends l.taker ≡ map ring_hand_end (all_hands l.hands)) }
     ensures senders { IfOk result
-        (λ l. map (λ h. h.number) (all_ring_hands l.hands) ≡ senders writers) }
+        (λ l. map (λ h. h.number) (all_hands l.hands) ≡ senders writers) }
     ensures fresh { IfOk result
         (λ l. All (λ h. (ring_accepted h ≡ []) × (ring_capacity h ≡ capacity))
-        (all_ring_hands l.hands)) }
+        (all_hands l.hands)) }
     ensures taken { IfOk result (λ l. (w : ℕ) → rings_taken l.taker w ≡ []) }
 {
     if capacity == 0 || capacity > MOST_CAPACITY {

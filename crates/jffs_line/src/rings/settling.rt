@@ -4,7 +4,8 @@ ghost use Rattle.std.specs.Prelude.{List};
 ghost use Rattle.jffs_line.specs.declared.request.Request.{Request};
 ghost use Rattle.jffs_line.specs.Requests.{of, IsNumbered};
 ghost use Rattle.jffs_line.specs.Rings.{ring_end, ring_hand_end, ring_accepted, ring_taken};
-ghost use Rattle.jffs_line.specs.Rings.{rings_ends, rings_taken, taken_in, all_ring_hands, Apart};
+ghost use Rattle.jffs_line.specs.Rings.{rings_ends, rings_taken, taken_in, Apart};
+ghost use Rattle.jffs_line.specs.Settling.{all_hands, IsSettled};
 
 use super::{Ring, RingHand, RingTaker};
 use crate::hand::{Hands, Settle};
@@ -65,7 +66,7 @@ fn empty_all(
 
 // The writers' hands in order, the cleaner's and the control's.
 fn all(hands: Hands<RingHand>) -> Result<Vec<RingHand>, AllocError>
-    ensures { IfOk result (λ all. all.items ≡ all_ring_hands hands) }
+    ensures { IfOk result (λ all. all.items ≡ all_hands hands) }
 {
     let Hands {
         mut writers,
@@ -87,15 +88,9 @@ pub fn settle(
     hands: Hands<RingHand>,
     taker: RingTaker,
 ) -> Result<Settled, SettleFault>
-    requires ends { rings_ends taker ≡ map ring_hand_end (all_ring_hands hands) }
-    ensures settled { IfOk result
-        (λ s. All (λ h. rings_taken taker h.number ++ of h.number s.waiting.items ≡ ring_accepted h)
-        (all_ring_hands hands)) }
-    ensures numbered { IfOk result
-        (λ _. All (λ h. IsNumbered (ring_accepted h)) (all_ring_hands hands)) }
-    ensures others { IfOk result
-        (λ s. (w : ℕ) → ¬ (Contains (map (λ h. h.number) (all_ring_hands hands)) w)
-        → rings_taken taker w ++ of w s.waiting.items ≡ []) }
+    requires ends { rings_ends taker ≡ map ring_hand_end (all_hands hands) }
+    ensures { IfOk result (λ s. IsSettled (λ h. h.number) ring_accepted (all_hands hands)
+        (rings_taken taker) s.waiting.items) }
 {
     let RingTaker { rings, .. } = taker;
     let Ok(hands) = all(hands) else {
@@ -116,15 +111,9 @@ impl Settle for RingTaker {
         alloc: Global,
         hands: Hands<RingHand>,
     ) -> Result<Settled, SettleFault>
-        requires { rings_ends self ≡ map ring_hand_end (all_ring_hands hands) }
-        ensures settled { IfOk result
-            (λ s. All (λ h. rings_taken self h.number ++ of h.number s.waiting.items
-            ≡ ring_accepted h) (all_ring_hands hands)) }
-        ensures numbered { IfOk result
-            (λ _. All (λ h. IsNumbered (ring_accepted h)) (all_ring_hands hands)) }
-        ensures others { IfOk result
-            (λ s. (w : ℕ) → ¬ (Contains (map (λ h. h.number) (all_ring_hands hands)) w)
-            → rings_taken self w ++ of w s.waiting.items ≡ []) }
+        requires { rings_ends self ≡ map ring_hand_end (all_hands hands) }
+        ensures { IfOk result (λ s. IsSettled (λ h. h.number) ring_accepted (all_hands hands)
+            (rings_taken self) s.waiting.items) }
     {
         settle(alloc, hands, self)
     }

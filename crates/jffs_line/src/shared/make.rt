@@ -7,10 +7,11 @@ ghost use Rattle.crossbeam_channel.specs.Ends.{sends_on, ruled_capacity};
 ghost use Rattle.jffs_line.specs.InOrder.{knows, silent, without_first, BeginsWith};
 ghost use Rattle.jffs_line.specs.Line.{senders};
 ghost use Rattle.jffs_line.specs.Shared.{channel_line, shared_end, shared_accepted};
-ghost use Rattle.jffs_line.specs.Shared.{shared_capacity, shared_ends, shared_taken, all_hands};
+ghost use Rattle.jffs_line.specs.Shared.{shared_capacity, shared_ends, shared_taken};
 ghost use Rattle.jffs_line.specs.Shared.{AreFirstWriters};
 ghost use Rattle.jffs_line.specs.declared.request.LineFault.TheVariants.{Capacity, Senders};
 ghost use Rattle.jffs_line.specs.declared.hand.TheConstants.{MOST_WRITERS, MOST_CAPACITY, CONTROL};
+ghost use Rattle.jffs_line.specs.Settling.{all_hands};
 
 use super::{Each, EachInOrder, Receives, Sends, SharedHand, SharedLine, SharedPass, SharedTaker};
 use crate::hand::{CLEANER, CONTROL, Control, Ends, Hands, MOST_CAPACITY, MOST_WRITERS};

@@ -5,7 +5,8 @@ ghost use Rattle.crossbeam_channel.specs.Ends.{sends_on, receives_on};
 ghost use Rattle.jffs_line.specs.InOrder.{Learned, knows, joined};
 ghost use Rattle.jffs_line.specs.Requests.{of, IsNumbered};
 ghost use Rattle.jffs_line.specs.Shared.{channel_line, shared_line, shared_end, shared_accepted};
-ghost use Rattle.jffs_line.specs.Shared.{shared_ends, shared_taken, all_hands, hand_sent};
+ghost use Rattle.jffs_line.specs.Shared.{shared_ends, shared_taken, hand_sent};
+ghost use Rattle.jffs_line.specs.Settling.{all_hands, IsSettled};
 
 use super::{Each, Receives, Sends, SharedHand, SharedPass, SharedTaker, Take};
 use crate::hand::{Hands, Settle};
@@ -64,14 +65,8 @@ pub fn settle<R: Wait>(
     taker: SharedTaker,
 ) -> Result<Settled, SettleFault>
     requires ends { shared_ends taker ≡ map shared_end (all_hands hands) }
-    ensures settled { IfOk result
-        (λ s. All (λ h. shared_taken taker h.number ++ of h.number s.waiting.items
-        ≡ shared_accepted h) (all_hands hands)) }
-    ensures numbered { IfOk result
-        (λ _. All (λ h. IsNumbered (shared_accepted h)) (all_hands hands)) }
-    ensures others { IfOk result
-        (λ s. (w : ℕ) → ¬ (Contains (map (λ h. h.number) (all_hands hands)) w)
-        → shared_taken taker w ++ of w s.waiting.items ≡ []) }
+    ensures { IfOk result (λ s. IsSettled (λ h. h.number) shared_accepted (all_hands hands)
+        (shared_taken taker) s.waiting.items) }
 {
     let Hands {
         writers,
@@ -111,14 +106,8 @@ impl Settle for SharedTaker {
         hands: Hands<SharedHand>,
     ) -> Result<Settled, SettleFault>
         requires { shared_ends self ≡ map shared_end (all_hands hands) }
-        ensures settled { IfOk result
-            (λ s. All (λ h. shared_taken self h.number ++ of h.number s.waiting.items
-            ≡ shared_accepted h) (all_hands hands)) }
-        ensures numbered { IfOk result
-            (λ _. All (λ h. IsNumbered (shared_accepted h)) (all_hands hands)) }
-        ensures others { IfOk result
-            (λ s. (w : ℕ) → ¬ (Contains (map (λ h. h.number) (all_hands hands)) w)
-            → shared_taken self w ++ of w s.waiting.items ≡ []) }
+        ensures { IfOk result (λ s. IsSettled (λ h. h.number) shared_accepted (all_hands hands)
+            (shared_taken self) s.waiting.items) }
     {
         settle(rt, alloc, hands, self)
     }

@@ -1,7 +1,8 @@
 -- What one question about the versions of the oldest sector shows.
-use Rattle.std.proofs.Common.{◌≡◌, ◌≢◌, ◌↔◌, ℕ, ◌+◌, ◌≤◌, Bool, true, false, not, ◌&&◌, eqb, leb, List, [], ◌∷◌, ◌++◌, map, flat_map, refl, sym, ap, subst, ◌∙◌}
+use Rattle.std.proofs.Common.{◌≡◌, ◌≢◌, ◌↔◌, ℕ, ◌+◌, ◌<◌, ◌≤◌, Bool, true, false, not, ◌&&◌, eqb, leb, ltb, Option, Some, None, IfSome, IfNone, List, [], ◌∷◌, ◌++◌, map, flat_map, refl, sym, ap, subst, ◌∙◌}
+use Rattle.std.specs.Option.{option_map_or}
 use Rattle.std.specs.List.{list_all, AllByRecursion, Contains}
-use Rattle.std.proofs.lemmas.Bool.{and_parts, and_from, and_left, and_right, eq-eqb, ne_eqb, leb-true}
+use Rattle.std.proofs.lemmas.Bool.{and_parts, and_from, and_left, and_right, eq-eqb, ne_eqb, leb-true, ltb-true}
 use Rattle.std.proofs.lemmas.List.{map-append}
 use Rattle.std.proofs.lemmas.List.Folds.{list_all-append}
 use Rattle.std.proofs.lemmas.List.Sums.{AllPass-from_list_all}
@@ -70,12 +71,22 @@ not_dead count len image first many tail used free records tree k h among there 
         let loud : (eqb k.sector first && holds_version tree k.inode k.version) ≡ true = and_from (eqb k.sector first) (holds_version tree k.inode k.version) (eq-eqb k.sector first there) lives in
         sym (ap not loud) ∙ silent
 
--- Where no version from the first to the last lives, records with such versions are dead.
-pub none_within : (first last : ℕ) (tree : Tree) (records : List RecordRef) → ((v i : ℕ) → first ≤ v → v ≤ last → holds_version tree i v ≡ false)
-    → list_all (λ (k : RecordRef). leb first k.version && leb k.version last) records ≡ true → list_all (λ (k : RecordRef). not (holds_version tree k.inode k.version)) records ≡ true
-none_within first last tree [] none within = refl
-none_within first last tree (k ∷ records) none within =
-    let parts = and_parts (leb first k.version && leb k.version last) (list_all (λ (r : RecordRef). leb first r.version && leb r.version last) records) within in
-    let ends = and_parts (leb first k.version) (leb k.version last) parts.0 in
+-- No version from the first on lives before the next live one.
+pub dead_before : (first : ℕ) (next : Option (ℕ × ℕ)) (tree : Tree) → IfSome next (λ p. (w i : ℕ) → first ≤ w → w < p.0 → holds_version tree i w ≡ false)
+    → IfNone next ((v i : ℕ) → first ≤ v → holds_version tree i v ≡ false)
+    → (v i : ℕ) → first ≤ v → option_map_or (λ p. ltb v p.0) next true ≡ true → holds_version tree i v ≡ false
+dead_before first None tree least none v i low before = none v i low
+dead_before first (Some p) tree least none v i low before = least v i low (ltb-true v p.0 before)
+
+-- Records with such versions are dead.
+pub none_before : (first : ℕ) (next : Option (ℕ × ℕ)) (tree : Tree) (records : List RecordRef)
+    → ((v i : ℕ) → first ≤ v → option_map_or (λ p. ltb v p.0) next true ≡ true → holds_version tree i v ≡ false)
+    → list_all (λ (k : RecordRef). leb first k.version && option_map_or (λ p. ltb k.version p.0) next true) records ≡ true
+    → list_all (λ (k : RecordRef). not (holds_version tree k.inode k.version)) records ≡ true
+none_before first next tree [] none within = refl
+none_before first next tree (k ∷ records) none within =
+    let before : ℕ → Bool = λ v. option_map_or (λ p. ltb v p.0) next true in
+    let parts = and_parts (leb first k.version && before k.version) (list_all (λ (r : RecordRef). leb first r.version && before r.version) records) within in
+    let ends = and_parts (leb first k.version) (before k.version) parts.0 in
     and_from (not (holds_version tree k.inode k.version)) (list_all (λ (r : RecordRef). not (holds_version tree r.inode r.version)) records)
-    (ap not (none k.version k.inode (leb-true first k.version ends.0) (leb-true k.version last ends.1))) (none_within first last tree records none parts.1)
+    (ap not (none k.version k.inode (leb-true first k.version ends.0) ends.1)) (none_before first next tree records none parts.1)

@@ -17,6 +17,7 @@ use Rattle.jffs_log.specs.ScanFound.{IsRefused, greatest_inode, last_version}
 use Rattle.jffs_log.proofs.ring.Ring.{Numbered}
 use Rattle.jffs_log.proofs.append.Appended.{sizes_small}
 use Rattle.jffs_log.proofs.Results.{err_from}
+use Rattle.jffs_log.proofs.scans.ReadOnce.{sizes_some}
 use Rattle.jffs_log.proofs.scans.ScanSectors.{all_split}
 use Rattle.jffs_log.proofs.scans.ScanIndex.{described_is}
 use Rattle.jffs_log.proofs.scans.ScanFound.{unmoved, cause_at, found_at, geometry_refused, read_refused, oldest_refused, order_refused, tree_refused, scan_is, IsAll, log_nodes, located_in, described_in, first_below, held_below, limits_are}
@@ -44,6 +45,11 @@ returns-in_err-held-clause-refused g c =
           (read_refused c.in_err-held.field-0.0 count len image device.faults after.faults sizes c.in_err-held.ensures.refused.cause);
       rest = c.in_err-held.ensures.refused.rest;
     })
+
+pub returns-in_err-held-clause-once : goal.returns-in_err-held-clause-once
+returns-in_err-held-clause-once g c =
+    let sizes = c.if-not-is_geometry.ensures.0 refl in
+    c.read_sectors.ensures.once (sizes_some c.sectors-sectors.result c.sector_size-sector_size.result sizes)
 
 pub returns-in_err-first-clause-refused : goal.returns-in_err-first-clause-refused
 returns-in_err-first-clause-refused g c =

@@ -6,8 +6,8 @@ use Rattle.jffs_node.specs.declared.header.Head.{Head}
 use Rattle.jffs_node.specs.declared.read.Why.{Why}
 use Rattle.jffs_node.specs.declared.read.Why.TheVariants as why
 use Rattle.jffs_node.specs.Record.{numbers_hold, fits_rest}
-use Rattle.jffs_node.specs.Reading.{node_at, data_len, size_holds, padding_holds, first_broken, rules, broken_rule}
-use Rattle.jffs_node.specs.Header.{label_rules, head_at, head_or_why}
+use Rattle.jffs_node.specs.Reading.{node_at, data_len, size_holds, padding_holds, first_broken, label_rules, rules, broken_rule}
+use Rattle.jffs_node.specs.Header.{head_at, head_or_why}
 use Rattle.jffs_node.proofs.Sound.{all_hold}
 use Rattle.jffs_node.proofs.Rules.{rule_holds, rule_broken, labels_read, labels_refused, broken_front, first_later, numbers_without_data, fits_rest_parts}
 use Rattle.jffs_node.proofs.decoding.head_of.Goals as goal

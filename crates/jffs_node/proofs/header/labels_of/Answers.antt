@@ -1,7 +1,7 @@
 use Rattle.std.proofs.Common.{◌≡◌, ℕ, List, [], take, drop, Result, Ok, Err, Some, sym, ap, ◌∙◌}
 use Rattle.std.proofs.lemmas.Result.{err_from_is_err_and}
-use Rattle.jffs_node.specs.Reading.{first_broken}
-use Rattle.jffs_node.specs.Header.{label_rules, labels_or_why}
+use Rattle.jffs_node.specs.Reading.{first_broken, label_rules}
+use Rattle.jffs_node.specs.Header.{labels_or_why}
 use Rattle.jffs_node.specs.declared.header.Labels.{Labels}
 use Rattle.jffs_node.specs.declared.read.Why.{Why}
 use Rattle.jffs_node.proofs.Found.{none_broken}

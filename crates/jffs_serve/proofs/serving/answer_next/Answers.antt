@@ -1,47 +1,62 @@
-use Rattle.std.proofs.Common.{rules, ◌≡◌, false, ap, sym, subst, refl, Option, Some, None}
+use Rattle.std.proofs.Common.{rules, ◌≡◌, true, false, [], ap, refl, Some, None}
 use Rattle.jffs_core.specs.CoreState.{CoreState}
 use Rattle.jffs_serve.specs.declared.session.Served.TheVariants as served
-use Rattle.jffs_serve.specs.declared.session.Unmounted.{Unmounted}
-use Rattle.jffs_serve.specs.Stopping.{owed, StopsAt}
-use Rattle.jffs_serve.proofs.Replying.{nothing_more, replied_capacity}
-use Rattle.jffs_serve.proofs.Stopping.{still_owed, nothing_owed}
+use Rattle.jffs_serve.specs.Answered.{start_of}
+use Rattle.jffs_serve.proofs.Replying.{nothing_more, nothing_replied, no_reply, replied_capacity, then_more}
+use Rattle.jffs_serve.proofs.Stopping.{still_owed, nothing_owed, closed_owed}
 use Rattle.jffs_serve.proofs.Showing.{capacity_tree, shown_on, shown_sent}
 use Rattle.jffs_serve.specs.PendingStep.{unput}
 use Rattle.jffs_serve.proofs.serving.answer_next.Goals as goal
 
+pub returns-then-is_some-clause-replies : goal.returns-then-is_some-clause-replies
+returns-then-is_some-clause-replies g c put = no_reply c.args.session.now put (g.T.Taker.taken c.args.taker.now)
+
+pub returns-then-closed-clause-replies : goal.returns-then-closed-clause-replies
+returns-then-closed-clause-replies g c put =
+    let old = c.args.session.now in
+    let taken = g.T.Taker.taken c.args.taker.now in
+    let none : old.unsent ≡ None = search rules in
+    let closed : old.core.closed ≡ true = search rules in
+    nothing_more (start_of old put taken) old.core old.unsent put taken (Some served.Closed) (nothing_replied old put taken)
+    (closed_owed old.core old.unsent none closed)
+
 pub returns-then-is_err-clause-replies : goal.returns-then-is_err-clause-replies
-returns-then-is_err-clause-replies g c put start replies was =
+returns-then-is_err-clause-replies g c put =
     let old = c.args.session.now in
     let core = c.reserve_answer.new.self in
     let taken = g.T.Taker.taken c.args.taker.now in
+    let start = start_of old put taken in
     let same = c.reserve_answer.ensures.same in
-    nothing_more start core old.unsent put taken replies (Some served.Memory)
-    (replied_capacity start old.core core old.unsent put taken taken replies same (λ w. refl) was) tt
+    nothing_more start core old.unsent put taken (Some served.Memory)
+    (replied_capacity start old.core core old.unsent put taken taken [] same (λ w. refl) (nothing_replied old put taken))
     (still_owed None old.core core old.unsent old.unsent (ap (λ (s : CoreState). s.closed) same) refl)
 
 pub returns-in-Some-clause-replies : goal.returns-in-Some-clause-replies
-returns-in-Some-clause-replies g c put start replies was =
+returns-in-Some-clause-replies g c put =
     let old = c.args.session.now in
     let core = c.reserve_answer.new.self in
     let before = g.T.Taker.taken c.args.taker.now in
     let now = g.T.Taker.taken c.take.new.self in
+    let start = start_of old put before in
     let same = c.reserve_answer.ensures.same in
-    let more = c.answer.ensures.replies put before now c.in-Some.ensures.taken start replies
-    (replied_capacity start old.core core old.unsent put before before replies same (λ w. refl) was) in
-    let owes : owed core old.unsent ≡ owed old.core old.unsent = still_owed None core old.core old.unsent old.unsent (ap (λ (s : CoreState). s.closed) (sym same)) refl in
-    (more.0, more.1, more.2, subst (λ (from : Option Unmounted). StopsAt from more.0 (owed c.answer.new.self.core c.answer.new.self.unsent)) owes more.3)
+    let reserved = nothing_more start core old.unsent put before None
+    (replied_capacity start old.core core old.unsent put before before [] same (λ w. refl) (nothing_replied old put before))
+    (still_owed None old.core core old.unsent old.unsent (ap (λ (s : CoreState). s.closed) same) refl) in
+    then_more old (record old { core = core }) c.answer.new.self put put put before before now None None refl reserved
+    (c.answer.ensures.replies put before now c.in-Some.ensures.taken)
 
 pub returns-in-None-clause-replies : goal.returns-in-None-clause-replies
-returns-in-None-clause-replies g c put start replies was =
+returns-in-None-clause-replies g c put =
     let old = c.args.session.now in
     let none : old.unsent ≡ None = search rules in
     let opened : old.core.closed ≡ false = search rules in
     let core = c.reserve_answer.new.self in
     let before = g.T.Taker.taken c.args.taker.now in
     let now = g.T.Taker.taken c.take.new.self in
+    let start = start_of old put before in
     let same = c.reserve_answer.ensures.same in
-    nothing_more start core old.unsent put now replies (Some served.Ended)
-    (replied_capacity start old.core core old.unsent put before now replies same c.in-None.ensures.none was) tt
+    nothing_more start core old.unsent put now (Some served.Ended)
+    (replied_capacity start old.core core old.unsent put before now [] same c.in-None.ensures.none (nothing_replied old put before))
     (nothing_owed old.core old.unsent none opened)
 
 pub returns-then-is_err-clause-shown : goal.returns-then-is_err-clause-shown

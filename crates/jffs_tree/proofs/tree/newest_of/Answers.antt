@@ -4,7 +4,6 @@ use Rattle.jffs_tree.specs.Origin.{Held}
 use Rattle.jffs_tree.specs.Shown.{held_of}
 use Rattle.jffs_tree.specs.Fragments.{laid, writer_of}
 use Rattle.jffs_tree.proofs.Fragments.{length-laid}
-use Rattle.jffs_tree.proofs.Maps.{found_get}
 use Rattle.jffs_tree.proofs.Marked.{few_marks}
 use Rattle.jffs_tree.proofs.tree.newest_of.Goals as goal
 
@@ -17,5 +16,5 @@ returns-in-Some-clause-few c =
     let same : length (map writer_of cells) ≡ length cells = length-map cells writer_of in
     let few : length (map writer_of cells) ≤ 1048576 = omega (arith, small, long) in
     λ v. few_marks tree v c.args.inode (held_of c.found.inside) c.found.inside.newest 1048576
-    (sym (found_get c.args.inode tree) ∙ sym c.in-Some.ensures.value ∙ ap (λ (h : Held). Some h) (sym c.found.view_is))
+    (sym c.in-Some.ensures ∙ ap (λ (h : Held). Some h) (sym c.found.view_is))
     refl few

@@ -12,8 +12,8 @@ use Rattle.jffs_core.specs.Trees.{TellsNode}
 use Rattle.jffs_core.proofs.Stepping.{failed_answer, answered}
 use Rattle.jffs_core.proofs.Told.{node_told}
 use Rattle.jffs_core.proofs.Trees.{tells_node, tells_none}
-use Rattle.jffs_core.specs.Erases.{Leaves}
-use Rattle.jffs_core.proofs.Erasing.{answer_bounded, held_most, leaves_all}
+use Rattle.jffs_core.specs.Erases.{Leaves, erased_for}
+use Rattle.jffs_core.proofs.Erasing.{answer_bounded, erased_within, held_most, leaves_all}
 use Rattle.jffs_core.proofs.mounted_core.Core.answer_with_node.Goals as goal
 use Rattle.jffs_core.proofs.mounted_core.Core.answer_with_node.Goals.{then-failed, else-failed}
 
@@ -75,22 +75,25 @@ returns-clause-bounded g c =
     let new : CoreState = c.push_answer.new.self in
     let kept = c.push_answer.ensures.kept in
     let index : new.index ≡ middle.index = ap (λ (v : CoreState). v.index) kept in
-    let most = c.push_answer.ensures.held in
+    let held = c.push_answer.ensures.held in
     elim c.if-failed.branch [
       | then-failed w ↦
-          let leaves = subst (Leaves old.index.held old) (sym w.self-is) (leaves_all old.index.held old) in
+          let most = erased_for c.args.request.wish old.index.held in
+          let leaves = subst (Leaves most old) (sym w.self-is) (leaves_all most old) in
           let same = ap (λ (v : CoreState). v.index.erases) w.self-is in
           let erases = ap (λ (b : LogIndex). b.erases) index in
-          answer_bounded old middle new leaves index (ap (λ (v : CoreState). v.failed) kept) most (omega arith)
+          answer_bounded c.args.request.wish old middle new leaves index (ap (λ (v : CoreState). v.failed) kept) held (omega arith)
       | else-failed w ↦
           let v = c.self.inside in
           let past = c.self.invariant.past (sym c.failed.ensures ∙ w.if-failed.false) in
           let low = held_most past.0 v.log.device.image v.log.index v.tree v.limits v.clean (c.self.invariant.index (sym c.failed.ensures ∙ w.if-failed.false)) past.1 in
           let few : old.index.held ≤ old.index.sectors = subst (λ (v : CoreState). v.index.held ≤ v.index.sectors) c.self.view_is low in
-          let leaves = subst (Leaves old.index.held old) (sym w.self-is) w.act-answered.ensures.leaves in
+          let wish = c.args.request.wish in
+          let within = erased_within wish old.index.held in
+          let leaves = subst (Leaves (erased_for wish old.index.held) old) (sym w.self-is) w.act-answered.ensures.leaves in
           let bound = leaves.erases in
           let erases = ap (λ (b : LogIndex). b.erases) index in
-          answer_bounded old middle new leaves index (ap (λ (v : CoreState). v.failed) kept) most (omega arith)
+          answer_bounded wish old middle new leaves index (ap (λ (v : CoreState). v.failed) kept) held (omega arith)
     ]
 
 pub returns-clause-tree : goal.returns-clause-tree

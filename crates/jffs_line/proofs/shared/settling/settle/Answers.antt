@@ -1,8 +1,8 @@
 use Rattle.std.specs.Prelude.{slice_index_or}
-use Rattle.jffs_line.specs.Shared.{all_hands}
 use Rattle.jffs_line.proofs.Steps.{merges}
 use Rattle.jffs_line.proofs.Settling.{writers_here, cleaner_seat, taker_seat, seat_back, all_settled, others_settled}
 use Rattle.jffs_line.specs.Numbered.{shared_numbered}
+use Rattle.jffs_line.specs.Settling.{all_hands}
 use Rattle.jffs_line.proofs.shared.settling.settle.Goals as goal
 
 pub give_all_back-requires-clause-seat : goal.give_all_back-requires-clause-seat
@@ -25,13 +25,11 @@ pub drain-requires-clause-seat : goal.drain-requires-clause-seat
 drain-requires-clause-seat g c =
     seat_back c.args.hands c.args.taker _ c.into_hand-sends.ensures c.requires.ends c.absorb-2.new.pass c.absorb-2.ensures.channel.0
 
-pub returns-in-Ok-clause-settled : goal.returns-in-Ok-clause-settled
-returns-in-Ok-clause-settled g c =
-    all_settled c.args.hands c.args.taker _ c.into_hand-sends.ensures c.requires.ends _ _ _ _ c.give_all_back.ensures.joined c.absorb.ensures.rule c.absorb-2.ensures.rule c.in-Ok.ensures
-
-pub returns-in-Ok-clause-others : goal.returns-in-Ok-clause-others
-returns-in-Ok-clause-others g c =
-    others_settled c.args.hands c.args.taker _ c.into_hand-sends.ensures c.requires.ends _ _ _ _ c.give_all_back.ensures.joined c.absorb.ensures.rule c.absorb-2.ensures.rule c.in-Ok.ensures
-
-pub returns-in-Ok-clause-numbered : goal.returns-in-Ok-clause-numbered
-returns-in-Ok-clause-numbered g c = λ k d below. shared_numbered (slice_index_or (all_hands c.args.hands) k d)
+pub returns-in-Ok : goal.returns-in-Ok
+returns-in-Ok g c = record {
+  each =
+      all_settled c.args.hands c.args.taker _ c.into_hand-sends.ensures c.requires.ends _ _ _ _ c.give_all_back.ensures.joined c.absorb.ensures.rule c.absorb-2.ensures.rule c.in-Ok.ensures;
+  numbered = λ k d below. shared_numbered (slice_index_or (all_hands c.args.hands) k d);
+  others =
+      others_settled c.args.hands c.args.taker _ c.into_hand-sends.ensures c.requires.ends _ _ _ _ c.give_all_back.ensures.joined c.absorb.ensures.rule c.absorb-2.ensures.rule c.in-Ok.ensures;
+}

@@ -1,11 +1,11 @@
-use Rattle.std.proofs.Common.{ℕ, List, T, subst, sym, nat_cmp, ◌∙◌}
-use Rattle.std.specs.FinMap.Entries as entries
+use Rattle.std.proofs.Common.{List, ℕ, T, ap, subst, sym, ◌∙◌}
 use Rattle.jffs_tree.specs.Origin.{Held, state_in}
-use Rattle.jffs_tree.proofs.Differ.{names_differ_first, sorted_state_in}
+use Rattle.jffs_tree.specs.Check.{names_differ}
+use Rattle.jffs_tree.proofs.Apart.{apart_exactly}
 use Rattle.jffs_tree.proofs.tree.Tree.names_differ.Goals as goal
 
 pub returns : goal.returns
 returns c =
-    let sorted : T (entries.is_sorted nat_cmp c.args.self.now) =
-    subst (λ (t : List (ℕ × Held)). T (entries.is_sorted nat_cmp t)) c.self.view_is (subst T (sym c.self.invariant.ordered) tt) in
-    c.all_stand_first.ensures ∙ names_differ_first (state_in c.args.self.now) (sorted_state_in c.args.self.now sorted)
+    c.are_apart.ensures.apart
+    ∙ apart_exactly c.self.inside.inodes.entries c.self.inside.children.keys (subst T (sym c.self.invariant.ordered) tt) c.self.invariant.indexed c.are_apart.ensures.ordered
+    ∙ ap (λ (t : List (ℕ × Held)). names_differ (state_in t)) c.self.view_is

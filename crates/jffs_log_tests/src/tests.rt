@@ -1,0 +1,202 @@
+//! The log on concrete devices: what each call leaves, seen by a further scan.
+
+use jffs_flash::{Fail, Flash, FuseFlash, Fused, MemoryFlash};
+use jffs_log::{Log, Mounted, RECORD_MAX, Room, scan};
+use jffs_node::{Bytes, Kind, Name, Node, record_len};
+use jffs_tree::{Cause, Tree};
+use std::alloc::{AllocError, Global};
+use std::process::Abort;
+use std::test::Fail as TestFail;
+
+/// A node that writes `amount` bytes over the start of the one file.
+pub(super) fn written(alloc: Global, version: u32, amount: u32) -> Result<Node, AllocError> {
+    let bytes = vec![in alloc; 0x61u8; amount as usize]?;
+    Ok(Node {
+        kind: Kind::File,
+        deleted: false,
+        copy: false,
+        inode: 2,
+        parent: 1,
+        version,
+        offset: 0,
+        rsize: amount,
+        writer: 1,
+        seq: version,
+        size: Some(1000),
+        name: Name::from_bytes(b"f"),
+        bytes: Bytes::from_vec(bytes)?,
+    })
+}
+
+pub(super) fn mount<F: Flash + Drop>(rt: &(impl Abort + AllocGlobal), flash: F) -> Mounted<F> {
+    match scan(rt.alloc(), flash) {
+        Ok(mounted) => mounted,
+        Err(fault) => panic!(rt; "{}", fault.why),
+    }
+}
+
+/// Appends a fresh node once all conditions are tested.
+pub(super) fn append<F: Flash>(
+    rt: &impl Abort,
+    log: &mut Log<F>,
+    tree: &Tree,
+    node: &Node,
+) -> Result<(), Cause> {
+    log.reserve()?;
+    assert!(rt; tree.can_apply(node) && node.bytes.len() <= RECORD_MAX);
+    let len = record_len(node);
+    assert!(rt; !log.failed() && len <= log.record_max() && log.room(Room::Fresh, len));
+    log.append(Room::Fresh, node)
+}
+
+/// Whether the oldest sector may be erased, of a device that works.
+fn is_oldest_dead<F: Flash>(rt: &impl Abort, log: &Log<F>, tree: &Tree) -> bool {
+    assert!(rt; !log.failed());
+    log.oldest_dead(tree)
+}
+
+/// The bytes of the oldest sector, of a device that works.
+fn oldest_image<F: Flash>(
+    rt: &(impl Abort + AllocGlobal),
+    log: &mut Log<F>,
+) -> Result<Vec<u8>, Cause> {
+    assert!(rt; !log.failed() && log.held() >= 1);
+    log.oldest_image(rt.alloc())
+}
+
+/// Takes a node into the tree once it is tested.
+fn apply(rt: &impl Abort, tree: &mut Tree, node: &Node) -> Result<(), Cause> {
+    assert!(rt; tree.can_apply(node));
+    tree.apply(node)
+}
+
+/// The versions of the records, each as one decimal digit, the oldest first.
+fn versions<F: Flash>(log: &Log<F>) -> u32 {
+    let mut digits = 0u32;
+    for entry in log.records().iter() {
+        digits = digits.wrapping_mul(10).wrapping_add(entry.version);
+    }
+    digits
+}
+
+fn blank(rt: &(impl Abort + AllocGlobal)) -> MemoryFlash {
+    match MemoryFlash::new(rt.alloc(), 6, 1024) {
+        Ok(flash) => flash,
+        Err(why) => panic!(rt; "{why}"),
+    }
+}
+
+/// Writes the same file in versions 1 and 2.
+fn append_two<F: Flash>(
+    rt: &(impl Abort + AllocGlobal),
+    log: &mut Log<F>,
+    tree: &mut Tree,
+) -> Result<(), Cause> {
+    for version in 1..3 {
+        let node = written(rt.alloc(), version, 5)?;
+        append(rt, log, tree, &node)?;
+        apply(rt, tree, &node)?;
+    }
+    Ok(())
+}
+
+/// The first sector holds this image, and a scan finds both versions.
+fn comes_back(rt: &(impl Abort + AllocGlobal), log: Log<MemoryFlash>, image: &[u8]) {
+    let flash = log.into_flash();
+    assert_eq!(rt; flash.bytes().get(..1024).unwrap_or(&[]), image);
+    let again = mount(rt, flash);
+    assert_eq!(rt; versions(&again.log), 12);
+    assert_eq!(rt; again.log.live_weight(&again.tree), 72);
+}
+
+#[test]
+fn each_call_on_its_happy_path(rt: HostRuntime) -> Result<(), TestFail> {
+    let Mounted {
+        mut log,
+        mut tree,
+        ..
+    } = mount(&rt, blank(&rt));
+    assert_eq!(rt; log.erased(), 6);
+    assert!(rt; !is_oldest_dead(&rt, &log, &tree));
+    append_two(&rt, &mut log, &mut tree)?;
+    assert_eq!(rt; versions(&log), 12);
+    assert_eq!(rt; log.erased(), 5);
+    assert_eq!(rt; log.erases(), 0);
+    assert_eq!(rt; log.live_weight(&tree), 72);
+    assert!(rt; !is_oldest_dead(&rt, &log, &tree));
+    let image = oldest_image(&rt, &mut log)?;
+    comes_back(&rt, log, image.as_slice());
+    Ok(())
+}
+
+#[test]
+fn a_cut_append_leaves_the_record_or_nothing(rt: HostRuntime) -> Result<(), TestFail> {
+    for fail in [Fail::Nothing, Fail::Half] {
+        for calls in 0..3 {
+            let Mounted {
+                mut log,
+                mut tree,
+                ..
+            } = mount(&rt, blank(&rt));
+            let first = written(rt.alloc(), 1, 5)?;
+            append(&rt, &mut log, &tree, &first)?;
+            apply(&rt, &mut tree, &first)?;
+            let fuse = FuseFlash::new(log.into_flash(), calls, Fused::Writes, fail);
+            let Mounted { mut log, tree, .. } = mount(&rt, fuse);
+            let second = written(rt.alloc(), 2, 5)?;
+            let cut = append(&rt, &mut log, &tree, &second);
+            assert_eq!(rt; cut.is_err(), calls < 2);
+            let again = mount(&rt, log.into_flash().into_inner());
+            assert_eq!(rt; versions(&again.log), if calls < 2 { 1 } else { 12 });
+        }
+    }
+    Ok(())
+}
+
+#[test]
+fn half_record_does_not_count(rt: HostRuntime) -> Result<(), TestFail> {
+    let fuse = FuseFlash::new(blank(&rt), 0, Fused::Writes, Fail::Half);
+    let Mounted { mut log, tree, .. } = mount(&rt, fuse);
+    let node = written(rt.alloc(), 1, 5)?;
+    assert!(rt; append(&rt, &mut log, &tree, &node).is_err());
+    let Mounted { mut log, tree, .. } = mount(&rt, log.into_flash().into_inner());
+    assert_eq!(rt; log.records().len(), 0);
+    assert_eq!(rt; log.erased(), 5);
+    append(&rt, &mut log, &tree, &node)?;
+    assert_eq!(rt; log.erased(), 4);
+    let again = mount(&rt, log.into_flash());
+    assert_eq!(rt; versions(&again.log), 1);
+    Ok(())
+}
+
+/// Erases the oldest sector once all conditions are tested.
+fn erase<F: Flash>(rt: &impl Abort, log: &mut Log<F>, tree: &Tree) -> Result<(), Cause> {
+    assert!(rt; !log.failed() && log.oldest_dead(tree));
+    log.erase_oldest(tree)
+}
+
+#[test]
+fn a_log_goes_round_the_end_of_the_image(rt: HostRuntime) -> Result<(), TestFail> {
+    let mut flash = blank(&rt);
+    for version in 1..60 {
+        let Mounted {
+            mut log,
+            mut tree,
+            ..
+        } = mount(&rt, flash);
+        let node = written(rt.alloc(), version, 192)?;
+        append(&rt, &mut log, &tree, &node)?;
+        apply(&rt, &mut tree, &node)?;
+        if is_oldest_dead(&rt, &log, &tree) {
+            erase(&rt, &mut log, &tree)?;
+            assert_eq!(rt; log.erases(), 1);
+        }
+        let kept = versions(&log);
+        let ring = (log.oldest(), log.held());
+        let again = mount(&rt, log.into_flash());
+        assert_eq!(rt; versions(&again.log), kept);
+        assert_eq!(rt; (again.log.oldest(), again.log.held()), ring);
+        flash = again.log.into_flash();
+    }
+    Ok(())
+}

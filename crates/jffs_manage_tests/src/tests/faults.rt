@@ -1,0 +1,347 @@
+//! Each line that a command may end with on standard error, and its status.
+
+use super::{plays, refuses};
+use std::fs;
+use std::process::Abort;
+use std::rt::Files;
+use std::test::Fail;
+
+#[test]
+fn a_volume_that_is_not_there_or_not_made_has_its_line(rt: HostRuntime) -> Result<(), Fail> {
+    let _ = fs::remove_file(&rt, "r.image");
+    refuses(
+        &rt,
+        "jffs_volume: r.image: ",
+        &[
+            ("ls r.image", 2, "there is no such file"),
+            (
+                "format r.image 5 1024",
+                2,
+                "5: 1024: a volume may not have so many sectors of this size",
+            ),
+        ],
+    )?;
+    plays(&rt, &[("format r.image 8 4096", "", 0, "")])?;
+    refuses(
+        &rt,
+        "jffs_volume: r.image: ",
+        &[(
+            "format r.image 8 4096",
+            2,
+            "8: 4096: there is such a file already",
+        )],
+    )?;
+    fs::remove_file(&rt, "r.image")?;
+    Ok(())
+}
+
+#[test]
+fn each_sector_size_that_is_wrong_has_its_line(rt: HostRuntime) -> Result<(), Fail> {
+    let _ = fs::remove_file(&rt, "u.image");
+    plays(&rt, &[("format u.image 8 4096", "", 0, "")])?;
+    refuses(
+        &rt,
+        "jffs_volume: u.image: ",
+        &[
+            (
+                "ls u.image",
+                2,
+                "the file is a volume with sectors of more than one size: give --sector-size",
+            ),
+            (
+                "ls u.image --sector-size 3000",
+                2,
+                "the file has another length than the sectors together",
+            ),
+            (
+                "ls u.image --sector-size 16384",
+                3,
+                "no volume: no volume has these sizes",
+            ),
+        ],
+    )?;
+    fs::remove_file(&rt, "u.image")?;
+    Ok(())
+}
+
+/// Each path that is wrong has its line.
+fn refuses_paths<Rt: Abort + Files + AllocGlobal + Clone + Drop>(rt: &Rt) -> Result<(), Fail> {
+    refuses(
+        rt,
+        "jffs_volume: q.image: ",
+        &[
+            (
+                "mkdir q.image d --sector-size 4096",
+                2,
+                "d: a path begins with a slash",
+            ),
+            (
+                "rm q.image /d --sector-size 4096",
+                4,
+                "/d: nothing stands at the path",
+            ),
+            (
+                "cat q.image /d --sector-size 4096",
+                4,
+                "/d: nothing stands at the path",
+            ),
+            (
+                "cat q.image / --sector-size 4096",
+                4,
+                "/: a directory stands at the path",
+            ),
+            (
+                "put q.image /.put.new --sector-size 4096",
+                2,
+                "/.put.new: the name '.put.new' is kept for puts that aren't finished",
+            ),
+        ],
+    )
+}
+
+#[test]
+fn a_path_that_is_wrong_changes_nothing(rt: HostRuntime) -> Result<(), Fail> {
+    let _ = fs::remove_file(&rt, "q.image");
+    plays(&rt, &[("format q.image 8 4096", "", 0, "")])?;
+    refuses_paths(&rt)?;
+    plays(
+        &rt,
+        &[(
+            "df q.image --sector-size 4096",
+            "",
+            0,
+            "sectors 8 of 4096 bytes, 8 erased\n\
+            live 0 bytes in records, room is sure below 12032\n",
+        )],
+    )?;
+    fs::remove_file(&rt, "q.image")?;
+    Ok(())
+}
+
+#[test]
+fn a_file_that_is_no_volume_has_its_line(rt: HostRuntime) -> Result<(), Fail> {
+    fs::write(&rt, "z.image", vec![in rt.alloc(); 0u8; 6144]?)?;
+    refuses(
+        &rt,
+        "jffs_volume: z.image: no volume",
+        &[
+            (
+                "check z.image",
+                3,
+                ", whatever the size of its sectors: --sector-size tells why not",
+            ),
+            (
+                "check z.image --sector-size 1024",
+                3,
+                ": the record at byte 0 of sector 0 is bad: Magic",
+            ),
+        ],
+    )?;
+    fs::remove_file(&rt, "z.image")?;
+    Ok(())
+}
+
+#[test]
+fn each_cause_of_the_file_system_has_its_text(rt: HostRuntime) -> Result<(), Fail> {
+    let _ = fs::remove_file(&rt, "c.image");
+    plays(
+        &rt,
+        &[
+            ("format c.image 6 1024", "", 0, ""),
+            ("mkdir c.image /d", "", 0, ""),
+            ("mkdir c.image /e", "", 0, ""),
+        ],
+    )?;
+    refuses(
+        &rt,
+        "jffs_volume: c.image: ",
+        &[
+            ("rm c.image /", 4, "/: the root stays as it is"),
+            ("rm -r c.image /", 4, "/: the root stays as it is"),
+            ("rm -r c.image /x", 4, "/x: nothing stands at the path"),
+            (
+                "mkdir c.image /x/y",
+                4,
+                "/x/y: the directory of the path isn't there",
+            ),
+            ("mkdir c.image /d", 4, "/d: the path is taken"),
+            ("mv c.image /x /y", 4, "/x: /y: nothing stands at the path"),
+            (
+                "mv c.image /d /e/d",
+                4,
+                "/d: /e/d: this can't be done to a directory",
+            ),
+            ("put c.image /d", 4, "/d: a directory stands at the path"),
+        ],
+    )?;
+    plays(&rt, &[("ls c.image", "", 0, "d d\nd e\n")])?;
+    fs::remove_file(&rt, "c.image")?;
+    Ok(())
+}
+
+#[test]
+fn what_has_no_room_leaves_the_volume(rt: HostRuntime) -> Result<(), Fail> {
+    let _ = fs::remove_file(&rt, "f.image");
+    let long = vec![in rt.alloc(); b'x'; 4000]?;
+    let long = std::str::from_utf8(&long)?;
+    plays(
+        &rt,
+        &[
+            ("format f.image 6 1024", "", 0, ""),
+            ("mkdir f.image /d", "", 0, ""),
+            ("mkdir f.image /e", "", 0, ""),
+            (
+                "put f.image /f",
+                long,
+                4,
+                "jffs_volume: f.image: /f: the log has no room\n",
+            ),
+            ("ls f.image", "", 0, "d d\nd e\n"),
+        ],
+    )?;
+    fs::remove_file(&rt, "f.image")?;
+    Ok(())
+}
+
+#[test]
+fn each_fault_of_a_path_has_its_text(rt: HostRuntime) -> Result<(), Fail> {
+    let _ = fs::remove_file(&rt, "k.image");
+    plays(
+        &rt,
+        &[
+            ("format k.image 6 1024", "", 0, ""),
+            ("mkdir k.image /d", "", 0, ""),
+        ],
+    )?;
+    refuses(
+        &rt,
+        "jffs_volume: k.image: ",
+        &[
+            ("cat k.image /d/", 2, "/d/: a name is empty"),
+            (
+                "cat k.image /123456789012345678901",
+                2,
+                "/123456789012345678901: a name is longer than 20 bytes",
+            ),
+            (
+                "cat k.image /\u{e9}",
+                2,
+                "/\u{e9}: a name has a byte that is not allowed",
+            ),
+            (
+                "cat k.image /1/2/3/4/5/6/7/8/9",
+                2,
+                "/1/2/3/4/5/6/7/8/9: a path has more than 8 names",
+            ),
+        ],
+    )?;
+    fs::remove_file(&rt, "k.image")?;
+    Ok(())
+}
+
+#[test]
+fn each_place_of_the_host_that_is_wrong_has_its_text(rt: HostRuntime) -> Result<(), Fail> {
+    let _ = fs::remove_file(&rt, "h.image");
+    let _ = fs::remove_dir_all(&rt, "host");
+    fs::create_dir(&rt, "host")?;
+    refuses(
+        &rt,
+        "jffs_volume: ",
+        &[(
+            "ls host",
+            2,
+            "host: the file can't be opened for reading and writing",
+        )],
+    )?;
+    plays(&rt, &[("format h.image 6 1024", "", 0, "")])?;
+    for (line, told) in [
+        (
+            "load h.image none",
+            "none: the host has no such directory or file",
+        ),
+        (
+            "load h.image h.image",
+            "h.image: the host's directory or file can't be read",
+        ),
+        (
+            "save h.image none/a",
+            "none/a: the host has no such directory or file",
+        ),
+        (
+            "save h.image h.image",
+            "h.image: the host has something of that name already",
+        ),
+        (
+            "save h.image h.image/a",
+            "h.image/a: the host's directory or file can't be made",
+        ),
+    ] {
+        refuses(&rt, "jffs_volume: h.image: ", &[(line, 2, told)])?;
+    }
+    fs::remove_dir_all(&rt, "host")?;
+    fs::remove_file(&rt, "h.image")?;
+    Ok(())
+}
+
+#[test]
+fn a_name_of_dots_is_not_saved(rt: HostRuntime) -> Result<(), Fail> {
+    let _ = fs::remove_file(&rt, "d.image");
+    let _ = fs::remove_dir_all(&rt, "dots");
+    fs::create_dir(&rt, "dots")?;
+    plays(
+        &rt,
+        &[
+            ("format d.image 6 1024", "", 0, ""),
+            ("mkdir d.image /..", "", 0, ""),
+            (
+                "save d.image dots/a",
+                "",
+                2,
+                "jffs_volume: d.image: dots/a: /..: a name '.' or '..' can't be saved: mv it\n",
+            ),
+        ],
+    )?;
+    let is_made = fs::exists(&rt, "dots/a")?;
+    assert!(rt; !is_made);
+    fs::remove_dir_all(&rt, "dots")?;
+    fs::remove_file(&rt, "d.image")?;
+    Ok(())
+}
+
+#[test]
+fn what_a_load_refuses_has_its_text(rt: HostRuntime) -> Result<(), Fail> {
+    let _ = fs::remove_file(&rt, "o.image");
+    let _ = fs::remove_dir_all(&rt, "odd");
+    fs::create_dir(&rt, "odd")?;
+    plays(
+        &rt,
+        &[
+            ("format o.image 6 1024", "", 0, ""),
+            ("mkdir o.image /..", "", 0, ""),
+        ],
+    )?;
+    rt.symlink("odd", "odd/link")?;
+    refuses(
+        &rt,
+        "jffs_volume: o.image: odd: /link: ",
+        &[(
+            "load o.image odd",
+            2,
+            "what the host has there is neither a file nor a directory",
+        )],
+    )?;
+    fs::remove_file(&rt, "odd/link")?;
+    fs::write(&rt, "odd/.put.new", "left")?;
+    refuses(
+        &rt,
+        "jffs_volume: o.image: odd: /.put.new: ",
+        &[(
+            "load o.image odd",
+            2,
+            "the name '.put.new' is kept for puts that aren't finished",
+        )],
+    )?;
+    fs::remove_dir_all(&rt, "odd")?;
+    fs::remove_file(&rt, "o.image")?;
+    Ok(())
+}

@@ -1,0 +1,149 @@
+//! The texts of faults that no call meets on a machine that works, from plain values.
+
+use jffs_file::{FileFault, StoreFault};
+use jffs_log::ScanWhy;
+use jffs_manage::{CallFault, VolumeFault};
+use jffs_node::PathFault;
+use jffs_tree::Cause;
+use std::alloc::Global;
+use std::io;
+use std::io::ErrorKind;
+use std::process::Abort;
+use std::test::Fail;
+
+fn has_text(
+    rt: &impl Abort,
+    alloc: Global,
+    fault: VolumeFault,
+    status: u8,
+    wanted: &str,
+) -> Result<(), Fail> {
+    let told = format!(in alloc; "{fault}")?;
+    assert_eq!(rt; told.as_str(), wanted);
+    assert_eq!(rt; fault.status(), status, "of {fault}");
+    Ok(())
+}
+
+#[test]
+fn what_fails_on_the_machine_has_its_text(rt: HostRuntime) -> Result<(), Fail> {
+    for (fault, wanted) in [
+        (
+            VolumeFault::File(FileFault::Write),
+            "the file can't be written",
+        ),
+        (VolumeFault::File(FileFault::Memory), "out of memory"),
+        (VolumeFault::HostWrite, "the host's file can't be written"),
+        (
+            VolumeFault::from(StoreFault),
+            "the file can't be brought to its medium",
+        ),
+        (VolumeFault::from(PathFault::Memory), "out of memory"),
+        (VolumeFault::Refused(Cause::Memory), "memory was refused"),
+        (VolumeFault::Refused(Cause::Device), "the flash failed"),
+        (
+            VolumeFault::Refused(Cause::Failed),
+            "the flash failed earlier",
+        ),
+    ] {
+        has_text(&rt, rt.alloc(), fault, 1, wanted)?;
+    }
+    let told = format!(in rt.alloc(); "{}", CallFault::Memory)?;
+    assert_eq!(rt; told.as_str(), "out of memory");
+    Ok(())
+}
+
+/// The causes are of requests that no command makes.
+#[test]
+fn what_no_command_meets_has_its_text(rt: HostRuntime) -> Result<(), Fail> {
+    has_text(
+        &rt,
+        rt.alloc(),
+        VolumeFault::NoVolume(ScanWhy::Device),
+        3,
+        "no volume: the flash failed",
+    )?;
+    for (cause, wanted) in [
+        (Cause::DataLong, "the data is too long for one node"),
+        (Cause::NotNeeded, "no live node has this version"),
+        (Cause::Stale, "the copy isn't current"),
+    ] {
+        has_text(&rt, rt.alloc(), VolumeFault::Refused(cause), 4, wanted)?;
+    }
+    Ok(())
+}
+
+/// What an error ends a command with, where standard input, a directory or file of the host to be
+/// read, made or written, or standard output has it.
+fn is_named_by_place(rt: &impl Abort, kind: ErrorKind, wanted: [VolumeFault; 5]) {
+    let found = [
+        VolumeFault::of_input(io::Error::from(kind)),
+        VolumeFault::of_host_read(io::Error::from(kind)),
+        VolumeFault::of_host_make(io::Error::from(kind)),
+        VolumeFault::of_host_write(io::Error::from(kind)),
+        VolumeFault::from(io::Error::from(kind)),
+    ];
+    assert_eq!(rt; found, wanted);
+}
+
+#[test]
+fn memory_and_full_storage_are_named_by_their_place(rt: HostRuntime) {
+    is_named_by_place(
+        &rt,
+        ErrorKind::OutOfMemory,
+        [
+            VolumeFault::Memory,
+            VolumeFault::Memory,
+            VolumeFault::Memory,
+            VolumeFault::Memory,
+            VolumeFault::Memory,
+        ],
+    );
+    is_named_by_place(
+        &rt,
+        ErrorKind::StorageFull,
+        [
+            VolumeFault::Read,
+            VolumeFault::HostRead,
+            VolumeFault::HostMake,
+            VolumeFault::HostWrite,
+            VolumeFault::Write,
+        ],
+    );
+}
+
+#[test]
+fn an_error_of_a_name_is_named_by_its_place(rt: HostRuntime) {
+    is_named_by_place(
+        &rt,
+        ErrorKind::NotFound,
+        [
+            VolumeFault::Read,
+            VolumeFault::HostMissing,
+            VolumeFault::HostMissing,
+            VolumeFault::HostWrite,
+            VolumeFault::Write,
+        ],
+    );
+    is_named_by_place(
+        &rt,
+        ErrorKind::AlreadyExists,
+        [
+            VolumeFault::Read,
+            VolumeFault::HostRead,
+            VolumeFault::HostTaken,
+            VolumeFault::HostWrite,
+            VolumeFault::Write,
+        ],
+    );
+    is_named_by_place(
+        &rt,
+        ErrorKind::InvalidFilename,
+        [
+            VolumeFault::Read,
+            VolumeFault::Path(PathFault::NameByte),
+            VolumeFault::HostMake,
+            VolumeFault::HostWrite,
+            VolumeFault::Write,
+        ],
+    );
+}

@@ -1,0 +1,209 @@
+//! Calls of the program, each with its status, what it prints and what people are told.
+
+use jffs_run::run_called;
+use std::io::{ErrorKind, Read, Write};
+use std::process::Abort;
+use std::rt::Files;
+use std::sync::Wait;
+use std::test::Fail;
+use std::thread::Threads;
+use std::{fs, io};
+
+const SCRIPT: &str = "volume 6 1024\nwriter\ncreate /f\n";
+
+const PRINTED: &str = "1.1 appended\nclosed\nscan clean\nd /\nf /f 0 -\n";
+
+/// The words after the program's name, what standard input gives, the status, and what is written
+/// to standard output and to standard error.
+type Row<'a> = (&'a str, &'a str, u8, &'a str, &'a str);
+
+fn plays<Rt: Abort + AllocGlobal + Files<File: Send> + Threads + Wait + Sync>(
+    rt: &Rt,
+    rows: &[Row<'_>],
+) -> Result<(), Fail> {
+    for (line, input, status, printed, told) in rows {
+        let line = format!(in rt.alloc(); "jffs {line}")?;
+        let mut words = Vec::new(rt.alloc());
+        for word in line.as_str().trim_end().split(' ') {
+            words.push(String::from_str(rt.alloc(), word)?)?;
+        }
+        let mut out = Vec::new(rt.alloc());
+        let mut errors = Vec::new(rt.alloc());
+        let mut input = input.as_bytes();
+        let ended = run_called(rt, &words, &mut input, &mut out, &mut errors);
+        assert_eq!(rt; errors.as_slice(), told.as_bytes(), "of {line}");
+        assert_eq!(rt; out.as_slice(), printed.as_bytes(), "of {line}");
+        assert_eq!(rt; ended, *status, "of {line}");
+    }
+    Ok(())
+}
+
+#[test]
+fn a_script_comes_from_a_file_or_from_standard_input(rt: HostRuntime) -> Result<(), Fail> {
+    let _ = fs::remove_file(&rt, "c.image");
+    fs::write(&rt, "c.script", SCRIPT)?;
+    plays(
+        &rt,
+        &[
+            ("", SCRIPT, 0, PRINTED, ""),
+            ("c.script", "no script", 0, PRINTED, ""),
+            ("--volume c.image c.script", "no script", 0, PRINTED, ""),
+            (
+                "--volume c.image",
+                SCRIPT,
+                0,
+                "1.1 refused NameTaken\nclosed\nscan clean\nd /\nf /f 0 -\n",
+                "",
+            ),
+            (
+                "c.script --volume c.image",
+                "",
+                0,
+                "1.1 refused NameTaken\nclosed\nscan clean\nd /\nf /f 0 -\n",
+                "",
+            ),
+            ("--version", "", 0, "jffs 0.1.0\n", ""),
+            (
+                "--volume c.image",
+                "volume 6 1024\nwriter\ncreate /f 1",
+                2,
+                "bad script, line 3: Command\n",
+                "jffs: line 3: unexpected word '1': create PATH\n",
+            ),
+        ],
+    )?;
+    fs::remove_file(&rt, "c.image")?;
+    fs::remove_file(&rt, "c.script")?;
+    Ok(())
+}
+
+#[test]
+fn a_script_that_is_bad_or_not_there_is_told_of(rt: HostRuntime) -> Result<(), Fail> {
+    fs::write(&rt, "bad.script", "volume 8 1024\n\ncreat /f\n")?;
+    plays(
+        &rt,
+        &[
+            (
+                "bad.script",
+                "",
+                2,
+                "bad script, line 3: Command\n",
+                "jffs: line 3: unknown command 'creat'; commands are mkdir, create, write, fill, \
+                truncate, rename and remove, and before them stand volume, line, cleaner, reader \
+                and writer\n",
+            ),
+            (
+                "no.script",
+                SCRIPT,
+                2,
+                "",
+                "jffs: no.script: there is no such file\n",
+            ),
+            (".", SCRIPT, 2, "", "jffs: .: the file can't be read\n"),
+        ],
+    )?;
+    fs::remove_file(&rt, "bad.script")?;
+    Ok(())
+}
+
+#[test]
+fn a_call_that_is_wrong_is_told_of(rt: HostRuntime) -> Result<(), Fail> {
+    fs::write(&rt, "w.script", SCRIPT)?;
+    plays(
+        &rt,
+        &[
+            (
+                "w.script more",
+                SCRIPT,
+                2,
+                "",
+                "jffs: unexpected word 'more'; --help tells more\n",
+            ),
+            (
+                "--volumes w.image",
+                SCRIPT,
+                2,
+                "",
+                "jffs: unknown option '--volumes'; \
+                options are --volume VOLUME, --help and --version\n",
+            ),
+            (
+                "--volume w.script",
+                SCRIPT,
+                1,
+                "",
+                "jffs: w.script: the file has another length than the sectors together\n",
+            ),
+        ],
+    )?;
+    fs::remove_file(&rt, "w.script")?;
+    Ok(())
+}
+
+#[test]
+fn a_file_without_volume_is_told_of(rt: HostRuntime) -> Result<(), Fail> {
+    fs::write(&rt, "zero.image", vec![in rt.alloc(); 0u8; 6144]?)?;
+    plays(
+        &rt,
+        &[(
+            "--volume zero.image",
+            SCRIPT,
+            1,
+            "fault: Mount\n",
+            "jffs: the volume can't be mounted: jffs_image says why\n",
+        )],
+    )?;
+    fs::remove_file(&rt, "zero.image")?;
+    Ok(())
+}
+
+/// A stream whose every call fails.
+#[derive(Drop)]
+struct Broken;
+
+impl Read for Broken {
+    fn read(&mut self, _buf: &mut [u8]) -> io::Result<usize> {
+        Err(io::Error::from(ErrorKind::BrokenPipe))
+    }
+}
+
+impl Write for Broken {
+    fn write(&mut self, _buf: &[u8]) -> io::Result<usize> {
+        Err(io::Error::from(ErrorKind::BrokenPipe))
+    }
+
+    fn flush(&mut self) -> io::Result<()> {
+        Ok(())
+    }
+}
+
+#[test]
+fn a_fault_of_a_stream_is_told_of(rt: HostRuntime) -> Result<(), Fail> {
+    let alloc = rt.alloc();
+    let mut words = vec![in alloc; String::from_str(alloc, "jffs")?]?;
+    let mut errors = Vec::new(alloc);
+    let mut out = Vec::new(alloc);
+    assert_eq!(rt;
+        run_called(&rt, &words, &mut Broken, &mut out, &mut errors),
+        1
+    );
+    assert_eq!(rt; out.as_slice(), b"fault: Read\n".as_slice());
+    let mut input = SCRIPT.as_bytes();
+    assert_eq!(rt;
+        run_called(&rt, &words, &mut input, &mut Broken, &mut errors),
+        1
+    );
+    words.push(String::from_str(alloc, "--help")?)?;
+    assert_eq!(rt;
+        run_called(&rt, &words, &mut input, &mut Broken, &mut errors),
+        1
+    );
+    assert_eq!(rt;
+        errors.as_slice(),
+        b"jffs: standard input can't be read\n\
+        jffs: standard output can't be written\n\
+        jffs: standard output can't be written\n"
+            .as_slice()
+    );
+    Ok(())
+}

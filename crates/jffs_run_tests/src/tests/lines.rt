@@ -1,0 +1,46 @@
+//! The lines of answers and of a run's end.
+
+use jffs_core::Answer;
+use jffs_line::{CLEANER, CONTROL};
+use jffs_run::{print_answers, print_ending};
+use jffs_tree::{Cause, Outcome};
+use std::alloc::Global;
+use std::test::Fail;
+
+/// What is printed of a run with this one answer: its line, and the line of the end.
+fn printed(alloc: Global, writer: u16, outcome: Outcome) -> Result<Vec<u8>, Fail> {
+    let answers = [Answer {
+        writer,
+        seq: 7,
+        outcome,
+    }];
+    let mut out = Vec::new(alloc);
+    print_answers(&answers, &mut out)
+        .ok()
+        .ok_or("it is written")?;
+    print_ending(&answers, &mut out)
+        .ok()
+        .ok_or("it is written")?;
+    Ok(out)
+}
+
+#[test]
+fn answers_and_ends_have_their_lines(rt: HostRuntime) -> Result<(), Fail> {
+    let appended = Outcome::Appended {
+        inode: 2,
+        version: 3,
+    };
+    let refused = Outcome::Refused(Cause::Device);
+    let rows = [
+        (8, appended, "8.7 appended\nnot closed Ended\n"),
+        (1, refused, "1.7 refused Device\nnot closed Ended\n"),
+        (CLEANER, refused, "not closed Ended\n"),
+        (CONTROL, Outcome::Closed, "closed\n"),
+        (CONTROL, refused, "not closed Device\n"),
+    ];
+    for (writer, outcome, text) in rows {
+        let lines = printed(rt.alloc(), writer, outcome)?;
+        assert_eq!(rt; lines.as_slice(), text.as_bytes());
+    }
+    Ok(())
+}

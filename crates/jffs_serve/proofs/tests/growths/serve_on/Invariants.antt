@@ -1,5 +1,0 @@
-use Rattle.jffs_serve.specs.Showing.{CanServe}
-use Rattle.jffs_serve.proofs.tests.growths.serve_on.Given as goal
-
-abbrev pub invariant-loop : goal.invariant-loop
-invariant-loop g l = CanServe l.session l.publisher

@@ -1,0 +1,103 @@
+//! Trees that are dumped, the words of a line, and what is told of scripts and calls.
+
+mod bounds;
+mod calls;
+mod told;
+
+use jffs_text::{Mistake, Quote, Script, Words, dump};
+use jffs_tree::{Limits, Tree};
+use std::alloc::Global;
+use std::process::Abort;
+use std::test::Fail;
+
+/// The tree that a script's first writer makes, where nothing stands against a wish.
+fn grown(rt: &impl Abort, alloc: Global, script: &str) -> Result<Tree, Fail> {
+    let script = Script::parse(alloc, script.as_bytes())?;
+    let writer = script.writers.first().ok_or("no writer")?;
+    let mut tree = Tree::new(alloc);
+    let mut next_inode = 2u32;
+    let mut version = 1u32;
+    for command in &writer.commands {
+        let limits = Limits {
+            data_max: 192,
+            next_inode: Some(next_inode),
+            next_version: Some(version),
+        };
+        let wish = command.wish(alloc)?;
+        let node = tree.decide(limits, &wish)?.with(version, 1, version);
+        assert!(rt; tree.can_apply(&node));
+        tree.apply(&node)?;
+        next_inode = next_inode.max(node.inode.saturating_add(1));
+        version = version.saturating_add(1);
+    }
+    Ok(tree)
+}
+
+fn dumped(alloc: Global, tree: &Tree) -> Result<Vec<u8>, Fail> {
+    let mut out = Vec::new(alloc);
+    dump(alloc, tree, &mut out)?;
+    Ok(out)
+}
+
+#[test]
+fn a_copied_tree_is_dumped_to_the_same_text(rt: HostRuntime) -> Result<(), Fail> {
+    let alloc = rt.alloc();
+    let tree = grown(
+        &rt,
+        alloc,
+        "volume 8 1024\n\
+        writer\n\
+        mkdir /a\n\
+        create /a/f\n\
+        rename /a /b\n\
+        mkdir /c\n\
+        rename /b/f /c/f\n\
+        write /c/f 2 6869\n\
+        remove /b",
+    )?;
+    let copied = tree.copy_tree()?;
+    let text = dumped(alloc, &tree)?;
+    assert_eq!(rt;
+        text.as_slice(),
+        b"d /\nd /c\nf /c/f 4 00006869\n".as_slice()
+    );
+    assert!(rt; dumped(alloc, &copied)? == text);
+    Ok(())
+}
+
+#[test]
+fn words_are_taken_from_left_to_right(rt: HostRuntime) -> Result<(), Fail> {
+    let mut words = Words::of("fill  7 ");
+    assert_eq!(rt; words.count(), 4);
+    assert_eq!(rt; words.take(), "fill");
+    assert_eq!(rt; words.take(), "");
+    assert_eq!(rt; words.take_number(0, 9), Ok(7));
+    assert_eq!(rt; words.count(), 1);
+    assert_eq!(rt; words.take(), "");
+    assert_eq!(rt; words.count(), 0);
+    assert_eq!(rt; words.take(), "");
+    assert_eq!(rt; Words::of("").count(), 1);
+    Ok(())
+}
+
+#[test]
+fn bytes_are_lower_case_hex(rt: HostRuntime) -> Result<(), Fail> {
+    let alloc = rt.alloc();
+    let mut words = Words::of("00ff1a - 0 0g 1A");
+    assert_eq!(rt;
+        words.take_bytes(alloc)?.as_slice(),
+        [0u8, 255, 26].as_slice()
+    );
+    assert_eq!(rt; words.take_bytes(alloc)?.len(), 0);
+    assert_eq!(rt;
+        words.take_bytes(alloc).err(),
+        Some(Mistake::OddHex(Quote::of("0")))
+    );
+    assert_eq!(rt;
+        words.take_bytes(alloc).err(),
+        Some(Mistake::Hex(Quote::of("0g")))
+    );
+    assert_eq!(rt; words.take_byte(), Err(Mistake::OneByte(Quote::of("1A"))));
+    assert_eq!(rt; words.take_byte(), Err(Mistake::OneByte(Quote::of(""))));
+    Ok(())
+}

@@ -61,7 +61,7 @@ closed_more : (before : Bool) (first second : List Reply)
 closed_more before first second =
     or_more before (any_closed (map answer_in first)) (any_closed (map answer_in second))
     ∙ ap (λ (b : Bool). before || b)
-      (sym (ap any_closed (map-append answer_in first second) ∙ list_any-append (λ (a : Answer). is_closed a.outcome) (map answer_in first) (map answer_in second)))
+    (sym (ap any_closed (map-append answer_in first second) ∙ list_any-append (λ (a : Answer). is_closed a.outcome) (map answer_in first) (map answer_in second)))
 
 -- one request more is taken and answered
 pub replied_more :

@@ -150,7 +150,8 @@ impl<'a> Flash for Held<'a> {
                 }
                 thread::yield_now();
             }
-            self.noted.store(self.gate.calls.load(Ordering::SeqCst), Ordering::SeqCst);
+            self.noted
+                .store(self.gate.calls.load(Ordering::SeqCst), Ordering::SeqCst);
         }
         self.inner.program(at, bytes)
     }

@@ -119,7 +119,8 @@ fn a_failure_tells_of_no_copies(rt: HostRuntime) -> Result<(), Fail> {
         &[0, 192, 384, 576, 768, 960, 1152, 1344, 1536, 1728],
     )?;
     let out = replayed(&rt, script.as_str(), 0)?;
-    let told = "\nappended 2 10 at 2560 ; erased 3 erases 0 weight 2304 next 11 3\nrefused Device\n";
+    let told =
+        "\nappended 2 10 at 2560 ; erased 3 erases 0 weight 2304 next 11 3\nrefused Device\n";
     assert!(rt; out.as_str().ends_with(told), "{out}");
     Ok(())
 }

@@ -180,7 +180,10 @@ fn a_line_has_the_capacity_of_its_script(rt: HostRuntime) -> Result<(), Fail> {
             wanted: 6,
             noted: &noted,
         };
-        let run = run_threads(&rt, alloc, &script, flash, &gate).map_err(|fault| fault.why)?;
+        let run = match run_threads(&rt, alloc, &script, flash, &gate) {
+            Ok(run) => run,
+            Err(fault) => return Err(fault.why.into()),
+        };
         assert_eq!(rt; run.answers.len(), 9);
         assert_eq!(rt; noted.load(Ordering::SeqCst), 6);
     }

@@ -1,5 +1,5 @@
 -- Lemmas on what a fault hands back.
-use Rattle.std.proofs.Common.{◌≡◌, ℕ, List, [], sym, subst, refl, Some, None, ap, ◌∙◌}
+use Rattle.std.proofs.Common.{◌≡◌, ◌≢◌, ◌⊎◌, inl, inr, ℕ, List, [], sym, subst, refl, Some, None, ap, ◌∙◌}
 use Rattle.std.proofs.lemmas.Option.{same_Some, none-some}
 use Rattle.jffs_flash.specs.Device.{Device}
 use Rattle.jffs_line.specs.declared.request.Request.{Request}
@@ -17,24 +17,46 @@ use Rattle.jffs_serve.proofs.Erasing.{since_start}
 use Rattle.jffs_run.specs.declared.fault.RunFault.{RunFault}
 use Rattle.jffs_run.specs.declared.fault.RunWhy.{RunWhy}
 use Rattle.jffs_serve.specs.Serving.{HasServed}
-use Rattle.jffs_run.specs.Faults.{GivesBack, LeftByServing, LeftByTurns}
+use Rattle.jffs_run.specs.declared.fault.RunWhy.TheVariants.{Mount, Line, Index, Settle, Memory}
+use Rattle.jffs_run.specs.Faults.{GivesBack, IsOfThreads, LeftByServing, LeftByTurns}
 
 module _ {F : Type 0} (device : F → Device) where
   -- a fault with the device
   pub gives_back :
-      (IsSo : Device → Type 0) (why : RunWhy) (flash : F) (fault : RunFault F)
-      → fault ≡ record { why = why; flash = Some flash } → IsSo (device flash) → GivesBack device IsSo fault
+      (IsSo : RunWhy → Device → Type 0) (why : RunWhy) (flash : F) (fault : RunFault F)
+      → fault ≡ record { why = why; flash = Some flash } → IsSo why (device flash) → GivesBack device IsSo fault
   gives_back IsSo why flash fault is so =
-      let has : fault.flash ≡ Some flash = ap (λ (f : RunFault F). f.flash) is in record {
+      let has : fault.flash ≡ Some flash = ap (λ (f : RunFault F). f.flash) is in
+      let named : why ≡ fault.why = sym (ap (λ (f : RunFault F). f.why) is) in record {
         lost = λ none. absurd (none-some flash (sym none ∙ has));
-        so = λ f same. subst (λ (x : F). IsSo (device x)) (same_Some flash f (sym has ∙ same)) so;
+        so = λ f same. subst (λ (w : RunWhy). IsSo w (device f)) named (subst (λ (x : F). IsSo why (device x)) (same_Some flash f (sym has ∙ same)) so);
       }
 
   -- what the device is may be said otherwise
   pub gives_back_so :
-      (IsSo IsThus : Device → Type 0) (fault : RunFault F) → ((d : Device) → IsSo d → IsThus d)
+      (IsSo IsThus : RunWhy → Device → Type 0) (fault : RunFault F) → ((why : RunWhy) (d : Device) → IsSo why d → IsThus why d)
       → GivesBack device IsSo fault → GivesBack device IsThus fault
-  gives_back_so IsSo IsThus fault weaken given = record { lost = given.lost; so = λ f same. weaken (device f) (given.so f same) }
+  gives_back_so IsSo IsThus fault weaken given = record { lost = given.lost; so = λ f same. weaken fault.why (device f) (given.so f same) }
+
+-- no name of another fault is Mount
+pub line_mounted : Line ≢ Mount
+line_mounted mount = cc
+
+pub settle_mounted : (why : RunWhy) → why ≡ Settle → why ≢ Mount
+settle_mounted why settle mount = cc
+
+pub index_mounted : (why : RunWhy) → (why ≡ Index) ⊎ (why ≡ Memory) → why ≢ Mount
+index_mounted why named mount = elim named [
+  | inl index ↦ cc
+  | inr memory ↦ cc
+]
+
+pub threads_mounted : (why : RunWhy) → IsOfThreads why → why ≢ Mount
+threads_mounted why named mount = elim named [
+  | inl spawn ↦ cc
+  | inr (inl line) ↦ cc
+  | inr (inr memory) ↦ cc
+]
 
 module _ {F : Type 0} where
   -- no request was answered

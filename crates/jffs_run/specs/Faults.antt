@@ -1,5 +1,5 @@
 -- What a run that was given up leaves of the device that it was given.
-use Rattle.std.specs.Prelude.{◌≡◌, ◌⊎◌, ℕ, List, length, Option, Some, None}
+use Rattle.std.specs.Prelude.{◌≡◌, ◌≢◌, ◌⊎◌, ℕ, List, length, Option, Some, None}
 use Rattle.jffs_flash.specs.Device.{Device}
 use Rattle.jffs_line.specs.declared.request.Request.{Request}
 use Rattle.jffs_line.specs.declared.hand.Taker as Taker
@@ -18,7 +18,8 @@ use Rattle.jffs_serve.specs.Chain.{RunsTo}
 use Rattle.jffs_serve.specs.Answered.{ErasesSince, RepliesMore}
 use Rattle.jffs_run.specs.declared.promise.LogSide.{LogSide}
 use Rattle.jffs_run.specs.declared.fault.RunFault.{RunFault}
-use Rattle.jffs_run.specs.declared.fault.RunWhy.TheVariants.{Spawn}
+use Rattle.jffs_run.specs.declared.fault.RunWhy.{RunWhy}
+use Rattle.jffs_run.specs.declared.fault.RunWhy.TheVariants.{Mount, Line, Spawn, Memory}
 
 -- The device is as a core left it that was in this state at first: it answered these requests in a
 -- chain of turns, on a device of the same sizes, with so many erases at most.
@@ -31,17 +32,28 @@ pub record LeftByTurns (start : CoreState) (device : Device) : Type 0 where
   pub lawful : (mounted past : List Node) → Represents mounted past start
       → RunsTo start core mounted past replies
 
--- A device that doesn't mount is as scanning left it; any other as the core that mounted it did.
-abbrev pub IsGivenUp : Device → Device → Type 0
-IsGivenUp before after = ((why : ScanWhy) × IsRefused before why after)
-    ⊎ ((start : CoreState) × IsFresh before start × LeftByTurns start after)
+-- A run of a core that was in this state at first was given up, not for Mount.
+abbrev pub LeftByRun : CoreState → RunWhy → Device → Type 0
+LeftByRun start why device = (why ≢ Mount) × LeftByTurns start device
+
+-- A fault is named Mount where the device doesn't mount, and it is as scanning left it; it has
+-- another name where the device was mounted, and it is as the core that mounted it left it.
+abbrev pub IsGivenUp : Device → RunWhy → Device → Type 0
+IsGivenUp before why after = ((why ≡ Mount) × (reason : ScanWhy) × IsRefused before reason after)
+    ⊎ ((start : CoreState) × IsFresh before start × LeftByRun start why after)
+
+-- What may go wrong with threads: one can't be started, a writer's last number is used, or
+-- allocation failed.
+abbrev pub IsOfThreads : RunWhy → Type 0
+IsOfThreads why = (why ≡ Spawn) ⊎ ((why ≡ Line) ⊎ (why ≡ Memory))
 
 module _ {F : Type 0} where
-  -- The fault hands back the device, which is so, unless a thread could not be started.
-  pub record GivesBack (device : F → Device) (IsSo : Device → Type 0) (fault : RunFault F) :
-      Type 0 where
+  -- The fault hands back the device, which is so for its reason, unless a thread could not be
+  -- started.
+  pub record GivesBack (device : F → Device) (IsSo : RunWhy → Device → Type 0)
+      (fault : RunFault F) : Type 0 where
     pub lost : fault.flash ≡ None → fault.why ≡ Spawn
-    pub so : (flash : F) → fault.flash ≡ Some flash → IsSo (device flash)
+    pub so : (flash : F) → fault.flash ≡ Some flash → IsSo fault.why (device flash)
 
   -- The device is as a session left it, which from this one on answered more requests.
   pub record LeftByServing (old : Session F) (put : List Step) (taken : ℕ → List Request)
@@ -54,6 +66,8 @@ module _ {F : Type 0} where
     pub left : IsLeftBy new.core device
 
 module _ {T : Type 0} (g : Taker.Ghosts T) where
-  -- The device is as the log thread left it, which began with this.
-  abbrev pub LeftBySide : {F W : Type 0} → LogSide F T W → Device → Type 0
-  LeftBySide side = LeftByServing side.session (all_put side.publisher).steps (g.taken side.taker)
+  -- Something went wrong with threads, and the device is as the log thread left it, which began
+  -- with this.
+  abbrev pub LeftBySide : {F W : Type 0} → LogSide F T W → RunWhy → Device → Type 0
+  LeftBySide side why device = IsOfThreads why
+      × LeftByServing side.session (all_put side.publisher).steps (g.taken side.taker) device

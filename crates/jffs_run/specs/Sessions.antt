@@ -10,6 +10,7 @@ use Rattle.jffs_core.specs.Past.{IsFresh}
 use Rattle.jffs_core.specs.Done.{ScanFinds}
 use Rattle.jffs_run.specs.Account.{Account}
 use Rattle.jffs_run.specs.Headline.{IsRun}
+use Rattle.jffs_run.specs.declared.fault.RunWhy.{RunWhy}
 use Rattle.jffs_run.specs.Faults.{IsGivenUp, LeftByTurns}
 use Rattle.jffs_run.specs.Done.{done_by_all, IsDoneToo}
 
@@ -71,5 +72,5 @@ RunsAreSessions = (before : Device) (start : CoreState) (account : Account) → 
 
 -- So is a run that was given up, unless the device didn't mount: then it holds what it held.
 abbrev pub FaultsEndSessions : Type 0
-FaultsEndSessions = (before after : Device) → IsGivenUp before after
+FaultsEndSessions = (before : Device) (why : RunWhy) (after : Device) → IsGivenUp before why after
     → HoldSame before after ⊎ HadSession before after

@@ -1,7 +1,6 @@
 //! Why a run was given up.
 
 use jffs_node::NoMemory;
-use std::alloc::AllocError;
 use thiserror::Error;
 
 /// Why a run was given up.
@@ -28,13 +27,12 @@ pub enum RunWhy {
 }
 
 impl From<NoMemory> for RunWhy {
-    fn from(_: NoMemory) -> RunWhy {
-        RunWhy::Memory
-    }
-}
+    ghost use Rattle.jffs_run.specs.declared.fault.RunWhy.TheVariants.{Memory};
+    ghost use Rattle.std.specs.Prelude.{◌≡◌};
 
-impl From<AllocError> for RunWhy {
-    fn from(_: AllocError) -> RunWhy {
+    ghost from_gives = { λ _ why. why ≡ Memory };
+
+    fn from(_: NoMemory) -> RunWhy {
         RunWhy::Memory
     }
 }

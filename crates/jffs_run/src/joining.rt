@@ -1,6 +1,6 @@
 //! Joining the writers and the readers.
 
-ghost use Rattle.std.specs.Prelude.{◌≡◌, ◌⊎◌, List, map, true, false, None, vec_len};
+ghost use Rattle.std.specs.Prelude.{◌≡◌, ◌⊎◌, List, map, true, false, None, IfSome, vec_len};
 ghost use Rattle.jffs_text.specs.declared.script.Writer.{Writer};
 ghost use Rattle.jffs_text.specs.declared.script.ReaderStatement.{ReaderStatement};
 ghost use Rattle.jffs_index.specs.Ends.{index_of, known, published, publisher_index, told_of};
@@ -8,6 +8,7 @@ ghost use Rattle.jffs_index.specs.Ends.{told_index};
 ghost use Rattle.jffs_index.specs.declared.rule.History.{History};
 ghost use Rattle.jffs_index.specs.Histories.{view_of, BeginsWith};
 ghost use Rattle.jffs_run.specs.Crew.{HasRoom};
+ghost use Rattle.jffs_run.specs.Faults.{IsOfThreads};
 ghost use Rattle.jffs_run.specs.Ends.{EachFrom, HandedIn, HandedInAll, end_of};
 ghost use Rattle.jffs_run.specs.Looking.{HasSeen, IsWhole};
 ghost use Rattle.jffs_run.specs.Started.{IsStarted, IsLooking, end_given};
@@ -57,7 +58,8 @@ impl Stops {
 
     /// Why the writers' ends make no run, if they don't.
     pub(crate) fn fault(&self) -> Option<RunWhy>
-        ensures { result ≡ None → (self.now.memory ≡ false) × (self.now.spent ≡ false) }
+        ensures none { result ≡ None → (self.now.memory ≡ false) × (self.now.spent ≡ false) }
+        ensures why { IfSome result IsOfThreads }
     {
         if self.memory {
             return Some(RunWhy::Memory);

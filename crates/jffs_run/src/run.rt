@@ -1,6 +1,6 @@
 //! A run of a script in threads.
 
-ghost use Rattle.std.specs.Prelude.{◌≡◌, [], map, false, IfOk, IfErr, vec_len};
+ghost use Rattle.std.specs.Prelude.{◌≡◌, ◌⊎◌, [], map, false, IfOk, IfErr, vec_len};
 ghost use Rattle.std.specs.List.{All};
 ghost use Rattle.jffs_index.specs.Histories.{opening_of};
 ghost use Rattle.jffs_index.specs.Ends.{published, pending, publisher_index, index_of};
@@ -10,7 +10,8 @@ ghost use Rattle.jffs_core.specs.CoreState.{CoreState};
 ghost use Rattle.jffs_core.specs.Past.{IsFresh, IsLeftBy};
 ghost use Rattle.jffs_run.specs.Account.{account_of};
 ghost use Rattle.jffs_run.specs.Headline.{IsRun};
-ghost use Rattle.jffs_run.specs.Faults.{GivesBack, IsGivenUp, LeftByTurns};
+ghost use Rattle.jffs_run.specs.declared.fault.RunWhy.TheVariants.{Index, Memory, Settle};
+ghost use Rattle.jffs_run.specs.Faults.{GivesBack, IsGivenUp, LeftByRun};
 ghost use Rattle.jffs_run.specs.Accepted.{accepted_of};
 ghost use Rattle.jffs_line.specs.Settling.{all_hands, IsSettled};
 
@@ -62,6 +63,7 @@ fn open<W: Wait + Drop, F: Flash>(
     ensures looking { IfOk result
         (λ opened. All (λ reader. index_of reader ≡ publisher_index opened.publisher)
         opened.readers.items) }
+    ensures refused { IfErr result (λ why. (why ≡ Index) ⊎ (why ≡ Memory)) }
 {
     if readers >= PLACES_MAX {
         return Err(RunWhy::Index);
@@ -94,7 +96,7 @@ where
     requires line { IsNewLine T.Of.Hand (T.ends line.taker) (T.taken line.taker) line.hands
         (vec_len script.now.writers) }
     requires core { (core.answers ≡ []) × (core.closed ≡ false) }
-    ensures fault { IfErr result (GivesBack F.device (LeftByTurns core)) }
+    ensures fault { IfErr result (GivesBack F.device (LeftByRun core)) }
     ensures run { IfOk result
         (λ r. IsRun core (account_of F.Flash script.now
         (λ sender. accepted_by T.Of.Hand sender (all_hands r.0.value)) r.1)) }
@@ -140,7 +142,8 @@ fn settle_all<R: Wait, F: Flash + Drop, T: Settle, W: Wait + Drop>(
 ) -> Result<Run<F, ()>, RunFault<F>>
     requires ends { T.ends finished.log.side.taker
         ≡ map (end_of T.Of.Hand) (all_hands finished.hands) }
-    ensures fault { IfErr result (GivesBack F.device (IsLeftBy finished.log.side.session.core)) }
+    ensures fault { IfErr result (GivesBack F.device
+        (λ why device. (why ≡ Settle) × IsLeftBy finished.log.side.session.core device)) }
     ensures rest { IfOk result
         (λ run. (run.answers.items ≡ finished.log.side.session.core.answers)
         × (run.readers ≡ finished.readers) × (run.served ≡ finished.log.served)) }
@@ -175,7 +178,8 @@ fn settle_all<R: Wait, F: Flash + Drop, T: Settle, W: Wait + Drop>(
 /// writer's thread. The device may hold a volume already: the script's own sizes are not looked at.
 ///
 /// A fault has its reason, and hands the device back unless a thread could not be started: one that
-/// doesn't mount as scanning left it, any other as the mounted core left it after its last turn.
+/// doesn't mount, which is Mount and nothing else, as scanning left it, any other as the mounted
+/// core left it after its last turn.
 pub fn run_threads<R: Threads + Wait + Sync, F: Flash + Send + Drop, G: Gate + Sync>(
     rt: &R,
     alloc: Global,
@@ -206,7 +210,7 @@ fn run_mounted<R: Threads + Wait + Sync, F: Flash + Send + Drop, G: Gate + Sync>
     gate: &G,
 ) -> Result<Run<F>, RunFault<F>>
     requires core { (core.answers ≡ []) × (core.closed ≡ false) }
-    ensures fault { IfErr result (GivesBack F.device (LeftByTurns core)) }
+    ensures fault { IfErr result (GivesBack F.device (LeftByRun core)) }
     ensures run { IfOk result
         (λ run. IsRun core (account_of F.Flash script.now (accepted_of run.accepted) run)) }
 {

@@ -13,7 +13,8 @@ use Rattle.jffs_serve.specs.Stopping.{ending_in, StopsAt}
 use Rattle.jffs_serve.proofs.Stopping.{nothing_owed}
 use Rattle.jffs_serve.proofs.Showing.{can_begin}
 use Rattle.jffs_run.proofs.Runs.{whole_run, new_hands, count_writers}
-use Rattle.jffs_run.proofs.Faults.{gives_back, gives_back_so, left_at_once, left_serving, served_turns}
+use Rattle.jffs_run.proofs.Faults.{gives_back, gives_back_so, left_at_once, left_serving, served_turns, threads_mounted, index_mounted, settle_mounted}
+use Rattle.jffs_run.specs.Faults.{LeftByRun}
 use Rattle.jffs_run.proofs.run.run_over.Goals as goal
 
 pub run_all-requires-clause-crew : goal.run_all-requires-clause-crew
@@ -67,17 +68,17 @@ returns-clause-run g c =
     rw (← c.new.ensures.core, c.of-accepted.ensures, settled.rest.0, settled.rest.1, settled.rest.2) run
 
 pub returns-in-Err-clause-fault : goal.returns-in-Err-clause-fault
-returns-in-Err-clause-fault g c = gives_back g.F.Flash.device _ _ _ _ c.with_flash.ensures (left_at_once c.args.core _ c.into_flash.ensures)
+returns-in-Err-clause-fault g c = gives_back g.F.Flash.device _ _ _ _ c.with_flash.ensures (index_mounted _ c.in-Err.ensures.refused, left_at_once c.args.core _ c.into_flash.ensures)
 
 pub returns-in_err-finished-clause-fault : goal.returns-in_err-finished-clause-fault
 returns-in_err-finished-clause-fault g c =
-    let turned = gives_back_so g.F.Flash.device _ _ _ (λ d. served_turns c.new.result c.args.core _ _ d c.new.ensures.core) c.in_err-finished.ensures.fault in
+    let turned = gives_back_so g.F.Flash.device _ (LeftByRun c.args.core) _ (λ why d left. (threads_mounted why left.0, served_turns c.new.result c.args.core _ _ d c.new.ensures.core left.1)) c.in_err-finished.ensures.fault in
     search (rules, turned)
 
 pub returns-in_err-run-clause-fault : goal.returns-in_err-run-clause-fault
 returns-in_err-run-clause-fault g c =
     let served = c.in_ok-finished.ensures.finished.served in
-    let turned = gives_back_so g.F.Flash.device _ _ _
-    (λ d left. served_turns c.new.result c.args.core _ _ d c.new.ensures.core (left_serving c.new.result c.in-Ok.opened.publisher _ _ _ _ _ d served left))
+    let turned = gives_back_so g.F.Flash.device _ (LeftByRun c.args.core) _
+    (λ why d left. (settle_mounted why left.0, served_turns c.new.result c.args.core _ _ d c.new.ensures.core (left_serving c.new.result c.in-Ok.opened.publisher _ _ _ _ _ d served left.1)))
     c.in_err-run.ensures.fault in
     search (rules, turned)

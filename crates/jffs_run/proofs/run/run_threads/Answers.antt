@@ -1,4 +1,4 @@
-use Rattle.std.proofs.Common.{inl, inr}
+use Rattle.std.proofs.Common.{inl, inr, refl}
 use Rattle.std.proofs.lemmas.Result.{IfOk-weaker, IfErr-weaker}
 use Rattle.jffs_run.proofs.Faults.{gives_back, gives_back_so}
 use Rattle.jffs_run.proofs.run.run_threads.Goals as goal
@@ -7,7 +7,7 @@ pub returns-clause-run : goal.returns-clause-run
 returns-clause-run g c = IfOk-weaker c.run_mounted.result _ _ (λ run is. (c.in-Ok.core, c.in-Ok.ensures.mounted, is)) c.run_mounted.ensures.run
 
 pub returns-clause-fault : goal.returns-clause-fault
-returns-clause-fault g c = IfErr-weaker c.run_mounted.result _ _ (λ fault given. gives_back_so g.F.Flash.device _ _ fault (λ d left. inr (c.in-Ok.core, c.in-Ok.ensures.mounted, left)) given) c.run_mounted.ensures.fault
+returns-clause-fault g c = IfErr-weaker c.run_mounted.result _ _ (λ fault given. gives_back_so g.F.Flash.device _ _ fault (λ why d left. inr (c.in-Ok.core, c.in-Ok.ensures.mounted, left)) given) c.run_mounted.ensures.fault
 
 pub returns-in-Err-clause-fault : goal.returns-in-Err-clause-fault
-returns-in-Err-clause-fault g c = gives_back g.F.Flash.device _ _ _ _ c.with_flash.ensures (inl (_, c.in-Err.ensures.refused))
+returns-in-Err-clause-fault g c = gives_back g.F.Flash.device _ _ _ _ c.with_flash.ensures (inl (refl, _, c.in-Err.ensures.refused))

@@ -1,4 +1,4 @@
-use Rattle.std.proofs.Common.{rules, ◌≡◌, inl, inr, ℕ, List, [], length, sym, ◌∙◌, ap, subst, false, ◌∷◌, IsTrue, arith}
+use Rattle.std.proofs.Common.{rules, refl, ◌≡◌, inl, inr, ℕ, List, [], length, sym, ◌∙◌, ap, subst, false, ◌∷◌, IsTrue, arith}
 use Rattle.jffs_text.specs.declared.script.Writer.{Writer}
 use Rattle.jffs_text.specs.declared.script.ReaderStatement.{ReaderStatement}
 use Rattle.jffs_core.specs.declared.answer.Answer.{Answer}
@@ -68,16 +68,16 @@ pub returns-in_default-clause-fault : goal.returns-in_default-clause-fault
 returns-in_default-clause-fault g c =
     let side = c.args.running.log.promise.side.value in
     gives_back g.F.Flash.device _ _ _ _ c.with_flash.ensures
-    (left_serving side.session side.publisher _ _ _ _ _ _ c.join-log.ensures.1 c.flash_of.ensures)
+    (inl refl, left_serving side.session side.publisher _ _ _ _ _ _ c.join-log.ensures.1 c.flash_of.ensures)
 
 pub returns-then-not-looking-clause-fault : goal.returns-then-not-looking-clause-fault
 returns-then-not-looking-clause-fault g c =
     let side = c.args.running.log.promise.side.value in
     gives_back g.F.Flash.device _ _ _ _ c.with_flash-then-not-looking.ensures
-    (left_serving side.session side.publisher _ _ _ _ _ _ c.join-log.ensures.1 c.flash_of-then-not-looking.ensures)
+    (inl refl, left_serving side.session side.publisher _ _ _ _ _ _ c.join-log.ensures.1 c.flash_of-then-not-looking.ensures)
 
 pub returns-in-Some-fault-clause-fault : goal.returns-in-Some-fault-clause-fault
 returns-in-Some-fault-clause-fault g c =
     let side = c.args.running.log.promise.side.value in
     gives_back g.F.Flash.device _ _ _ _ c.with_flash-in-Some-fault.ensures
-    (left_serving side.session side.publisher _ _ _ _ _ _ c.join-log.ensures.1 c.flash_of-in-Some-fault.ensures)
+    (search rules, left_serving side.session side.publisher _ _ _ _ _ _ c.join-log.ensures.1 c.flash_of-in-Some-fault.ensures)

@@ -1,3 +1,4 @@
+use Rattle.std.proofs.Common.{inr, refl}
 use Rattle.jffs_run.proofs.Faults.{gives_back, unserved}
 use Rattle.jffs_run.proofs.threads.run_in.Goals as goal
 
@@ -13,4 +14,4 @@ returns-clause-finished g c =
 
 pub returns-in_default-clause-fault : goal.returns-in_default-clause-fault
 returns-in_default-clause-fault g c =
-    gives_back g.F.Flash.device _ _ _ _ c.with_flash.ensures (unserved c.args.side.session _ _ _ c.flash_of.ensures)
+    gives_back g.F.Flash.device _ _ _ _ c.with_flash.ensures (inr (inr refl), unserved c.args.side.session _ _ _ c.flash_of.ensures)

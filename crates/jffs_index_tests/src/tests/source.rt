@@ -1,36 +1,12 @@
 //! A publisher beside the tree of all that was put, which decides on wishes.
-ghost use Rattle.std.specs.Prelude.{◌≡◌, IfOk, OnOk, OnErr};
-ghost use Rattle.jffs_index.specs.Shown.{tree_tested, fits_node};
+ghost use Rattle.std.specs.Prelude.{◌≡◌, IfOk};
 ghost use Rattle.jffs_index.specs.Histories.{view_of};
 ghost use Rattle.jffs_index.specs.Ends.{all_put, publisher_index};
 
 use jffs_index::{Publisher, Step};
-use jffs_node::Node;
 use jffs_tree::{Limits, Outcome, Tree, Wish};
-use std::alloc::AllocError;
 use std::sync::Wait;
 use std::test::Fail;
-
-/// Whether a node, where there is one, may be applied.
-fn node_fits(tree: &Tree, node: &Option<Node>) -> bool
-    ensures { result ≡ fits_node tree.now node.now }
-{
-    match node {
-        Some(node) => tree.can_apply(node),
-        None => true,
-    }
-}
-
-/// Applies a node where it fits.
-fn apply_fitting(tree: &mut Tree, node: &Option<Node>) -> Result<(), AllocError>
-    ensures applied { OnOk result (tree.new ≡ tree_tested tree.old node.now) }
-    ensures refused { OnErr result (tree.new ≡ tree.old) }
-{
-    match node {
-        Some(node) if tree.can_apply(node) => tree.apply(node).map_err(|_| AllocError),
-        _ => Ok(()),
-    }
-}
 
 #[derive(Drop)]
 pub(super) struct Source<W: Wait + Drop> {
@@ -48,11 +24,13 @@ impl<W: Wait + Drop> Source<W> {
             (λ _. self.new.tree ≡ (view_of (all_put self.new.publisher)).tree) }
         ensures index { publisher_index self.new.publisher ≡ publisher_index self.old.publisher }
     {
-        if !node_fits(&self.tree, &step.node) {
-            return Err("a node that doesn't fit".into());
-        }
-        if apply_fitting(&mut self.tree, &step.node).is_err() {
-            apply_fitting(&mut self.tree, &step.node)?;
+        if let Some(node) = &step.node {
+            if !self.tree.can_apply(node) {
+                return Err("a node that doesn't fit".into());
+            }
+            if self.tree.apply(node).is_err() {
+                self.tree.apply(node)?;
+            }
         }
         if let Err(step) = self.publisher.put(step) {
             self.publisher.put(step).map_err(|_| "a step came back")?;

@@ -18,8 +18,8 @@ pub record TakesOne (at len : ℕ) (old new : ℕ → ℕ) : Type 0 where
   pub range : (i : ℕ) → old i ≤ new i + 1
   pub rest : (i : ℕ) → (i < at) ⊎ (at + len ≤ i) → old i ≤ new i
 
--- A read takes one of what is left of each byte of its range, at most. It fails only where some byte
--- of it had none left.
+-- A read takes one of what is left of each byte of its range, at most. It fails only where some
+-- byte of it had none left.
 abbrev pub TakesReads : {A E : Type 0} → ℕ → ℕ → Result A E → (ℕ → ℕ) → (ℕ → ℕ) → Type 0
 TakesReads at len result old new =
     MatchResult result (λ _. TakesOne at len old new) (λ _. 1 ≤ len → HasSpent old at len)

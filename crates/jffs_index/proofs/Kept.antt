@@ -1,10 +1,10 @@
 -- Each step of an index keeps its rule.
-use Rattle.std.proofs.Common.{◌≡◌, ℕ, ◌+◌, ◌≤◌, ◌≢◌, Bool, true, false, List, [], ◌∷◌, ◌++◌, length, drop, set, fold, refl, sym, ap, subst, ◌∙◌, ⊎_elim, append_assoc, append-nil, length-append, Option, Some, None, Result, Err, MatchResult, MatchBool, zero, suc, arith}
+use Rattle.std.proofs.Common.{◌≡◌, ℕ, ◌+◌, ◌≤◌, ◌≢◌, Bool, true, false, List, [], ◌∷◌, ◌++◌, length, drop, set, fold, refl, sym, ap, subst, ◌∙◌, ⊎_elim, append_assoc, append-nil, length-append, Option, Some, None, Result, Ok, Err, MatchResult, MatchBool, zero, suc, arith}
 use Rattle.std.proofs.lemmas.List.{nil_from_length}
 use Rattle.std.proofs.lemmas.List.Sums.{fold-append}
 use Rattle.std.proofs.lemmas.Bool.{and_parts}
 use Rattle.std.proofs.lemmas.Bool.Decides.{nat_tests}
-use Rattle.std.proofs.lemmas.Result.{MatchResult-at_err}
+use Rattle.std.proofs.lemmas.Result.{MatchResult-at_err, MatchResult-at_ok}
 use lib.Dec.{leb}
 use mathlib.Core.Option.{some, some-injective, some-ne-none}
 use mathlib.Core.List.{IsPrefix}
@@ -271,3 +271,24 @@ pub at_fault : {E : Type 0} (r : Result (Unit {0}) E) (x : E) → r ≡ Err x �
 at_fault r x e page page' next all all' known known' values rule =
     let v = MatchResult-at_err (λ _. (page' ≡ next) × (all' ≡ [])) (λ _. (page' ≡ page) × (all' ≡ all)) x e values in
     (v.0, v.1, MatchResult-at_err (λ _. Sees known page page' known') (λ _. known' ≡ known) x e rule)
+
+-- what is left of a publish, whether it was refused or not
+pub published_or_not : {E : Type 0} (r : Result (Unit {0}) E) (page page' q next : Page) (changes all all' : List Change) (known known' : Option Index) (head : Named) (count total : ℕ)
+    → IsSound page changes q.seen.book q.seen.log known head count total → (held page changes q.seen.log).unlogged ≡ [] → all ≡ changes ++ Reach q.seen ∷ [] → next ≡ fold after_change page all
+    → MatchResult r (λ _. (page' ≡ next) × (all' ≡ [])) (λ _. (page' ≡ page) × (all' ≡ all)) → MatchResult r (λ _. Sees known page page' known') (λ _. known' ≡ known)
+    → IsSound page' all' q.seen.book q.seen.log known' head count total
+published_or_not (Ok x) page page' q next changes all all' known known' head count total sound whole is to values rule =
+    publishes page q page' changes all known known' head count total sound whole is (values.0 ∙ to) rule all' values.1
+published_or_not (Err x) page page' q next changes all all' known known' head count total sound whole is to values rule =
+    unpublished page page' q changes all' q.seen.book q.seen.log known known' head count total sound values.0 (values.1 ∙ is) rule
+
+-- a publish that isn't refused shows all that was put
+pub published_all : {E : Type 0} (r : Result (Unit {0}) E) (x : Unit {0}) → r ≡ Ok x → (page page' q next : Page) (changes all all' : List Change) (known : Option Index) (head : Named) (count total : ℕ)
+    → IsSound page changes q.seen.book q.seen.log known head count total → (held page changes q.seen.log).unlogged ≡ [] → all ≡ changes ++ Reach q.seen ∷ [] → next ≡ fold after_change page all
+    → MatchResult r (λ _. (page' ≡ next) × (all' ≡ [])) (λ _. (page' ≡ page) × (all' ≡ all))
+    → (history_of page' ≡ extended (history_of page) (steps_of changes)) × (steps_of all' ≡ [])
+published_all r x e page page' q next changes all all' known head count total sound whole is to values =
+    let v = MatchResult-at_ok (λ _. (page' ≡ next) × (all' ≡ [])) (λ _. (page' ≡ page) × (all' ≡ all)) x e values in
+    let log = whole_of q.seen.log (page.seen.log ++ steps_of changes) sound.begins whole in
+    let far = reached page q next changes all sound.faithful sound.fit sound.same_book log is to in
+    (ap history_of v.0 ∙ far.2, ap steps_of v.1)

@@ -197,38 +197,21 @@ impl Inner {
             logged,
             put,
         } = self;
-        if let Err(_) = writer.append(Change::Reach(seen.again())) {
-            let inner = Inner {
-                writer,
-                head,
-                seen,
-                logged,
-                put,
-            };
-            return (inner, Err(NoMemory));
-        }
-        match writer.publish_as::<Seeing, R>(rt) {
-            (writer, Ok(())) => {
-                let inner = Inner {
-                    writer,
-                    head,
-                    seen,
-                    logged,
-                    put,
-                };
-                (inner, Ok(()))
-            }
-            (writer, Err(_)) => {
-                let inner = Inner {
-                    writer,
-                    head,
-                    seen,
-                    logged,
-                    put,
-                };
-                (inner, Err(NoMemory))
-            }
-        }
+        let (writer, published) = match writer.append(Change::Reach(seen.again())) {
+            Ok(()) => match writer.publish_as::<Seeing, R>(rt) {
+                (writer, Ok(())) => (writer, Ok(())),
+                (writer, Err(_)) => (writer, Err(NoMemory)),
+            },
+            Err(_) => (writer, Err(NoMemory)),
+        };
+        let inner = Inner {
+            writer,
+            head,
+            seen,
+            logged,
+            put,
+        };
+        (inner, published)
     }
 
     /// What readers look at now. Takes no memory.

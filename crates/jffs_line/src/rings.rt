@@ -16,7 +16,6 @@ use crossbeam_utils::sync::{Parker, Unparker};
 use jffs_tree::Wish;
 pub use make::ring_line;
 use rtrb::{Consumer, Producer, PushError};
-pub use settling::settle;
 use std::sync::Wait;
 
 /// A wish with its number among its sender's.

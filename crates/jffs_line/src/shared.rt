@@ -18,7 +18,6 @@ use crossbeam_channel::{Pass, RuledReceiver, RuledSender, TryRecvError, TrySendE
 use crossbeam_utils::Backoff;
 use jffs_tree::Wish;
 pub use make::shared_line;
-pub use settling::settle;
 use std::sync::Wait;
 
 /// The rule of the shared line: each sender's requests are taken in order, whole and once.

@@ -83,8 +83,8 @@ pub record HasRead (s : ℕ × Sector) (number : ℕ) (bytes : List ℕ) : Type 
   pub spelled : IsSpelled bytes
   pub sound : bad_in s ≡ None
 
--- The range was read once at most: the bytes outside it can be read as often as before, and the call
--- failed only where some byte inside it could not be read once more.
+-- The range was read once at most: the bytes outside it can be read as often as before, and the
+-- call failed only where some byte inside it could not be read once more.
 pub record IsReadOnce (at len : ℕ) (before after : FlashDevice) (old new : ℕ → ℕ) : Type 0 where
   pub rest : after.faults ≡ before.faults → (i : ℕ) → (i < at) ⊎ (at + len ≤ i) → old i ≤ new i
   pub fails : before.faults < after.faults → 1 ≤ len → HasSpent old at len

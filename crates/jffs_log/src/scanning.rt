@@ -149,7 +149,8 @@ fn find_log<F: Flash>(alloc: Global, flash: &mut F) -> Result<FoundLog, ScanWhy>
     ensures same { IfOk result (λ _. Unchanged (F.device flash.old) (F.device flash.new)) }
     ensures refused { IfErr result
         (λ why. IsRefused (F.device flash.old) why (F.device flash.new)) }
-    ensures once { FailsWhereSpent (F.reads_left flash.old) (F.device flash.old) (F.device flash.new) }
+    ensures once { FailsWhereSpent (F.reads_left flash.old)
+        (F.device flash.old) (F.device flash.new) }
 {
     let sectors = flash.sectors();
     let sector_size = flash.sector_size();

@@ -10,9 +10,14 @@ use jffs_node::{GATE_AT, GATE_CLOSED, GATE_OPEN, Node, encode_into, record_len};
 /// The longest record, in bytes: a quarter of the largest sector.
 pub const RECORD_MAX: usize = 4096;
 
-/// Up to here a record is made in a small buffer: filling a large one would cost as much as writing
-/// the record.
-const SMALL_RECORD: usize = 512;
+/// A buffer for records of up to half the longest, in bytes.
+const HALF: usize = RECORD_MAX / 2;
+
+/// A buffer for records of up to a quarter of the longest, in bytes.
+const QUARTER: usize = RECORD_MAX / 4;
+
+/// A buffer for records of up to an eighth of the longest, in bytes.
+const EIGHTH: usize = RECORD_MAX / 8;
 
 /// Writes the record of a node into erased flash, from the offset `at` of the image on.
 ///
@@ -21,11 +26,33 @@ pub(crate) fn write_record<F: Flash>(flash: &mut F, at: u32, node: &Node) -> Res
     requires { MayWrite at node.now (F.device flash.old).image }
     ensures { Writes at node.now result (F.device flash.old) (F.device flash.new) }
 {
-    if record_len(node) as usize <= SMALL_RECORD {
-        write_through(flash, &mut [GATE_OPEN; SMALL_RECORD], at, node)
+    // A buffer is filled before a record is made in it, so a short record gets a small one.
+    let len = record_len(node) as usize;
+    if len <= EIGHTH {
+        write_in::<EIGHTH, F>(flash, at, node)
+    } else if len <= QUARTER {
+        write_in::<QUARTER, F>(flash, at, node)
+    } else if len <= HALF {
+        write_in::<HALF, F>(flash, at, node)
     } else {
-        write_through(flash, &mut [GATE_OPEN; RECORD_MAX], at, node)
+        write_in::<RECORD_MAX, F>(flash, at, node)
     }
+}
+
+/// Writes the record of a node, which is made in a buffer of that size. It stays a call, so that the
+/// stack has one buffer and not one of each size.
+#[inline(never)]
+fn write_in<const SIZE: usize, F: Flash>(
+    flash: &mut F,
+    at: u32,
+    node: &Node,
+) -> Result<(), FlashFault>
+    requires may { MayWrite at node.now (F.device flash.old).image }
+    requires long { length_of node.now ≤ SIZE }
+    requires size { SIZE ≤ RECORD_MAX }
+    ensures { Writes at node.now result (F.device flash.old) (F.device flash.new) }
+{
+    write_through(flash, &mut [GATE_OPEN; SIZE], at, node)
 }
 
 /// Writes the record of a node, which is made in the first bytes of a buffer.

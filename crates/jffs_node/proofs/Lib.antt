@@ -4,6 +4,7 @@ pub mod Found
 pub mod Sound
 pub mod Each
 pub mod Names
+pub mod NameOrder
 pub mod Rules
 pub mod Decoded
 pub mod Pieces

@@ -10,6 +10,7 @@ use Rattle.jffs_node.specs.declared.path.PathFault.TheVariants.{NameEmpty, NameL
 use Rattle.jffs_node.specs.Name.{is_name, is_name_byte}
 use Rattle.jffs_node.proofs.Each.{each_append}
 use Rattle.jffs_node.proofs.Rules.{ok_differs, ok_same}
+use Rattle.jffs_node.specs.declared.path.TheConstants.{PATH_DEPTH_MAX}
 use Rattle.jffs_node.specs.Path.{IsPath, name_fault, names_fault, or_else, unless_fault, answer_after, named, unless_bad}
 
 -- where a slash was looked for
@@ -46,8 +47,8 @@ module _ (names : List (List ℕ)) (deep : Bool) (piece : List ℕ) (pieces : Li
   pub answer_name : name_fault piece ≡ None → answer_after names deep (piece ∷ pieces) ≡ answer_after (names ++ piece ∷ []) deep pieces
   answer_name h =
       let l : length names + length (piece ∷ pieces) ≡ length (names ++ piece ∷ []) + length pieces = omega (arith, length-append names (piece ∷ [])) in
-      ap (λ o. unless_fault (names ++ piece ∷ pieces) (or_else (or_else o (names_fault pieces)) (cond (deep || ltb 8 (length names + length (piece ∷ pieces))) (Some Deep) None))) h
-      ∙ (λ i. unless_fault (sym (append_assoc names (piece ∷ []) pieces) i) (or_else (names_fault pieces) (cond (deep || ltb 8 (l i)) (Some Deep) None)))
+      ap (λ o. unless_fault (names ++ piece ∷ pieces) (or_else (or_else o (names_fault pieces)) (cond (deep || ltb PATH_DEPTH_MAX (length names + length (piece ∷ pieces))) (Some Deep) None))) h
+      ∙ (λ i. unless_fault (sym (append_assoc names (piece ∷ []) pieces) i) (or_else (names_fault pieces) (cond (deep || ltb PATH_DEPTH_MAX (l i)) (Some Deep) None)))
 
 -- What a name that was read says of its bytes.
 read_of : (bytes name : List ℕ) (o : Option PathFault) → Ok name ≡ unless_bad bytes o → (o ≡ None) × (name ≡ bytes)
@@ -76,7 +77,7 @@ named_well name h =
     tests.2
 
 -- a path of one name more
-pub path_more : (names : List (List ℕ)) (name : List ℕ) → IsPath names → length names < 8 → name_fault name ≡ None → IsPath (names ++ name ∷ [])
+pub path_more : (names : List (List ℕ)) (name : List ℕ) → IsPath names → length names < PATH_DEPTH_MAX → name_fault name ≡ None → IsPath (names ++ name ∷ [])
 path_more names name is few h =
     let l = length-append names (name ∷ []) in
     record { short = omega arith; each = each_append (λ n. IsTrue (is_name n)) names (name ∷ []) is.each (named_well name h, tt) }

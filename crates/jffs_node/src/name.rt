@@ -4,12 +4,14 @@ ghost use Rattle.jffs_node.specs.declared.name.TheConstants.{NAME_MAX};
 ghost use Rattle.std.specs.Prelude.{◌≡◌, ◌≤◌, length, Some, None, if◌then◌else◌, refl, bytes_eq};
 ghost use Rattle.std.specs.Prelude.{IsTrue};
 ghost use Rattle.jffs_node.specs.Name.{is_name, is_name_byte as name_byte_test};
+ghost use Rattle.jffs_node.specs.Reading.{name_numbers};
 ghost use Rattle.std.specs.List.{list_all};
 ghost use Rattle.std.specs.Ordering.{nat_cmp};
 ghost use Rattle.std.specs.Cmp.{partial_equiv_from_equiv};
 ghost use Rattle.std.specs.Cmp.Lexicographic.{slice_cmp, nat_list_eq_equiv, nat_list_cmp_total};
 ghost use Rattle.std.specs.Cmp.Lexicographic.{texts_ties, texts_po};
 
+use crate::words::{long_at, word_at};
 use std::cmp::Ordering;
 use std::marker::Model;
 
@@ -63,6 +65,19 @@ impl Name {
     {
         &self.bytes[..self.length as usize]
     }
+
+    /// The stored bytes as numbers, the first byte highest. No byte of a name is zero, as those
+    /// after it are, so names have the order of these numbers.
+    fn numbers(&self) -> (u64, u64, u32)
+        ensures value { result ≡ name_numbers self.now }
+        ensures lawful { IsTrue (is_name self.now) }
+    {
+        (
+            long_at(&self.bytes, 0),
+            long_at(&self.bytes, 8),
+            word_at(&self.bytes, 16),
+        )
+    }
 }
 
 /// Whether bytes spell a name.
@@ -92,7 +107,7 @@ impl PartialEq for Name {
     ghost laws = { partial_equiv_from_equiv nat_list_eq_equiv };
 
     fn eq(&self, other: &Name) -> bool {
-        self.bytes() == other.bytes()
+        self.numbers() == other.numbers()
     }
 }
 
@@ -120,6 +135,6 @@ impl Ord for Name {
     ghost matches_eq = { texts_ties };
 
     fn cmp(&self, other: &Name) -> Ordering {
-        self.bytes().cmp(other.bytes())
+        self.numbers().cmp(&other.numbers())
     }
 }

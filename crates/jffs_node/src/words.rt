@@ -1,7 +1,7 @@
 //! Reading the fields of a record, whose bytes stand at fixed positions.
 
 ghost use Rattle.std.specs.Prelude.{◌≡◌, ◌==◌, ◌+◌, ◌≤◌, length};
-ghost use Rattle.std.specs.Int.{w16, w32};
+ghost use Rattle.std.specs.Int.{w16, w32, w64};
 ghost use Rattle.std.specs.List.{list_all};
 ghost use Rattle.jffs_node.specs.Reading.{number_at};
 
@@ -14,6 +14,23 @@ pub(crate) fn is_all(bytes: &[u8], byte: u8) -> bool
         return true;
     };
     *first == byte && rest == &bytes[..rest.len()]
+}
+
+/// The number of 64 bits that stands at a position.
+pub(crate) fn long_at(rest: &[u8], at: usize) -> u64
+    requires { at + 8 ≤ length rest.now }
+    ensures { result ≡ number_at w64 at rest.now }
+{
+    u64::from_be_bytes([
+        rest[at],
+        rest[at + 1],
+        rest[at + 2],
+        rest[at + 3],
+        rest[at + 4],
+        rest[at + 5],
+        rest[at + 6],
+        rest[at + 7],
+    ])
 }
 
 /// The number of 32 bits that stands at a position.

@@ -162,12 +162,12 @@ fn replay_all<Rt: Files + AllocGlobal, R: Read, W: Write>(
     }
 }
 
-/// Runs the operations of a text on a replay, and writes one line for each to `out`, which is flushed
-/// at once; an empty line and a comment are none.
+/// Runs the operations of a text on a replay, and writes one line for each to `out`, which is
+/// flushed at once; an empty line and a comment are none.
 ///
-/// `Stopped` at the first line that is no operation or can't be done, or at which reading, writing or
-/// allocation fails: the replay stands as the operations before it left it, or as that one did whose
-/// line could not be written.
+/// `Stopped` at the first line that is no operation or can't be done, or at which reading, writing
+/// or allocation fails: the replay stands as the operations before it left it, or as that one did
+/// whose line could not be written.
 pub fn run_lines<Rt: Files + AllocGlobal, B: BufRead, W: Write>(
     rt: &Rt,
     replay: &mut Replay,

@@ -1,5 +1,5 @@
 -- One node more, in a tree that is a map of inodes.
-use Rattle.std.proofs.Common.{◌≡◌, ℕ, true, false, cond, not, eqb, ltb, T, IsSome, is_lt, arith, IsTrue, map, is_some, List, refl, ⊎_elim, Option, Some, None, Result, Ok, Err, sym, ap, subst, ◌∙◌, nat_cmp}
+use Rattle.std.proofs.Common.{◌≡◌, ℕ, true, false, cond, not, eqb, ltb, T, IsSome, is_lt, arith, IsTrue, map, refl, ⊎_elim, Option, Some, None, Result, Ok, Err, sym, ap, subst, ◌∙◌, nat_cmp}
 use Rattle.std.specs.Cmp.{nat_cmp_total, unsigned_tied}
 use Rattle.std.specs.FinMap.{nat_cmp-IsAntisymmetric}
 use Rattle.std.specs.FinMap.Entries as entries
@@ -64,32 +64,6 @@ map_removed old new i was ordered updates =
     ∙ ap (λ b. cond b None (lookup (is_at (nat_cmp j)) old)) (unsigned_tied i j)
     ∙ ap (λ o. cond (eqb i j) None o) (found_get j old)
     ∙ sym (find_without i old j))
-
--- an inode that was entered and taken away again
-pub entered_back : {X : Type 0} (old first mid new : List (ℕ × X)) (i : ℕ) (x : X) → is_some (lookup (is_at (nat_cmp i)) old) ≡ false
-    → IsStrictlySortedBy nat_cmp (map (λ e. e.0) old) → IsStrictlySortedBy nat_cmp (map (λ e. e.0) new)
-    → ((q : ℕ) → lookup (is_at (nat_cmp q)) first ≡ cond (is_at (nat_cmp i) q) (Some x) (lookup (is_at (nat_cmp q)) old)) → mid ≡ first
-    → ((q : ℕ) → lookup (is_at (nat_cmp q)) new ≡ cond (is_at (nat_cmp i) q) None (lookup (is_at (nat_cmp q)) mid)) → new ≡ old
-entered_back {X} old first mid new i x absent was ordered entered same away =
-    entries.same_entries nat_cmp nat_cmp_total nat_cmp-IsAntisymmetric new old (sorted_map new ordered) (sorted_map old was)
-    (λ j.
-    sym (found_get j new) ∙ away j
-    ∙ ap (λ (t : List (ℕ × X)). cond (is_at (nat_cmp i) j) None (lookup (is_at (nat_cmp j)) t)) same
-    ∙ ap (λ o. cond (is_at (nat_cmp i) j) None o) (entered j)
-    ∙ at j ∙ found_get j old)
-  where
-    none_of : (o : Option X) → is_some o ≡ false → o ≡ None
-    none_of None h = refl
-    none_of (Some y) h = cc
-
-    at : (j : ℕ) → cond (is_at (nat_cmp i) j) None (cond (is_at (nat_cmp i) j) (Some x) (lookup (is_at (nat_cmp j)) old)) ≡ lookup (is_at (nat_cmp j)) old
-    at j = ⊎_elim
-        (λ tied.
-        let here : i ≡ j = eqb-true i j (sym (unsigned_tied i j) ∙ tied) in
-        ap (λ b. cond b None (cond b (Some x) (lookup (is_at (nat_cmp j)) old))) tied
-        ∙ sym (ap (λ k. lookup (is_at (nat_cmp k)) old) (sym here) ∙ none_of (lookup (is_at (nat_cmp i)) old) absent))
-        (λ apart. ap (λ b. cond b None (cond b (Some x) (lookup (is_at (nat_cmp j)) old))) apart)
-        (cases_Bool (is_at (nat_cmp i) j))
 
 -- what a map had at a key that was taken out
 pub taken_out : (i : ℕ) (old : Tree) (h seen : Held) → seen ≡ h → Some h ≡ lookup (is_at (nat_cmp i)) old → held_in old i ≡ Some seen

@@ -6,6 +6,7 @@ use Rattle.std.specs.List.Sorted.{IsStrictlySortedBy}
 use Rattle.std.specs.Option.{option_map_or, option_to_list}
 use Rattle.std.specs.Ordering.{nat_cmp, ordering_then}
 use Rattle.std.specs.declared.cmp.Ordering.{Ordering}
+use Rattle.std.specs.declared.cmp.Reverse.{Reverse}
 use Rattle.std.specs.Map.{lookup, keys_of}
 use Rattle.std.specs.BTreeMap.{is_at}
 use Rattle.jffs_node.specs.declared.node.Node.{Node}
@@ -13,26 +14,33 @@ use Rattle.jffs_node.specs.Record.{dsize}
 use Rattle.jffs_tree.specs.Origin.{Held, Tree, versions_held}
 use Rattle.jffs_tree.specs.After.{held_in}
 
--- a version and an inode, and how many marks the version has there
-abbrev pub Counts : Type 0
-Counts = List ((ℕ × ℕ) × ℕ)
+-- a version and an inode
+abbrev pub MarkKey : Type 0
+MarkKey = Reverse ℕ × ℕ
 
--- by version, then by inode
-abbrev pub mark_cmp : (ℕ × ℕ) → (ℕ × ℕ) → Ordering
-mark_cmp a b = ordering_then (nat_cmp a.0 b.0) (nat_cmp a.1 b.1)
+abbrev pub mark_key : ℕ → ℕ → MarkKey
+mark_key v i = (record { 0 = v }, i)
+
+-- how many marks each version has in each inode
+abbrev pub Counts : Type 0
+Counts = List (MarkKey × ℕ)
+
+-- by version, the newest first, then by inode
+abbrev pub mark_cmp : MarkKey → MarkKey → Ordering
+mark_cmp a b = ordering_then (nat_cmp b.0.0 a.0.0) (nat_cmp a.1 b.1)
 
 -- the marks of a version in an inode
 abbrev pub mark_of : Counts → ℕ → ℕ → ℕ
-mark_of counts v i = unwrap_or (lookup (is_at (mark_cmp (v, i))) counts) 0
+mark_of counts v i = unwrap_or (lookup (is_at (mark_cmp (mark_key v i))) counts) 0
 
 -- all marks of a version
 abbrev pub marks_of : Counts → ℕ → ℕ
-marks_of counts v = sum_by (λ e. e.1) (filter (λ e. e.0.0 == v) counts)
+marks_of counts v = sum_by (λ e. e.1) (filter (λ e. e.0.0.0 == v) counts)
 
 -- They stand in order, and only what is above zero is kept.
 pub record AreKept (counts : Counts) : Type 0 where
   pub ordered : IsStrictlySortedBy mark_cmp (keys_of counts)
-  pub some : (v i : ℕ) → lookup (is_at (mark_cmp (v, i))) counts ≢ Some 0
+  pub some : (v i : ℕ) → lookup (is_at (mark_cmp (mark_key v i))) counts ≢ Some 0
 
 -- the same marks everywhere
 abbrev pub SameMarks : Counts → Counts → Type 0

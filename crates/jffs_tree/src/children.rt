@@ -72,8 +72,8 @@ pub(crate) fn names_of(
     Ok(names)
 }
 
-/// Whether no key is of the same name and directory as the one before it. Keys stand in order, so no
-/// two are then.
+/// Whether no key is of the same name and directory as the one before it. Keys stand in order, so
+/// no two are then.
 pub(crate) fn are_apart(children: &BTreeSet<ChildKey>) -> bool
     ensures apart { result ≡ apart_from None children.now.keys }
     ensures ordered { IsStrictlySortedBy key_cmp children.now.keys }
@@ -103,7 +103,7 @@ pub(crate) fn bears(key: ChildKey, parent: u32, name: &Name) -> bool
     ensures { result ≡ ((key.0 == parent) && is_named name.now key.1) }
 {
     match key.1 {
-        Some(found) => key.0 == parent && name.bytes() == found.bytes(),
+        Some(found) => key.0 == parent && *name == found,
         None => false,
     }
 }

@@ -1,7 +1,7 @@
 //! The decision on a wish.
 
 ghost use Rattle.std.specs.Prelude.{◌≡◌, ◌≢◌, ℕ, ◌<◌, slice_index, not, false, length, Some, Err};
-ghost use Rattle.std.specs.Prelude.{IsSome, IsOk, option_map};
+ghost use Rattle.std.specs.Prelude.{IsSome, IfSome, IsOk, is_none, option_map};
 ghost use Rattle.jffs_tree.specs.declared.wish.Cause.TheVariants.{Memory};
 ghost use Rattle.jffs_tree.specs.declared.wish.Wish.TheVariants.{Write, Truncate, Rename, Remove};
 ghost use Rattle.jffs_tree.specs.declared.wish.Wish.TheVariants.{Copy, Unmount};
@@ -15,6 +15,7 @@ ghost use Rattle.jffs_tree.specs.Decide.{entry_of, carries_bytes};
 
 use crate::children::any_named;
 use crate::inode::Inode;
+use crate::look::ROOT;
 use crate::tree::Tree;
 use crate::wish::{Cause, Limits, NewNode, Wish};
 use jffs_node::{Bytes, FILE_MAX, Kind, Name, Path, shared};
@@ -115,6 +116,24 @@ impl Tree {
         }
     }
 
+    /// A file that is there; `None` where a directory stands.
+    fn file(&self, inode: u32) -> Option<&Inode>
+        requires { is_directory_in (state_in self.now) inode ≡ false
+            → IsSome (held_in self.now inode) }
+        ensures other { is_none result ≡ is_directory_in (state_in self.now) inode }
+        ensures entry { IfSome result
+            (λ found. entry_of (state_in self.now) inode ≡ found.now.entry) }
+    {
+        if inode == ROOT {
+            return None;
+        }
+        let found = self.inode(inode)?;
+        if found.kind == Kind::Directory {
+            return None;
+        }
+        Some(found)
+    }
+
     /// What holds a live version.
     fn holder(&self, version: u32) -> Option<(u32, &Inode)>
         ensures { option_map (λ f. (f.0, f.1.now)) result ≡ holder self.now version }
@@ -142,9 +161,9 @@ impl Tree {
         let Some(inode) = self.resolve(path) else {
             return Err(Cause::NotFound);
         };
-        if self.is_directory(inode) {
+        let Some(found) = self.file(inode) else {
             return Err(Cause::IsDirectory);
-        }
+        };
         if (limits.data_max as usize) < data.len() {
             return Err(Cause::DataLong);
         }
@@ -154,7 +173,6 @@ impl Tree {
         if limits.next_version.is_none() {
             return Err(Cause::VersionsSpent);
         }
-        let found = self.present(inode);
         let old = found.size();
         let mut node = found.plain(inode);
         let length = data.len() as u32;
@@ -175,16 +193,15 @@ impl Tree {
         let Some(inode) = self.resolve(path) else {
             return Err(Cause::NotFound);
         };
-        if self.is_directory(inode) {
+        let Some(found) = self.file(inode) else {
             return Err(Cause::IsDirectory);
-        }
+        };
         if FILE_MAX < size {
             return Err(Cause::FileLong);
         }
         if limits.next_version.is_none() {
             return Err(Cause::VersionsSpent);
         }
-        let found = self.present(inode);
         let old = found.size();
         let mut node = found.plain(inode);
         node.offset = size.min(old);

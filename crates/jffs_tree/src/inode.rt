@@ -167,7 +167,7 @@ impl Inode {
         ensures { result ≡ ((self.now.entry.parent == parent)
             && bytes_eq self.now.entry.name name.now) }
     {
-        self.parent == parent && self.name.bytes() == name.bytes()
+        self.parent == parent && self.name == *name
     }
 }
 

@@ -134,7 +134,7 @@ impl Tree {
         self.marks.least(first, last)
     }
 
-    /// The least live version from `first` on, and the least inode that it lives in; `None` if none
+    /// The least live version from `first` on, and an inode that it lives in; `None` if none
     /// is. Takes no memory.
     pub fn next_live(&self, first: u32) -> Option<(u32, u32)>
         ensures live { IfSome result

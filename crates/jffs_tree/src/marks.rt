@@ -1,18 +1,23 @@
 //! How often each version is live, kept under the changes of a tree and never counted anew.
 
 ghost use Rattle.std.specs.Prelude.{◌≡◌, ◌+◌, ◌-◌, ◌<◌, ◌≤◌, ◌^◌, ℕ, [], true, false, min, IfSome};
-ghost use Rattle.std.specs.Prelude.{IfNone, OnOk, OnErr};
-ghost use Rattle.jffs_tree.specs.Marks.{AreKept, HaveMore, mark_of, marks_of};
+ghost use Rattle.std.specs.Prelude.{IfNone, OnOk, OnErr, Some, length, slice_get};
+ghost use Rattle.jffs_tree.specs.Marks.{AreKept, HaveMore, mark_key, mark_of, marks_of};
 
 use std::alloc::{AllocError, Global};
+use std::cmp::Reverse;
 use std::collections::BTreeMap;
 use std::marker::Model;
+
+/// A version and an inode. The newest version stands first, since each node brings one and the map
+/// is searched from its first key on.
+type MarkKey = (Reverse<u32>, u32);
 
 /// For a version and an inode how many bytes of the inode the version wrote, and one more where
 /// it is the inode's newest. Only what is above zero is kept.
 #[derive(Drop)]
 pub(crate) struct Marks {
-    counts: BTreeMap<(u32, u32), u32>,
+    counts: BTreeMap<MarkKey, u32>,
 }
 
 impl Model for Marks {
@@ -39,7 +44,7 @@ impl Marks {
     pub(crate) fn at(&self, version: u32, inode: u32) -> u32
         ensures { result ≡ mark_of self.now version inode }
     {
-        match self.counts.get(&(version, inode)) {
+        match self.counts.get(&(Reverse(version), inode)) {
             Some(count) => *count,
             None => 0,
         }
@@ -54,10 +59,10 @@ impl Marks {
         if count == 0 {
             return Ok(());
         }
-        let Some(before) = self.counts.insert((version, inode), count)? else {
+        let Some(before) = self.counts.insert((Reverse(version), inode), count)? else {
             return Ok(());
         };
-        let Some(kept) = self.counts.get_mut(&(version, inode)) else {
+        let Some(kept) = self.counts.get_mut(&(Reverse(version), inode)) else {
             unreachable!()
         };
         *kept += before;
@@ -69,14 +74,42 @@ impl Marks {
         requires { count ≤ mark_of self.old version inode }
         ensures { HaveMore self.new self.old version inode count }
     {
-        let Some(kept) = self.counts.get_mut(&(version, inode)) else {
+        // Often it is the oldest version, whose key a search reaches last.
+        if let Some(kept) = self.at_last(version, inode) {
+            if kept <= count {
+                self.counts.pop_last();
+                return;
+            }
+            let Some(last) = self.counts.last_entry() else {
+                unreachable!()
+            };
+            *last.into_mut() -= count;
+            return;
+        }
+        let Some(kept) = self.counts.get_mut(&(Reverse(version), inode)) else {
             return;
         };
         if count < *kept {
             *kept -= count;
             return;
         }
-        self.counts.remove(&(version, inode));
+        self.counts.remove(&(Reverse(version), inode));
+    }
+
+    /// The marks of a version in an inode where these are the last key.
+    fn at_last(&self, version: u32, inode: u32) -> Option<u32>
+        ensures last { IfSome result (λ c. slice_get self.now (length self.now - 1)
+            ≡ Some (mark_key version inode, c)) }
+        ensures value { IfSome result (λ c. mark_of self.now version inode ≡ c) }
+    {
+        let Some((key, count)) = self.counts.last_key_value() else {
+            return None;
+        };
+        if key.0.0 == version && key.1 == inode {
+            Some(*count)
+        } else {
+            None
+        }
     }
 
     /// The smallest inode where the version has marks.
@@ -85,25 +118,36 @@ impl Marks {
         ensures least { IfSome result (λ i. (j : ℕ) → 0 < mark_of self.now version j → i ≤ j) }
         ensures none { IfNone result ((j : ℕ) → mark_of self.now version j ≡ 0) }
     {
-        let mut rest = self.counts.range((version, 0)..);
+        let mut rest = self.counts.range((Reverse(version), 0)..);
         let Some((key, _)) = rest.next() else {
             return None;
         };
-        if key.0 == version { Some(key.1) } else { None }
+        if key.0.0 == version {
+            Some(key.1)
+        } else {
+            None
+        }
     }
 
-    /// The least version from `first` on that has marks, and the least inode where it has them.
+    /// The least version from `first` on that has marks, and an inode where it has them.
     pub(crate) fn next(&self, first: u32) -> Option<(u32, u32)>
         ensures some { IfSome result (λ p. (first ≤ p.0) × (0 < mark_of self.now p.0 p.1)) }
         ensures least { IfSome result
             (λ p. (w i : ℕ) → first ≤ w → w < p.0 → mark_of self.now w i ≡ 0) }
         ensures none { IfNone result ((v i : ℕ) → first ≤ v → mark_of self.now v i ≡ 0) }
     {
-        let mut rest = self.counts.range((first, 0)..);
-        let Some((key, _)) = rest.next() else {
+        // A log asks from its oldest record on, and there the last key answers without a search.
+        let Some((key, _)) = self.counts.last_key_value() else {
             return None;
         };
-        Some(*key)
+        if first <= key.0.0 {
+            return Some((key.0.0, key.1));
+        }
+        let mut rest = self.counts.range(..(Reverse(first - 1), 0));
+        let Some((key, _)) = rest.next_back() else {
+            return None;
+        };
+        Some((key.0.0, key.1))
     }
 
     /// The least version from `first` to `last`, both included, that has marks.
@@ -114,11 +158,10 @@ impl Marks {
             (λ v. (w i : ℕ) → first ≤ w → w < v → mark_of self.now w i ≡ 0) }
         ensures none { IfNone result ((v i : ℕ) → first ≤ v → v ≤ last → mark_of self.now v i ≡ 0) }
     {
-        let mut rest = self.counts.range((first, 0)..);
-        let Some((key, _)) = rest.next() else {
+        let Some((version, _)) = self.next(first) else {
             return None;
         };
-        if key.0 <= last { Some(key.0) } else { None }
+        if version <= last { Some(version) } else { None }
     }
 
     /// Whether a version of that range, with both its ends, has marks.
@@ -137,8 +180,8 @@ impl Marks {
         ensures kept { AreKept self.now }
     {
         let mut total = 0u32;
-        for (key, count) in self.counts.range((version, 0)..) {
-            if key.0 != version {
+        for (key, count) in self.counts.range((Reverse(version), 0)..) {
+            if key.0.0 != version {
                 break;
             }
             total = total.saturating_add(*count);

@@ -1,6 +1,7 @@
 //! The tree.
 
-ghost use Rattle.std.specs.Prelude.{◌≡◌, ◌+◌, ◌≤◌, ℕ, ◌∷◌, [], List, true, false, Some, None, IsSome, IsTrue};
+ghost use Rattle.std.specs.Prelude.{◌≡◌, ◌+◌, ◌≤◌, ℕ, ◌∷◌, [], List};
+ghost use Rattle.std.specs.Prelude.{true, false, Some, None, IsSome, IsTrue};
 ghost use Rattle.std.specs.Prelude.{OnOk, OnErr, IfErr, is_some, option_map, option_copied};
 ghost use Rattle.jffs_node.specs.declared.node.Node.{Node};
 ghost use Rattle.jffs_node.specs.Record.{file_max, is_lawful};

@@ -83,11 +83,7 @@ fn all(hands: Hands<RingHand>) -> Result<Vec<RingHand>, AllocError>
 /// one line, and no end of it is missing.
 ///
 /// `Memory` alone, if allocation failed: the ends are then gone, with what waited.
-pub fn settle(
-    alloc: Global,
-    hands: Hands<RingHand>,
-    taker: RingTaker,
-) -> Result<Settled, SettleFault>
+fn settle(alloc: Global, hands: Hands<RingHand>, taker: RingTaker) -> Result<Settled, SettleFault>
     requires ends { rings_ends taker ≡ map ring_hand_end (all_hands hands) }
     ensures { IfOk result (λ s. IsSettled (λ h. h.number) ring_accepted (all_hands hands)
         (rings_taken taker) s.waiting.items) }

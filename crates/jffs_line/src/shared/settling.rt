@@ -58,7 +58,7 @@ fn drain<R: Wait>(
 /// one line, and no end of it is missing.
 ///
 /// `Memory` alone, if allocation failed: the ends are then gone, with what waited.
-pub fn settle<R: Wait>(
+fn settle<R: Wait>(
     rt: &R,
     alloc: Global,
     hands: Hands<SharedHand>,

@@ -1,5 +1,6 @@
 use Rattle.std.proofs.Common.{◌≡◌, ℕ, ◌+◌, ◌<◌, List, [], ◌∷◌, ◌++◌, length, sym, ap, subst, ◌∙◌, arith, length-append}
 use Rattle.std.specs.Option.{option_copied}
+use Rattle.jffs_node.specs.declared.path.TheConstants.{PATH_DEPTH_MAX}
 use Rattle.jffs_node.specs.Path.{IsPath, pieces_of, answer_after}
 use Rattle.jffs_node.proofs.Pieces.{answer_name, named_read, path_more}
 use Rattle.jffs_node.proofs.path.Path.parse.Goals as goal
@@ -13,7 +14,7 @@ loop-left-preserved-else-is_err c =
     let read = named_read piece _ c.in_ok-name.ensures in
     let items : c.push_reserved.new.self.items ≡ names ++ piece ∷ [] =
     c.push_reserved.ensures.items ∙ ap (λ (ns : List (List ℕ)). ns ++ c.in_ok-name.name ∷ []) c.reserve_exact.ensures.items ∙ ap (λ (n : List ℕ). names ++ n ∷ []) read.1 in
-    let short : length names < 8 = omega (arith, c.len.ensures, c.if-len-lt-PATH_DEPTH_MAX.true, c.loop-left.names.ok) in
+    let short : length names < PATH_DEPTH_MAX = omega (arith, c.len.ensures, c.if-len-lt-PATH_DEPTH_MAX.true, c.loop-left.names.ok) in
     let longer : length c.push_reserved.new.self.items ≡ length names + 1 = ap length items ∙ length-append names (piece ∷ []) in
     record {
       same =

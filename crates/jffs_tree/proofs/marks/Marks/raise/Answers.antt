@@ -3,7 +3,7 @@ use Rattle.std.specs.Option.{unwrap_or}
 use Rattle.std.specs.Map.{lookup}
 use Rattle.std.specs.BTreeMap.{is_at}
 use Rattle.std.proofs.lemmas.Option.{same_Some}
-use Rattle.jffs_tree.specs.Marks.{Counts, HaveMore, mark_cmp, mark_of}
+use Rattle.jffs_tree.specs.Marks.{Counts, HaveMore, MarkKey, mark_key, mark_cmp, mark_of}
 use Rattle.jffs_tree.proofs.Marking.{added, here, still_kept}
 use Rattle.jffs_tree.proofs.marks.Marks.raise.Goals as goal
 
@@ -27,10 +27,10 @@ later : {A : Type 0} (b : Bool) (x y z : A) → cond b x (cond b y z) ≡ cond b
 later true x y z = refl
 later false x y z = refl
 
-updated : (c : goal.After-self-2-1) (q : ℕ × ℕ) → lookup (is_at (mark_cmp q)) (c.get_mut.follows.lender (c.in-Some-get_mut.kept.now + c.in-Some.before)).entries
-    ≡ cond (is_at (mark_cmp (c.args.version, c.args.inode)) q) (Some (c.in-Some-get_mut.kept.now + c.in-Some.before)) (lookup (is_at (mark_cmp q)) c.self.inside.counts.entries)
+updated : (c : goal.After-self-2-1) (q : MarkKey) → lookup (is_at (mark_cmp q)) (c.get_mut.follows.lender (c.in-Some-get_mut.kept.now + c.in-Some.before)).entries
+    ≡ cond (is_at (mark_cmp (mark_key c.args.version c.args.inode)) q) (Some (c.in-Some-get_mut.kept.now + c.in-Some.before)) (lookup (is_at (mark_cmp q)) c.self.inside.counts.entries)
 updated c q =
-    let at = is_at (mark_cmp (c.args.version, c.args.inode)) q in
+    let at = is_at (mark_cmp (mark_key c.args.version c.args.inode)) q in
     let all = Some (c.in-Some-get_mut.kept.now + c.in-Some.before) in
     ((c.get_mut.follows.holds (c.in-Some-get_mut.kept.now + c.in-Some.before)).3 (ap is_some (sym c.in-Some-get_mut.ensures.value))).0 q
     ∙ ap (λ o. cond at all o) (c.in_ok-before.ensures.updates.0 q)

@@ -1,5 +1,5 @@
 -- Names differ where no key of the index is of the same name and directory as the one before it.
-use Rattle.std.proofs.Common.{◌≡◌, ℕ, ◌<◌, Bool, true, false, not, ◌&&◌, ◌||◌, eqb, T, List, [], ◌∷◌, option_map, IfSome, Option, Some, None, refl, sym, ap, subst, ◌∙◌, ⊎_elim, arith, nat_cmp, is_eq, is_lt, is_gt}
+use Rattle.std.proofs.Common.{◌≡◌, ℕ, ◌<◌, true, false, not, ◌&&◌, ◌||◌, eqb, T, List, [], ◌∷◌, option_map, IfSome, Option, Some, None, refl, sym, ap, subst, ◌∙◌, ⊎_elim, arith, nat_cmp, is_eq, is_lt, is_gt}
 use Rattle.std.specs.List.{AllByRecursion}
 use Rattle.std.specs.List.Sorted.{IsStrictlySortedBy}
 use Rattle.std.specs.Option.{option_map_or}

@@ -9,8 +9,9 @@ use Rattle.jffs_node.proofs.Each.{each_append}
 use Rattle.jffs_tree.specs.declared.fragment.Fragment.{Fragment}
 use Rattle.jffs_tree.specs.After.{padded_with, spliced_with, sized_with}
 use Rattle.jffs_tree.specs.Fragments.{Fragments, Cell, end_of, laid, AreLaid, AreCut, FitsFile, IsFileAfter, SameCells, before, from, outside, overwritten, fragment_of}
-use Rattle.jffs_tree.proofs.Fragments.{laid_from_earlier, are_laid_append, laid_append, length-laid, none_from, parted, front_cells, back_cells}
+use Rattle.jffs_tree.proofs.Fragments.{laid_from_earlier, are_laid_append, laid_append, length-laid, all_before, none_from, parted, front_cells, back_cells}
 use Rattle.jffs_tree.proofs.Overwriting.{outside_parts}
+use Rattle.jffs_tree.proofs.Splitting.{cut_past}
 
 abbrev pub node_cells : Node → List Cell
 node_cells n = map (λ b. Some (b, n.version)) n.bytes
@@ -127,16 +128,17 @@ cut_overwritten s end n es h l =
     by_test true = tt
     by_test false = (inl l, tt)
 
--- Cut or grown to a stated size.
+-- Cut or grown to a stated size: what is left stands before it.
+kept_before : (s size : ℕ) (es : Fragments) → AreLaid 0 size es → size ≤ file_max → s ≤ file_max → outside s file_max es ≡ before s es
+kept_before s size es h small low = outside_parts 0 size s file_max es h low ∙ ap (λ x. before s es ++ x) (none_from 0 size file_max es h small) ∙ append-nil (before s es)
+
 pub sized_laid : (s size : ℕ) (es : Fragments) → AreLaid 0 size es → size ≤ file_max → s ≤ file_max → AreCut s es → AreLaid 0 s (outside s file_max es)
 sized_laid s size es h small low cut =
-    let gone : outside s file_max es ≡ before s es = outside_parts 0 size s file_max es h low ∙ ap (λ x. before s es ++ x) (none_from 0 size file_max es h small) ∙ append-nil (before s es) in
-    subst (AreLaid 0 s) (sym gone) (parted 0 s size es h cut (omega arith)).front
+    subst (AreLaid 0 s) (sym (kept_before s size es h small low)) (parted 0 s size es h cut (omega arith)).front
 
 pub sized_cells : (s size : ℕ) (es : Fragments) → AreLaid 0 size es → size ≤ file_max → s ≤ file_max → AreCut s es → laid 0 s (outside s file_max es) ≡ sized_with None (Some s) (laid 0 size es)
 sized_cells s size es h small low cut =
-    let gone : outside s file_max es ≡ before s es = outside_parts 0 size s file_max es h low ∙ ap (λ x. before s es ++ x) (none_from 0 size file_max es h small) ∙ append-nil (before s es) in
-    ap (laid 0 s) gone ∙ sym (front_cells size s es h cut)
+    ap (laid 0 s) (kept_before s size es h small low) ∙ sym (front_cells size s es h cut)
 
 -- ---- the whole write, in its steps
 pub record Spliced (n : Node) (size : ℕ) (es : Fragments) (after : ℕ) (now : Fragments) : Type 0 where
@@ -175,12 +177,12 @@ abbrev pub Ends : Node → ℕ → ℕ → Type 0
 Ends n amount end = ((amount ≢ n.rsize) × (end ≡ file_max)) ⊎ ((amount ≡ n.rsize) × (end ≡ n.offset + amount))
 
 pub spliced_either : (n : Node) (size amount end : ℕ) (es now : Fragments) → amount ≡ dsize n → Ends n amount end → AreLaid 0 size es → FitsFile n size → AreCut n.offset es → AreCut end es → now ≡ overwritten end n es
-    → (after : ℕ) × Spliced n size es after now
+    → (after : ℕ) × Spliced n size es after now × (after ≤ max (n.offset + dsize n) size)
 spliced_either n size amount end es now long ends h fits cut cut_end is = ⊎_elim
-    (λ moves. (n.offset + dsize n, spliced_moving n size es now h fits cut (λ same. moves.0 (long ∙ same)) (is ∙ ap (λ k. overwritten k n es) moves.1)))
+    (λ moves. (n.offset + dsize n, spliced_moving n size es now h fits cut (λ same. moves.0 (long ∙ same)) (is ∙ ap (λ k. overwritten k n es) moves.1), omega arith))
     (λ stays.
     let at : end ≡ n.offset + dsize n = stays.1 ∙ ap (λ k. n.offset + k) long in
-    (max (n.offset + dsize n) size, spliced_staying n size es now h fits cut (subst (λ k. AreCut k es) at cut_end) (sym long ∙ stays.0) (is ∙ ap (λ k. overwritten k n es) at)))
+    (max (n.offset + dsize n) size, spliced_staying n size es now h fits cut (subst (λ k. AreCut k es) at cut_end) (sym long ∙ stays.0) (is ∙ ap (λ k. overwritten k n es) at), omega arith))
     ends
 
 pub spliced_moved : (n : Node) (size amount end : ℕ) (es now : Fragments) → amount ≡ dsize n → Ends n amount end → amount ≢ n.rsize → AreLaid 0 size es → FitsFile n size → AreCut n.offset es → now ≡ overwritten end n es
@@ -219,3 +221,9 @@ file_stated n size after stated was cut now last same h s some low at is = recor
       ∙ ap (sized_with None (Some stated)) (s.cells ∙ ap (spliced_with None n.offset n.rsize (node_cells n)) (same.cells size h))
       ∙ ap (λ (o : Option ℕ). sized_with None o (spliced_with None n.offset n.rsize (node_cells n) (laid 0 size was))) (sym some);
 }
+
+-- A stated size that the file doesn't exceed takes nothing out.
+pub file_within : (n : Node) (size after stated : ℕ) (was cut now : Fragments) → SameCells was cut → AreLaid 0 size was → Spliced n size cut after now → n.size ≡ Some stated → stated ≤ file_max → after ≤ stated
+    → IsFileAfter n size was stated now
+file_within n size after stated was cut now same h s some low long =
+    file_stated n size after stated was cut now now same h s some low (cut_past 0 after stated now s.ordered long) (sym (kept_before stated after now s.ordered s.small low ∙ all_before 0 after stated now s.ordered long))

@@ -9,7 +9,7 @@ use Rattle.jffs_node.specs.declared.node.Node.{Node}
 use Rattle.jffs_node.specs.Record.{dsize}
 use Rattle.jffs_tree.specs.Origin.{Held, Tree}
 use Rattle.jffs_tree.specs.After.{held_in, padded_with, sized_with, writers_after}
-use Rattle.jffs_tree.specs.Marks.{Counts, mark_of, SameMarks, bytes_by, brought_by, bytes_by_in, MovesMarks, MovesMarksIn}
+use Rattle.jffs_tree.specs.Marks.{Counts, SameMarks, bytes_by, brought_by, bytes_by_in, MovesMarks, MovesMarksIn}
 use Rattle.jffs_tree.proofs.Marking.{turned}
 use Rattle.jffs_tree.proofs.Marked.{under}
 

@@ -8,6 +8,7 @@ pub mod Rules
 mod Offsets
 pub mod Grown
 pub mod Maps
+pub mod InOrder
 pub mod Marking
 pub mod Marked
 pub mod Totals

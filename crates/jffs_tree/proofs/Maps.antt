@@ -16,9 +16,6 @@ pub found_by : {K X : Type 0} (R : K → K → Ordering) (q : K) (es : List (K �
 found_by R q [] = refl
 found_by R q (e ∷ es) = ap (λ o. cond (is_at (R q) e.0) (Some e.1) o) (found_by R q es)
 
-pub found_get : {X : Type 0} (q : ℕ) (es : List (ℕ × X)) → lookup (is_at (nat_cmp q)) es ≡ entries.find nat_cmp q es
-found_get q es = found_by nat_cmp q es
-
 pub t_true : (b : Bool) → T b → b ≡ true
 t_true true h = refl
 t_true false h = absurd h
@@ -48,9 +45,6 @@ module _ {K X : Type 0} (R : K → K → Ordering) where
   sorted_by (e ∷ es) h = both (entries.below_all R e.0 es) (entries.is_sorted R es) (below e.0 es h.0) (sorted_by es h.1)
 
 module _ {X : Type 0} where
-  pub sorted_map : (es : List (ℕ × X)) → IsStrictlySortedBy nat_cmp (map (λ e. e.0) es) → T (entries.is_sorted nat_cmp es)
-  sorted_map es h = sorted_by nat_cmp es h
-
   -- The first entry of a sorted map, and those after it.
   pub tail_sorted : (e : ℕ × X) (es : List (ℕ × X)) → T (entries.is_sorted nat_cmp (e ∷ es)) → T (entries.is_sorted nat_cmp es)
   tail_sorted e es h = subst T (sym (and_parts (entries.below_all nat_cmp e.0 es) (entries.is_sorted nat_cmp es) (t_true _ h)).1) tt

@@ -1,5 +1,5 @@
 -- Paths are short where each inode's directory is near enough.
-use Rattle.std.proofs.Common.{◌≡◌, false, ℕ, ◌&&◌, ◌||◌, eqb, T, [], ◌∷◌, Some, refl, sym, ap, subst, nat_cmp}
+use Rattle.std.proofs.Common.{◌≡◌, false, ℕ, ◌&&◌, ◌||◌, eqb, T, [], ◌∷◌, Some, refl, sym, ap, nat_cmp}
 use Rattle.std.specs.List.{AllByRecursion, list_all}
 use Rattle.std.specs.Option.{option_map_or}
 use Rattle.std.specs.FinMap.Entries as entries

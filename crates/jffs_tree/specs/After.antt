@@ -1,6 +1,6 @@
 -- What one more node makes of a tree.
 use Rattle.std.specs.Prelude.{◌≡◌, ◌≢◌, ◌≤◌, ℕ, Bool, IsTrue, true, not, ◌&&◌, ◌||◌, ◌==◌, nat_le}
-use Rattle.std.specs.Prelude.{◌+◌, ◌-◌, List, [], ◌++◌, length, take, drop, replicate, Option, Some}
+use Rattle.std.specs.Prelude.{◌+◌, ◌-◌, List, [], ◌∷◌, ◌++◌, length, take, drop, replicate, Option, Some}
 use Rattle.std.specs.Prelude.{None, IfSome, option_map, unwrap_or, is_some, if◌then◌else◌}
 use Rattle.std.specs.FinMap.Entries as entries
 use Rattle.std.specs.Ordering.{nat_cmp}
@@ -40,13 +40,26 @@ held_after n old = record {
   states_size = is_some n.size;
 }
 
+-- the tree with an inode put in, over one that has its number
+abbrev pub with_inode : Tree → ℕ → Held → Tree
+with_inode tree i h = entries.put nat_cmp i h tree
+
+-- The inodes stand in the order of their numbers.
+abbrev pub AreOrdered : Tree → Type 0
+AreOrdered tree = IsTrue (entries.is_sorted nat_cmp tree)
+
+-- the tree of inodes that stand in any order; of two with one number the first
+abbrev pub in_order : List (ℕ × Held) → Tree
+in_order [] = []
+in_order (e ∷ es) = with_inode (in_order es) e.0 e.1
+
 -- the tree without an inode
 abbrev pub without_inode : Tree → ℕ → Tree
 without_inode tree i = entries.where_key nat_cmp (λ j. not (i == j)) tree
 
 -- the tree with a node written over its inode, present or not
 abbrev pub put_node : Tree → Node → Tree
-put_node tree n = entries.put nat_cmp n.inode (held_after n (held_in tree n.inode)) tree
+put_node tree n = with_inode tree n.inode (held_after n (held_in tree n.inode))
 
 -- the tree after the node
 abbrev pub tree_after : Tree → Node → Tree
@@ -71,7 +84,7 @@ can_apply tree n = is_lawful n && keeps_kind_in tree n && keeps_offsets_in tree 
 
 -- The inodes stand in order, the node's is as the node makes it, and each other is as it was.
 pub record IsWritten (old new : Tree) (n : Node) : Type 0 where
-  pub ordered : IsTrue (entries.is_sorted nat_cmp new)
+  pub ordered : AreOrdered new
   pub found : (i : ℕ) → held_in new i
       ≡ (if n.inode == i then Some (held_after n (held_in old i)) else held_in old i)
 

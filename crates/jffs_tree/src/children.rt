@@ -72,6 +72,13 @@ pub(crate) fn names_of(
     Ok(names)
 }
 
+/// The same keys once more.
+pub(crate) fn copy_keys(children: &BTreeSet<ChildKey>) -> Result<BTreeSet<ChildKey>, AllocError>
+    ensures { IfOk result (λ copy. copy.keys ≡ children.now.keys) }
+{
+    children.clone()
+}
+
 /// Whether no key is of the same name and directory as the one before it. Keys stand in order, so
 /// no two are then.
 pub(crate) fn are_apart(children: &BTreeSet<ChildKey>) -> bool

@@ -2,6 +2,7 @@
 
 ghost use Rattle.std.specs.Prelude.{◌≡◌, IfOk};
 
+use crate::children::copy_keys;
 use crate::tree::Tree;
 use jffs_node::NoMemory;
 
@@ -15,7 +16,7 @@ impl Tree {
         Ok(Tree {
             alloc: self.alloc,
             inodes: self.inodes.clone()?,
-            children: self.children.clone()?,
+            children: copy_keys(&self.children)?,
             marks: self.marks.clone()?,
         })
     }

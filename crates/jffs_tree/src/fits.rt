@@ -26,7 +26,7 @@ impl Tree {
         if node.deleted {
             return true;
         }
-        match self.find(node.inode) {
+        match self.inode(node.inode) {
             Some(found) => found.kind == node.kind,
             None => true,
         }

@@ -48,14 +48,18 @@ impl Fragment {
     }
 }
 
-/// The first offset of the fragment that reaches across an offset.
-fn across(fragments: &Fragments, at: u32) -> Option<u32>
-    requires laid { AreLaid 0 file_max fragments.now.entries }
+/// The first offset of the fragment that reaches across an offset, in a file of a size. At the
+/// file's first byte and at its end there is none, without a search.
+fn across(fragments: &Fragments, size: u32, at: u32) -> Option<u32>
+    requires laid { AreLaid 0 size fragments.now.entries × (size ≤ file_max) }
     ensures there { IfSome result
         (λ first. (f : Fragment) × (get nat_cmp fragments.now first ≡ Some f) × (first < at)
         × (at < end_of (first, f))) }
     ensures none { IfNone result (AreCut at fragments.now.entries) }
 {
+    if at == 0 || size <= at {
+        return None;
+    }
     let mut earlier = fragments.range(..at);
     let Some((first, fragment)) = earlier.next_back() else {
         return None;
@@ -67,15 +71,15 @@ fn across(fragments: &Fragments, at: u32) -> Option<u32>
     }
 }
 
-/// Cuts the fragment that reaches across an offset in two there. Where an allocation failed,
-/// nothing is cut.
-pub(crate) fn split_at(fragments: &mut Fragments, at: u32) -> Result<(), AllocError>
-    requires laid { AreLaid 0 file_max fragments.old.entries }
+/// Cuts the fragment that reaches across an offset in two there, in a file of a size. Where an
+/// allocation failed, nothing is cut.
+pub(crate) fn split_at(fragments: &mut Fragments, size: u32, at: u32) -> Result<(), AllocError>
+    requires laid { AreLaid 0 size fragments.old.entries × (size ≤ file_max) }
     ensures ok { OnOk result (SameCells fragments.old.entries fragments.new.entries) }
     ensures cut { OnOk result (AreCut at fragments.new.entries) }
     ensures err { OnErr result (fragments.new.entries ≡ fragments.old.entries) }
 {
-    let Some(first) = across(fragments, at) else {
+    let Some(first) = across(fragments, size, at) else {
         return Ok(());
     };
     let Some(whole) = fragments.get(&first) else {
@@ -130,13 +134,14 @@ pub(crate) fn write_over(
     let reached = node.offset + amount;
     let moves = amount != node.rsize;
     let end = if moves { FILE_MAX } else { reached };
-    make_cuts(fragments, node, end)?;
+    make_cuts(fragments, size, node, end)?;
     overwrite(fragments, node, end, marks)?;
     match node.size {
-        Some(stated) => {
+        Some(stated) if stated < size => {
             take_out(fragments, stated, FILE_MAX, node.inode, marks);
             Ok(stated)
         }
+        Some(stated) => Ok(stated),
         None if moves => Ok(reached),
         None => Ok(reached.max(size)),
     }
@@ -172,19 +177,25 @@ fn append(
     Ok(node.size.unwrap_or(node.offset + node.bytes.len() as u32))
 }
 
-/// Cuts the fragments at both ends of what a node writes and at the size that it states, so that
-/// only whole ones are to be taken out. Where an allocation failed, the file reads as before.
-pub(crate) fn make_cuts(fragments: &mut Fragments, node: &Node, end: u32) -> Result<(), AllocError>
-    requires laid { AreLaid 0 file_max fragments.old.entries }
+/// Cuts the fragments of a file of a size at both ends of what a node writes and at the size that
+/// it states, so that only whole ones are to be taken out. Where an allocation failed, the file
+/// reads as before.
+pub(crate) fn make_cuts(
+    fragments: &mut Fragments,
+    size: u32,
+    node: &Node,
+    end: u32,
+) -> Result<(), AllocError>
+    requires laid { AreLaid 0 size fragments.old.entries × (size ≤ file_max) }
     ensures same { SameCells fragments.old.entries fragments.new.entries }
     ensures offset { OnOk result (AreCut node.now.offset fragments.new.entries) }
     ensures end { OnOk result (AreCut end fragments.new.entries) }
     ensures size { OnOk result (IfSome node.now.size (λ s. AreCut s fragments.new.entries)) }
 {
-    split_at(fragments, node.offset)?;
-    split_at(fragments, end)?;
-    if let Some(size) = node.size {
-        split_at(fragments, size)?;
+    split_at(fragments, size, node.offset)?;
+    split_at(fragments, size, end)?;
+    if let Some(stated) = node.size {
+        split_at(fragments, size, stated)?;
     }
     Ok(())
 }

@@ -17,6 +17,7 @@ mod deciding;
 mod fits;
 mod fragment;
 mod inode;
+mod inodes;
 mod laws;
 mod look;
 mod marks;

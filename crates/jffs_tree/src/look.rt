@@ -13,7 +13,7 @@ ghost use Rattle.jffs_tree.specs.Look.{holds_version, marks_in, any_live_in, IsV
 
 use crate::children::first_named;
 use crate::inode::Inode;
-use crate::tree::{Tree, find_inode};
+use crate::tree::Tree;
 use jffs_node::{Kind, Name, Path};
 
 pub(crate) const ROOT: u32 = 1;
@@ -22,14 +22,7 @@ impl Tree {
     pub(crate) fn inode(&self, inode: u32) -> Option<&Inode>
         ensures { option_copied result ≡ held_in self.now inode }
     {
-        self.inodes.get(&inode)
-    }
-
-    /// As `inode`, and quick where the inode's number is above all others.
-    pub(crate) fn find(&self, inode: u32) -> Option<&Inode>
-        ensures { option_copied result ≡ held_in self.now inode }
-    {
-        find_inode(&self.inodes, inode)
+        self.inodes.get(inode)
     }
 
     /// What the inode is; `None` if it isn't present.

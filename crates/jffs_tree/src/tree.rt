@@ -14,11 +14,12 @@ ghost use Rattle.jffs_tree.specs.Marks.{held_marks};
 
 use crate::children::{ChildKey, bears};
 use crate::inode::Inode;
+use crate::inodes::Inodes;
 use crate::marks::Marks;
 use crate::wish::Cause;
 use jffs_node::{Name, Node};
 use std::alloc::{AllocError, Global};
-use std::collections::{BTreeMap, BTreeSet};
+use std::collections::BTreeSet;
 use std::marker::Model;
 
 /// The tree that nodes make: its inodes, for each where it stands, so that a name is found
@@ -26,7 +27,7 @@ use std::marker::Model;
 #[derive(Drop)]
 pub struct Tree {
     pub(crate) alloc: Global,
-    pub(crate) inodes: BTreeMap<u32, Inode>,
+    pub(crate) inodes: Inodes,
     pub(crate) children: BTreeSet<ChildKey>,
     pub(crate) marks: Marks,
 }
@@ -39,7 +40,7 @@ impl Model for Tree {
 
     ghost use Rattle.jffs_tree.specs.Indexed.{IsIndexed};
 
-    ghost view = { λ t. t.inodes.entries };
+    ghost view = { λ t. t.inodes };
 
     ghost invariant = { IsIndexed };
 }
@@ -51,7 +52,7 @@ impl Tree {
     {
         Tree {
             alloc,
-            inodes: BTreeMap::new(alloc),
+            inodes: Inodes::new(alloc),
             children: BTreeSet::new(alloc),
             marks: Marks::new(alloc),
         }
@@ -86,7 +87,7 @@ impl Tree {
     fn remove(&mut self, inode: u32)
         ensures { self.new ≡ without_inode self.old inode }
     {
-        if let Some(old) = self.inodes.remove(&inode) {
+        if let Some(old) = self.inodes.remove(inode) {
             self.children.remove(&(old.parent, Some(old.name), inode));
             old.release(inode, &mut self.marks);
             self.marks.lower(old.newest, inode, 1);
@@ -103,7 +104,7 @@ impl Tree {
         ensures err { OnErr result (self.new ≡ self.old) }
     {
         let place = self
-            .find(node.inode)
+            .inode(node.inode)
             .map(|found| (found.parent, found.name));
         if is_place(&place, node.parent, &name) {
             self.write_here(node, name)
@@ -178,17 +179,17 @@ fn is_place(place: &Option<(u32, Name)>, parent: u32, name: &Name) -> bool
 /// node brings are added first, so that lowering is all that is left after the write.
 fn write_marked(
     alloc: Global,
-    inodes: &mut BTreeMap<u32, Inode>,
+    inodes: &mut Inodes,
     marks: &mut Marks,
     node: &Node,
     name: Name,
 ) -> Result<(), AllocError>
-    requires writable { IsWritable inodes.old.entries node.now name }
-    requires marked { AreMarksOf inodes.old.entries marks.old }
-    ensures ok { OnOk result (IsWritten inodes.old.entries inodes.new.entries node.now) }
-    ensures marks { OnOk result (AreMarksOf inodes.new.entries marks.new) }
+    requires writable { IsWritable inodes.old node.now name }
+    requires marked { AreMarksOf inodes.old marks.old }
+    ensures ok { OnOk result (IsWritten inodes.old inodes.new node.now) }
+    ensures marks { OnOk result (AreMarksOf inodes.new marks.new) }
     ensures err { OnErr result
-        ((inodes.new.entries ≡ inodes.old.entries) × SameMarks marks.old marks.new) }
+        ((inodes.new ≡ inodes.old) × SameMarks marks.old marks.new) }
 {
     let left = newest_of(inodes, node.inode);
     let brought = node.bytes.as_slice().len() as u32 + 1;
@@ -205,59 +206,37 @@ fn write_marked(
 
 /// The newest version of an inode in a map. No version has more marks there than a file has
 /// bytes, and that one.
-fn newest_of(inodes: &BTreeMap<u32, Inode>, inode: u32) -> Option<u32>
+fn newest_of(inodes: &Inodes, inode: u32) -> Option<u32>
     ensures held { option_map (λ v. Some v) result
-        ≡ option_map (λ h. h.newest) (held_in inodes.now.entries inode) }
-    ensures few { (v : ℕ) → held_marks inodes.now.entries v inode ≤ file_max + 1 }
+        ≡ option_map (λ h. h.newest) (held_in inodes.now inode) }
+    ensures few { (v : ℕ) → held_marks inodes.now v inode ≤ file_max + 1 }
 {
-    match find_inode(inodes, inode) {
+    match inodes.get(inode) {
         Some(found) => Some(found.newest),
         None => None,
-    }
-}
-
-/// What a map has of an inode. A new inode has a number above all others, and is found to be absent
-/// by a look at the last one.
-pub(crate) fn find_inode(inodes: &BTreeMap<u32, Inode>, inode: u32) -> Option<&Inode>
-    ensures { option_copied result ≡ held_in inodes.now.entries inode }
-{
-    if is_above_all(inodes, inode) {
-        None
-    } else {
-        inodes.get(&inode)
-    }
-}
-
-/// Whether an inode's number is above all those of a map.
-fn is_above_all(inodes: &BTreeMap<u32, Inode>, inode: u32) -> bool
-    ensures { result ≡ true → held_in inodes.now.entries inode ≡ None }
-{
-    match inodes.last_key_value() {
-        Some((last, _)) => *last < inode,
-        None => false,
     }
 }
 
 /// Writes a node over its inode in a map, present or not, and moves the marks of its bytes.
 fn write_inode(
     alloc: Global,
-    inodes: &mut BTreeMap<u32, Inode>,
+    inodes: &mut Inodes,
     marks: &mut Marks,
     node: &Node,
     name: Name,
     is_present: bool,
 ) -> Result<(), AllocError>
-    requires present { is_present ≡ is_some (held_in inodes.old.entries node.now.inode) }
-    requires writable { IsWritable inodes.old.entries node.now name }
-    requires marked { HasMarksIn marks.old node.now inodes.old.entries }
-    ensures ok { OnOk result (IsWritten inodes.old.entries inodes.new.entries node.now) }
+    requires present { is_present ≡ is_some (held_in inodes.old node.now.inode) }
+    requires writable { IsWritable inodes.old node.now name }
+    requires marked { HasMarksIn marks.old node.now inodes.old }
+    ensures ok { OnOk result (IsWritten inodes.old inodes.new node.now) }
     ensures marks { OnOk result
-        (MovesMarksIn marks.old marks.new node.now inodes.old.entries inodes.new.entries) }
+        (MovesMarksIn marks.old marks.new node.now inodes.old inodes.new) }
     ensures err { OnErr result
-        ((inodes.new.entries ≡ inodes.old.entries) × SameMarks marks.old marks.new) }
+        ((inodes.new ≡ inodes.old) × SameMarks marks.old marks.new) }
 {
     if is_present {
-        write_present(inodes, marks, node, name)
+        inodes.write(node, name, marks)
     } else {
         write_absent(alloc, inodes, marks, node, name)
     }
@@ -266,45 +245,22 @@ fn write_inode(
 /// Writes a node over its inode in a map, where it isn't present, and moves the marks of its bytes.
 fn write_absent(
     alloc: Global,
-    inodes: &mut BTreeMap<u32, Inode>,
+    inodes: &mut Inodes,
     marks: &mut Marks,
     node: &Node,
     name: Name,
 ) -> Result<(), AllocError>
-    requires absent { is_some (held_in inodes.old.entries node.now.inode) ≡ false }
-    requires writable { IsWritable inodes.old.entries node.now name }
-    requires marked { HasMarksIn marks.old node.now inodes.old.entries }
-    ensures ok { OnOk result (IsWritten inodes.old.entries inodes.new.entries node.now) }
+    requires absent { is_some (held_in inodes.old node.now.inode) ≡ false }
+    requires writable { IsWritable inodes.old node.now name }
+    requires marked { HasMarksIn marks.old node.now inodes.old }
+    ensures ok { OnOk result (IsWritten inodes.old inodes.new node.now) }
     ensures marks { OnOk result
-        (MovesMarksIn marks.old marks.new node.now inodes.old.entries inodes.new.entries) }
+        (MovesMarksIn marks.old marks.new node.now inodes.old inodes.new) }
     ensures err { OnErr result
-        ((inodes.new.entries ≡ inodes.old.entries) × SameMarks marks.old marks.new) }
+        ((inodes.new ≡ inodes.old) × SameMarks marks.old marks.new) }
 {
     let mut first = Inode::empty(alloc, node, name);
     first.write(node, name, marks)?;
-    inodes.insert(node.inode, first)?;
-    Ok(())
-}
-
-/// Writes a node over its inode in a map, where it is present, and moves the marks of its bytes.
-fn write_present(
-    inodes: &mut BTreeMap<u32, Inode>,
-    marks: &mut Marks,
-    node: &Node,
-    name: Name,
-) -> Result<(), AllocError>
-    requires present { IsSome (held_in inodes.old.entries node.now.inode) }
-    requires writable { IsWritable inodes.old.entries node.now name }
-    requires marked { HasMarksIn marks.old node.now inodes.old.entries }
-    ensures ok { OnOk result (IsWritten inodes.old.entries inodes.new.entries node.now) }
-    ensures marks { OnOk result
-        (MovesMarksIn marks.old marks.new node.now inodes.old.entries inodes.new.entries) }
-    ensures err { OnErr result
-        ((inodes.new.entries ≡ inodes.old.entries) × SameMarks marks.old marks.new) }
-{
-    let Some(inode) = inodes.get_mut(&node.inode) else {
-        unreachable!()
-    };
-    inode.write(node, name, marks)?;
+    inodes.put(node.inode, first)?;
     Ok(())
 }

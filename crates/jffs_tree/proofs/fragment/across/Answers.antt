@@ -1,7 +1,14 @@
-use Rattle.std.proofs.Common.{◌∙◌, sym, arith}
-use Rattle.jffs_node.specs.Record.{file_max}
-use Rattle.jffs_tree.proofs.Splitting.{last_before, last_fits, cut_by_last, cut_if_all_from, none_begins_before}
+use Rattle.std.proofs.Common.{◌∙◌, ⊎_elim, sym, arith}
+use Rattle.jffs_tree.proofs.Splitting.{last_before, last_fits, cut_by_last, cut_past, all_later, cut_if_all_from, none_begins_before}
 use Rattle.jffs_tree.proofs.fragment.across.Goals as goal
+
+pub returns-then-at-eq0-clause-none : goal.returns-then-at-eq0-clause-none
+returns-then-at-eq0-clause-none c =
+    let es = c.args.fragments.now.entries in
+    ⊎_elim
+    (λ first. cut_if_all_from c.args.at es (all_later 0 c.args.size c.args.at es c.requires.laid.0 (omega arith)))
+    (λ last. cut_past 0 c.args.size c.args.at es c.requires.laid.0 last.1)
+    c.then-at-eq0.either
 
 pub returns-in_default-clause-none : goal.returns-in_default-clause-none
 returns-in_default-clause-none c =
@@ -11,16 +18,16 @@ returns-in_default-clause-none c =
 pub len-requires : goal.len-requires
 len-requires c =
     let l = last_before c.args.at c.args.fragments.now.entries _ c.in-Some.first.now c.in-Some.fragment.now (sym (c.range-earlier.ensures.between tt) ∙ c.in-Some.ensures.steps) in
-    let b = last_fits file_max c.args.at c.in-Some.first.now c.in-Some.fragment.now c.args.fragments.now.entries c.requires.laid l in
+    let b = last_fits c.args.size c.args.at c.in-Some.first.now c.in-Some.fragment.now c.args.fragments.now.entries c.requires.laid.0 l in
     omega arith
 
 pub overflow_add-first : goal.overflow_add-first
 overflow_add-first c =
     let l = last_before c.args.at c.args.fragments.now.entries _ c.in-Some.first.now c.in-Some.fragment.now (sym (c.range-earlier.ensures.between tt) ∙ c.in-Some.ensures.steps) in
-    let b = last_fits file_max c.args.at c.in-Some.first.now c.in-Some.fragment.now c.args.fragments.now.entries c.requires.laid l in
+    let b = last_fits c.args.size c.args.at c.in-Some.first.now c.in-Some.fragment.now c.args.fragments.now.entries c.requires.laid.0 l in
     omega arith
 
 pub returns-else-at-first-clause-none : goal.returns-else-at-first-clause-none
 returns-else-at-first-clause-none c =
     let l = last_before c.args.at c.args.fragments.now.entries _ c.in-Some.first.now c.in-Some.fragment.now (sym (c.range-earlier.ensures.between tt) ∙ c.in-Some.ensures.steps) in
-    cut_by_last file_max c.args.at c.in-Some.first.now c.in-Some.fragment.now c.args.fragments.now.entries c.requires.laid l (omega arith)
+    cut_by_last c.args.size c.args.at c.in-Some.first.now c.in-Some.fragment.now c.args.fragments.now.entries c.requires.laid.0 l (omega arith)

@@ -2,7 +2,6 @@ use Rattle.std.proofs.Common.{◌≡◌, ◌∙◌, ◌<◌, ◌+◌, ◌-◌, �
 use Rattle.std.proofs.lemmas.Option.{same_Some}
 use Rattle.std.specs.Map.{set_value}
 use Rattle.std.specs.BTreeMap.{is_at}
-use Rattle.jffs_node.specs.Record.{file_max}
 use Rattle.jffs_tree.specs.declared.fragment.Fragment.{Fragment}
 use Rattle.jffs_tree.proofs.Splitting.{CutThere, cut_there}
 use Rattle.jffs_tree.proofs.fragment.split_at.Goals as goal
@@ -17,7 +16,7 @@ cut c =
     let right : c.in_ok-rest.rest ≡ drop (c.args.at - c.in-Some.first) whole.bytes = c.in_ok-rest.ensures.rest ∙ ap (λ (x : List ℕ). drop (c.args.at - c.in-Some.first) x) c.in_ok-front.ensures.cases in
     let x : Fragment = record { bytes = c.split_off.new.self; writer = whole.writer } in
     let y : Fragment = record { bytes = c.in_ok-rest.rest; writer = whole.writer } in
-    cut_there file_max c.in-Some.first c.args.at whole c.args.fragments.now.entries (c.get_mut.follows.lender x).entries c.requires.laid (sym c.in-Some-get.ensures.value) there.2 high
+    cut_there c.args.size c.in-Some.first c.args.at whole c.args.fragments.now.entries (c.get_mut.follows.lender x).entries c.requires.laid.0 (sym c.in-Some-get.ensures.value) there.2 high
     x y
     (ap (λ (b : List ℕ). record { bytes = b; writer = whole.writer }) left)
     (ap (λ (b : List ℕ). record { bytes = b; writer = whole.writer }) right)

@@ -1,14 +1,15 @@
-use Rattle.std.proofs.Common.{◌≤◌, ◌+◌, ℕ, max, inl, inr, Option, IfSome, unwrap_or, subst, sym}
+use Rattle.std.proofs.Common.{◌≤◌, ◌+◌, ℕ, max, inl, inr, Option, IfSome, unwrap_or, subst, sym, ◌∙◌, ◌≡◌, arith}
+use Rattle.std.proofs.lemmas.Option.{same_Some}
 use Rattle.jffs_node.specs.Record.{dsize, file_max}
 use Rattle.jffs_tree.specs.Fragments.{AreCut, IsFileAfter}
-use Rattle.jffs_tree.proofs.FileWritten.{Ends, spliced_either, spliced_moved, spliced_stayed, file_plain, file_stated, cut_overwritten}
+use Rattle.jffs_tree.proofs.FileWritten.{Ends, spliced_either, spliced_moved, spliced_stayed, file_plain, file_stated, file_within, cut_overwritten}
 use Rattle.jffs_tree.proofs.Fragments.{are_laid_grown}
 use Rattle.jffs_tree.proofs.Overwriting.{short_from_laid}
 use Rattle.jffs_tree.proofs.fragment.write_over.Goals as goal
 use Rattle.jffs_tree.proofs.fragment.write_over.Goals.{then-moves, else-moves}
 
 pub make_cuts-requires : goal.make_cuts-requires
-make_cuts-requires c = record { laid = are_laid_grown 0 c.args.size file_max c.args.fragments.now.entries c.requires.laid c.requires.fits.small }
+make_cuts-requires c = record { laid = (c.requires.laid, c.requires.fits.small) }
 
 pub overwrite-requires-clause-laid : goal.overwrite-requires-clause-laid
 overwrite-requires-clause-laid c =
@@ -39,6 +40,23 @@ returns-in-Some-clause-ok c =
     let at : AreCut c.in-Some.stated c.overwrite.new.fragments.entries = subst (AreCut c.in-Some.stated) (sym c.in_ok-overwrite.ensures.ok) (cut_overwritten c.in-Some.stated c.if-moves.end c.args.node.now c.make_cuts.new.fragments.entries cut inside) in
     file_stated c.args.node.now c.args.size s.0 c.in-Some.stated c.args.fragments.now.entries c.make_cuts.new.fragments.entries c.overwrite.new.fragments.entries c.take_out.new.fragments.entries
     c.in_ok-make_cuts.ensures.same c.requires.laid s.1 is low at c.take_out.ensures.left
+
+pub returns-in-Some-2-clause-ok : goal.returns-in-Some-2-clause-ok
+returns-in-Some-2-clause-ok c =
+    let ends : Ends c.args.node.now c.len-amount.result c.if-moves.end = elim c.if-moves.branch [
+      | then-moves w ↦ inl (w.if-moves.true, w.end-is)
+      | else-moves w ↦ inr (w.if-moves.false, w.end-is)
+    ] in
+    let s = spliced_either c.args.node.now c.args.size c.len-amount.result c.if-moves.end c.make_cuts.new.fragments.entries c.overwrite.new.fragments.entries c.len-amount.ensures.value ends
+    (c.in_ok-make_cuts.ensures.same.stay c.args.size c.requires.laid) c.requires.fits c.in_ok-make_cuts.ensures.offset c.in_ok-make_cuts.ensures.end c.in_ok-overwrite.ensures.ok in
+    let is = c.in-Some-2.is in
+    let same : c.in-Some-2.stated ≡ c.in-Some.stated = same_Some c.in-Some-2.stated c.in-Some.stated (sym is ∙ c.in-Some.is) in
+    let low : c.in-Some-2.stated ≤ file_max = subst (λ (o : Option ℕ). unwrap_or o 0 ≤ file_max) is c.requires.fits.node.size in
+    let inside : c.args.node.now.offset + dsize c.args.node.now ≤ c.in-Some-2.stated = subst (λ (o : Option ℕ). IfSome o (λ k. c.args.node.now.offset + dsize c.args.node.now ≤ k)) is c.requires.fits.node.inside in
+    let most = s.2 in
+    let long : c.args.size ≤ c.in-Some.stated = c.if-stated-size.false in
+    file_within c.args.node.now c.args.size s.0 c.in-Some-2.stated c.args.fragments.now.entries c.make_cuts.new.fragments.entries c.overwrite.new.fragments.entries
+    c.in_ok-make_cuts.ensures.same c.requires.laid s.1 is low (omega arith)
 
 pub returns-in-None-clause-ok : goal.returns-in-None-clause-ok
 returns-in-None-clause-ok c =

@@ -9,7 +9,7 @@ use Rattle.jffs_tree.proofs.tree.newest_of.Goals as goal
 
 pub returns-in-Some-clause-few : goal.returns-in-Some-clause-few
 returns-in-Some-clause-few c =
-    let tree = c.args.inodes.now.entries in
+    let tree = c.args.inodes.now in
     let cells = laid 0 c.found.inside.size c.found.inside.fragments.entries in
     let small = c.found.invariant.small in
     let long = length-laid 0 c.found.inside.size c.found.inside.fragments.entries c.found.invariant.laid in

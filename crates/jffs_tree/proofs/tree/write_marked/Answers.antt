@@ -13,15 +13,15 @@ raise-requires c =
 
 pub lower-requires-in-Some : goal.lower-requires-in-Some
 lower-requires-in-Some c =
-    has_newest c.args.inodes.now.entries c.args.node.now c.args.marks.now c.raise.new.self c.requires.marked
+    has_newest c.args.inodes.now c.args.node.now c.args.marks.now c.raise.new.self c.requires.marked
     (subst (λ (b : List ℕ). HaveMore c.args.marks.now c.raise.new.self c.args.node.now.version c.args.node.now.inode (length b + 1)) c.as_slice.ensures c.in_ok-raise.ensures.ok)
-    c.write_inode.new.inodes.entries c.write_inode.new.marks c.in_default.ensures.ok c.in_default.ensures.marks c.in-Some.version
+    c.write_inode.new.inodes c.write_inode.new.marks c.in_default.ensures.ok c.in_default.ensures.marks c.in-Some.version
     (sym c.newest_of-left.ensures.held ∙ ap (λ o. option_map (λ v. Some v) o) c.in-Some.is)
 
 pub returns-in-Some-clause-marks : goal.returns-in-Some-clause-marks
 returns-in-Some-clause-marks c =
-    of_old c.args.inodes.now.entries c.args.node.now c.args.marks.now c.raise.new.self c.requires.marked
+    of_old c.args.inodes.now c.args.node.now c.args.marks.now c.raise.new.self c.requires.marked
     (subst (λ (b : List ℕ). HaveMore c.args.marks.now c.raise.new.self c.args.node.now.version c.args.node.now.inode (length b + 1)) c.as_slice.ensures c.in_ok-raise.ensures.ok)
-    c.write_inode.new.inodes.entries c.write_inode.new.marks c.in_default.ensures.ok c.in_default.ensures.marks c.in-Some.version
+    c.write_inode.new.inodes c.write_inode.new.marks c.in_default.ensures.ok c.in_default.ensures.marks c.in-Some.version
     (sym c.newest_of-left.ensures.held ∙ ap (λ o. option_map (λ v. Some v) o) c.in-Some.is)
     c.lower-in-Some.new.self c.lower-in-Some.ensures

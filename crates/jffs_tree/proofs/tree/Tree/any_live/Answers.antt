@@ -6,7 +6,7 @@ use Rattle.jffs_tree.proofs.tree.Tree.any_live.Goals as goal
 
 pub returns-clause-held : goal.returns-clause-held
 returns-clause-held c =
-    any_told c.self.inside.inodes.entries c.self.inside.marks (subst T (sym c.self.invariant.ordered) tt) c.self.invariant.marked c.args.first c.args.last
+    any_told c.self.inside.inodes c.self.inside.marks (subst T (sym c.self.invariant.ordered) tt) c.self.invariant.marked c.args.first c.args.last
     c.any.result c.any.ensures.some c.any.ensures.none
     ∙ ap (λ (t : List (ℕ × Held)). any_live_in t c.args.first c.args.last) c.self.view_is
 

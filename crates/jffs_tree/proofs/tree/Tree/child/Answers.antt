@@ -6,6 +6,6 @@ use Rattle.jffs_tree.proofs.tree.Tree.child.Goals as goal
 
 pub returns : goal.returns
 returns c =
-    child_found c.args.parent c.args.name.now c.self.inside.inodes.entries c.self.inside.children.keys (subst T (sym c.self.invariant.ordered) tt) c.self.invariant.indexed
+    child_found c.args.parent c.args.name.now c.self.inside.inodes c.self.inside.children.keys (subst T (sym c.self.invariant.ordered) tt) c.self.invariant.indexed
     c.first_named.result c.first_named.ensures.there c.first_named.ensures.least c.first_named.ensures.none
     ∙ ap (λ (t : List (ℕ × Held)). child (state_in t) c.args.parent c.args.name.now) c.self.view_is

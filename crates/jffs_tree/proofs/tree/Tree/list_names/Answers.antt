@@ -15,7 +15,7 @@ returns-then-is_directory-clause-all c =
     (λ names. names.items ≡ names_under c.args.inode c.self.inside.children.keys)
     (λ names. IsStrictlySortedBy name_cmp names.items)
     (λ names. IsPermutation (names_in c.args.self.now c.args.inode) names.items)
-    (λ names all rising. lists_directory c.args.inode c.self.inside.inodes.entries c.args.self.now c.self.inside.children.keys names.items c.self.view_is c.self.invariant.ordered
+    (λ names all rising. lists_directory c.args.inode c.self.inside.inodes c.args.self.now c.self.inside.children.keys names.items c.self.view_is c.self.invariant.ordered
     c.self.invariant.indexed is_dir all rising)
     c.names_of.ensures.all
     c.names_of.ensures.rising

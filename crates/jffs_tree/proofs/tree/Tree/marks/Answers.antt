@@ -8,7 +8,7 @@ pub returns-clause-held : goal.returns-clause-held
 returns-clause-held c =
     c.total.ensures.total
     ∙ ap (λ n. min n 4294967295)
-    (marks_counted c.self.inside.inodes.entries c.self.inside.marks (subst T (sym c.self.invariant.ordered) tt) c.total.ensures.kept.ordered c.self.invariant.marked c.args.version
+    (marks_counted c.self.inside.inodes c.self.inside.marks (subst T (sym c.self.invariant.ordered) tt) c.total.ensures.kept.ordered c.self.invariant.marked c.args.version
     ∙ ap (λ (t : List (ℕ × Held)). marks_in t c.args.version) c.self.view_is)
 
 pub returns-clause-of : goal.returns-clause-of

@@ -7,5 +7,5 @@ use Rattle.jffs_tree.proofs.tree.Tree.names_differ.Goals as goal
 pub returns : goal.returns
 returns c =
     c.are_apart.ensures.apart
-    ∙ apart_exactly c.self.inside.inodes.entries c.self.inside.children.keys (subst T (sym c.self.invariant.ordered) tt) c.self.invariant.indexed c.are_apart.ensures.ordered
+    ∙ apart_exactly c.self.inside.inodes c.self.inside.children.keys (subst T (sym c.self.invariant.ordered) tt) c.self.invariant.indexed c.are_apart.ensures.ordered
     ∙ ap (λ (t : List (ℕ × Held)). names_differ (state_in t)) c.self.view_is

@@ -3,4 +3,4 @@ use Rattle.jffs_tree.proofs.tree.Tree.write_here.Goals as goal
 
 pub returns-clause-ok : goal.returns-clause-ok
 returns-clause-ok c =
-    put_there c.self.inside.inodes.entries c.args.self.now c.write_marked.new.inodes.entries c.args.node.now c.self.view_is c.self.invariant.ordered c.in_ok-write_marked.ensures.ok
+    put_there c.self.inside.inodes c.args.self.now c.write_marked.new.inodes c.args.node.now c.self.view_is c.self.invariant.ordered c.in_ok-write_marked.ensures.ok

@@ -1,0 +1,72 @@
+-- The map of inodes is the tree in another order, and what a look-up of the map finds is what the
+-- tree holds.
+use Rattle.std.proofs.Common.{◌≡◌, ℕ, List, Some, None, ap, sym, ◌∙◌, eqb, is_some, rules}
+use Rattle.std.specs.Map.{set_value}
+use Rattle.std.proofs.lemmas.Map.Steps.{set_value_same}
+use Rattle.jffs_tree.specs.Origin.{Held}
+use Rattle.jffs_tree.specs.After.{held_in, held_after, in_order, with_inode, put_node}
+use Rattle.jffs_tree.proofs.InOrder.{found_in_order, in_order_ordered, one_put, put_written}
+use Rattle.jffs_tree.proofs.Marked.{moved_own}
+use Rattle.jffs_tree.proofs.Written.{at_error}
+use Rattle.jffs_tree.proofs.inodes.Inodes.write.Goals as goal
+
+pub unreachable-requires : goal.unreachable-requires
+unreachable-requires c =
+    let none : held_in c.args.self.now c.args.node.now.inode ≡ None =
+    ap (λ (t : List (ℕ × Held)). held_in t c.args.node.now.inode) (sym c.self.view_is)
+    ∙ found_in_order c.args.node.now.inode c.self.inside.by_number.entries ∙ sym c.in_default.ensures.value in
+    search rules
+
+pub write-requires-clause-writable : goal.write-requires-clause-writable
+write-requires-clause-writable c =
+    let there : held_in c.args.self.now c.args.node.now.inode ≡ Some c.in-Some.inode.now =
+    ap (λ (t : List (ℕ × Held)). held_in t c.args.node.now.inode) (sym c.self.view_is)
+    ∙ found_in_order c.args.node.now.inode c.self.inside.by_number.entries ∙ sym c.in-Some.ensures.value in
+    search rules
+
+pub write-requires-clause-marked : goal.write-requires-clause-marked
+write-requires-clause-marked c =
+    let there : held_in c.args.self.now c.args.node.now.inode ≡ Some c.in-Some.inode.now =
+    ap (λ (t : List (ℕ × Held)). held_in t c.args.node.now.inode) (sym c.self.view_is)
+    ∙ found_in_order c.args.node.now.inode c.self.inside.by_number.entries ∙ sym c.in-Some.ensures.value in
+    search rules
+
+pub returns-in_err-write-clause-err : goal.returns-in_err-write-clause-err
+returns-in_err-write-clause-err c =
+    let test = eqb c.args.node.now.inode in
+    let old = c.self.inside.by_number.entries in
+    let kept : in_order (c.get_mut.follows.lender c.write.new.self).entries ≡ c.args.self.now =
+    ap (λ (es : List (ℕ × Held)). in_order es) (
+    (c.get_mut.follows.holds c.write.new.self).0
+    ∙ ap (λ (h : Held). set_value test old h) c.in_err-write.ensures.err.0
+    ∙ set_value_same test old c.in-Some.inode.now (sym c.in-Some.ensures.value))
+    ∙ c.self.view_is in
+    at_error c.from_residual.result (kept, c.in_err-write.ensures.err.1)
+
+pub returns-clause-ok : goal.returns-clause-ok
+returns-clause-ok c =
+    let n = c.args.node.now in
+    let tree = c.args.self.now in
+    let old = c.self.inside.by_number.entries in
+    let there : held_in tree n.inode ≡ Some c.in-Some.inode.now =
+    ap (λ (t : List (ℕ × Held)). held_in t n.inode) (sym c.self.view_is) ∙ found_in_order n.inode old ∙ sym c.in-Some.ensures.value in
+    let written = c.get_mut.follows.holds c.write.new.self in
+    let wrote : c.write.new.self ≡ held_after n (held_in tree n.inode) = c.in_ok-write.ensures.ok ∙ ap (held_after n) (sym there) in
+    let made : in_order (c.get_mut.follows.lender c.write.new.self).entries ≡ put_node tree n =
+    one_put old (c.get_mut.follows.lender c.write.new.self).entries n.inode c.write.new.self (written.3 (ap is_some (sym c.in-Some.ensures.value))).0
+    ∙ ap (λ (t : List (ℕ × Held)). with_inode t n.inode c.write.new.self) c.self.view_is
+    ∙ ap (λ (h : Held). with_inode tree n.inode h) wrote in
+    put_written tree (in_order (c.get_mut.follows.lender c.write.new.self).entries) n made (in_order_ordered (c.get_mut.follows.lender c.write.new.self).entries)
+
+pub returns-clause-marks : goal.returns-clause-marks
+returns-clause-marks c =
+    let n = c.args.node.now in
+    let tree = c.args.self.now in
+    let old = c.self.inside.by_number.entries in
+    let there : held_in tree n.inode ≡ Some c.in-Some.inode.now =
+    ap (λ (t : List (ℕ × Held)). held_in t n.inode) (sym c.self.view_is) ∙ found_in_order n.inode old ∙ sym c.in-Some.ensures.value in
+    let new = (c.get_mut.follows.lender c.write.new.self).entries in
+    let written = c.get_mut.follows.holds c.write.new.self in
+    moved_own tree n c.in-Some.inode.now there c.args.marks.now (in_order new) c.write.new.self c.write.new.marks
+    (found_in_order n.inode new ∙ (written.3 (ap is_some (sym c.in-Some.ensures.value))).1)
+    c.in_ok-write.ensures.marks

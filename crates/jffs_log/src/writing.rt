@@ -39,8 +39,8 @@ pub(crate) fn write_record<F: Flash>(flash: &mut F, at: u32, node: &Node) -> Res
     }
 }
 
-/// Writes the record of a node, which is made in a buffer of that size. It stays a call, so that the
-/// stack has one buffer and not one of each size.
+/// Writes the record of a node, which is made in a buffer of that size. It stays a call, so that
+/// the stack has one buffer and not one of each size.
 #[inline(never)]
 fn write_in<const SIZE: usize, F: Flash>(
     flash: &mut F,

@@ -1,7 +1,7 @@
 -- What one more node makes of a tree.
 use Rattle.std.specs.Prelude.{◌≡◌, ◌≢◌, ◌≤◌, ℕ, Bool, IsTrue, true, not, ◌&&◌, ◌||◌, ◌==◌, nat_le}
-use Rattle.std.specs.Prelude.{◌+◌, ◌-◌, List, [], ◌∷◌, ◌++◌, length, take, drop, replicate, Option, Some}
-use Rattle.std.specs.Prelude.{None, IfSome, option_map, unwrap_or, is_some, if◌then◌else◌}
+use Rattle.std.specs.Prelude.{◌+◌, ◌-◌, List, [], ◌∷◌, ◌++◌, length, take, drop, replicate, Option}
+use Rattle.std.specs.Prelude.{Some, None, IfSome, option_map, unwrap_or, is_some, if◌then◌else◌}
 use Rattle.std.specs.FinMap.Entries as entries
 use Rattle.std.specs.Ordering.{nat_cmp}
 use Rattle.jffs_node.specs.declared.node.Node.{Node}

@@ -4,6 +4,7 @@ ghost use Rattle.std.specs.Prelude.{◌≡◌, ◌≤◌, ◌<◌, ◌+◌, ◌=
 ghost use Rattle.std.specs.Prelude.{IfOk, IsSome, IfSome, IfNone, if◌then◌else◌};
 ghost use Rattle.std.specs.BTreeMap.{get, insert_entry, is_at};
 ghost use Rattle.std.specs.Map.{remove_entry};
+ghost use Rattle.std.specs.Option.{option_map_or};
 ghost use Rattle.std.specs.Ordering.{nat_cmp};
 ghost use Rattle.jffs_node.specs.Record.{file_max};
 ghost use Rattle.jffs_tree.specs.Marks.{mark_of, brought_by};
@@ -135,7 +136,7 @@ pub(crate) fn write_over(
     let moves = amount != node.rsize;
     let end = if moves { FILE_MAX } else { reached };
     make_cuts(fragments, size, node, end)?;
-    overwrite(fragments, node, end, marks)?;
+    overwrite(fragments, size, node, end, marks)?;
     match node.size {
         Some(stated) if stated < size => {
             take_out(fragments, stated, FILE_MAX, node.inode, marks);
@@ -256,19 +257,21 @@ fn fragment_of(node: &Node) -> Result<Fragment, AllocError>
     })
 }
 
-/// Puts a fragment in at an offset. One that began there goes, and its marks. Where an allocation
-/// failed, nothing is changed.
+/// Puts a fragment in at an offset. One that began there goes, and its marks: returns how many
+/// bytes it had, or 0. Where an allocation failed, nothing is changed.
 fn put(
     fragments: &mut Fragments,
     offset: u32,
     fragment: Fragment,
     inode: u32,
     marks: &mut Marks,
-) -> Result<(), AllocError>
+) -> Result<u32, AllocError>
     requires short { AreShort fragments.old.entries }
     requires marked { HasAmounts marks.old inode fragments.old.entries }
     ensures ok { OnOk result
         (fragments.new.entries ≡ insert_entry nat_cmp fragments.old.entries offset fragment) }
+    ensures covered { IfOk result
+        (λ n. n ≡ option_map_or (λ f. length f.bytes) (get nat_cmp fragments.old offset) 0) }
     ensures moved { OnOk result
         ((v i : ℕ) → mark_of marks.new v i
         + (if i == inode then amount_by v fragments.old.entries + part_by v fragment else 0)
@@ -278,20 +281,23 @@ fn put(
         ((fragments.new.entries ≡ fragments.old.entries) × (marks.new ≡ marks.old)) }
 {
     if let Some(covered) = fragments.insert(offset, fragment)? {
-        marks.lower(covered.writer, inode, covered.len());
+        let amount = covered.len();
+        marks.lower(covered.writer, inode, amount);
+        return Ok(amount);
     }
-    Ok(())
+    Ok(0)
 }
 
-/// Writes a node's data over the fragments from its offset to an end, across neither of which one
-/// reaches. Where an allocation failed, nothing is changed.
+/// Writes a node's data over the fragments of a file of a size, from its offset to an end, across
+/// neither of which one reaches. Where an allocation failed, nothing is changed.
 pub(crate) fn overwrite(
     fragments: &mut Fragments,
+    size: u32,
     node: &Node,
     end: u32,
     marks: &mut Marks,
 ) -> Result<(), AllocError>
-    requires laid { AreLaid 0 file_max fragments.old.entries }
+    requires laid { AreLaid 0 size fragments.old.entries × (size ≤ file_max) }
     requires range { (node.now.offset + length node.now.bytes ≤ end) × (end ≤ file_max) }
     requires marked { (v : ℕ)
         → amount_by v fragments.old.entries + brought_by v node.now
@@ -311,7 +317,13 @@ pub(crate) fn overwrite(
         return Ok(());
     }
     let fragment = fragment_of(node)?;
-    put(fragments, node.offset, fragment, node.inode, marks)?;
+    let covered = put(fragments, node.offset, fragment, node.inode, marks)?;
+    // Where the one that it replaces reached the end, or the file's, no other begins before that.
+    let covered_to = node.offset + covered;
+    let last = end.min(size);
+    if last <= covered_to {
+        return Ok(());
+    }
     take_out(fragments, node.offset + 1, end, node.inode, marks);
     Ok(())
 }

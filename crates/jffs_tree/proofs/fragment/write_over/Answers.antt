@@ -3,7 +3,6 @@ use Rattle.std.proofs.lemmas.Option.{same_Some}
 use Rattle.jffs_node.specs.Record.{dsize, file_max}
 use Rattle.jffs_tree.specs.Fragments.{AreCut, IsFileAfter}
 use Rattle.jffs_tree.proofs.FileWritten.{Ends, spliced_either, spliced_moved, spliced_stayed, file_plain, file_stated, file_within, cut_overwritten}
-use Rattle.jffs_tree.proofs.Fragments.{are_laid_grown}
 use Rattle.jffs_tree.proofs.Overwriting.{short_from_laid}
 use Rattle.jffs_tree.proofs.fragment.write_over.Goals as goal
 use Rattle.jffs_tree.proofs.fragment.write_over.Goals.{then-moves, else-moves}
@@ -12,8 +11,7 @@ pub make_cuts-requires : goal.make_cuts-requires
 make_cuts-requires c = record { laid = (c.requires.laid, c.requires.fits.small) }
 
 pub overwrite-requires-clause-laid : goal.overwrite-requires-clause-laid
-overwrite-requires-clause-laid c =
-    c.in_ok-make_cuts.ensures.same.stay file_max (are_laid_grown 0 c.args.size file_max c.args.fragments.now.entries c.requires.laid c.requires.fits.small)
+overwrite-requires-clause-laid c = (c.in_ok-make_cuts.ensures.same.stay c.args.size c.requires.laid, c.requires.fits.small)
 
 pub take_out-requires-clause-short : goal.take_out-requires-clause-short
 take_out-requires-clause-short c =

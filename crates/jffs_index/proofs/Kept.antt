@@ -178,7 +178,7 @@ lacks_count page changes logged batch count all pre is c a =
     let whole : length (logged ++ batch) ≡ length (page.seen.log ++ steps_of changes) = ap (length {A = Step}) (lacks page changes logged batch pre is) in
     omega (arith, c, a, whole, length-append logged batch, length-append page.seen.log (steps_of changes))
 
-prefix_self : (xs ys : List Step) → xs ≡ ys → IsPrefix xs ys
+pub prefix_self : (xs ys : List Step) → xs ≡ ys → IsPrefix xs ys
 prefix_self xs ys e = ([], append-nil xs ∙ e)
 
 -- one more step is pending

@@ -5,6 +5,7 @@ ghost use Rattle.std.specs.Prelude.{◌+◌, ◌≤◌, ◌↔◌, length, IsTru
 use super::*;
 use jffs_flash::{Flash, FlashFault, MemoryFlash};
 use std::fs;
+use std::fs::OpenOptions;
 use std::process::Abort;
 use std::test::Fail;
 
@@ -119,5 +120,21 @@ fn what_was_programmed_stands_in_the_file(rt: HostRuntime) -> Result<(), Fail> {
     fs::write(&rt, path, vec![in rt.alloc(); 0u8; 1_048_577]?)?;
     assert_eq!(rt; open_image(&rt, path).err(), Some(FileFault::Length));
     fs::remove_file(&rt, path)?;
+    Ok(())
+}
+
+/// Linux has a device that is always full, and that nothing can be brought to a medium of.
+#[test]
+fn a_medium_that_fails_is_told(rt: HostRuntime) -> Result<(), Fail> {
+    let full = OpenOptions::new()
+        .read(true)
+        .write(true)
+        .open(&rt, "/dev/full")?;
+    let held = MemoryFlash::new(rt.alloc(), 6, 1024)?;
+    let mut flash = FileFlash::new(held, FileStore::new(full));
+    assert_eq!(rt; flash.sync(), Err(StoreFault));
+    assert!(rt; program(&rt, &mut flash, 0, &[0x5a]).is_err());
+    assert!(rt; erase(&rt, &mut flash, 0).is_err());
+    assert_eq!(rt; flash.faults(), 2);
     Ok(())
 }

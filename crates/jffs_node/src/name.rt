@@ -12,11 +12,16 @@ ghost use Rattle.std.specs.Cmp.Lexicographic.{slice_cmp, nat_list_eq_equiv, nat_
 ghost use Rattle.std.specs.Cmp.Lexicographic.{texts_ties, texts_po};
 
 use crate::words::{long_at, word_at};
+use std::alloc::Global;
 use std::cmp::Ordering;
+use std::default::MadeWith;
 use std::marker::Model;
 
 /// The most bytes of a name: what the header has room for after its numbers.
 pub const NAME_MAX: usize = 20;
+
+/// The only byte of the name that stands where a list has none yet.
+const PLACEHOLDER: u8 = b'-';
 
 /// A name: 1 to 20 bytes, each from `21` to `7E` but not `/`. Names are ordered by their bytes.
 #[derive(Clone, Copy)]
@@ -99,6 +104,14 @@ fn is_name_byte(byte: u8) -> bool
     ensures { result ≡ name_byte_test byte }
 {
     byte.is_ascii_graphic() && byte != b'/'
+}
+
+impl MadeWith<Global> for Name {
+    fn made_with(_alloc: Global) -> Name {
+        let mut bytes = [0; NAME_MAX];
+        bytes[0] = PLACEHOLDER;
+        Name { bytes, length: 1 }
+    }
 }
 
 impl PartialEq for Name {

@@ -5,6 +5,7 @@ ghost use Rattle.std.specs.Option.{option_copied};
 ghost use Rattle.jffs_node.specs.Path.{IsPath, path_of, named, pieces_of, left_len};
 
 use crate::name::{NAME_MAX, Name};
+use smallvec::SmallVec;
 use std::alloc::{AllocError, AllocFailed, Global};
 use std::marker::Model;
 use thiserror::Error;
@@ -15,10 +16,13 @@ pub const PATH_DEPTH_MAX: usize = 8;
 /// What stands before each name.
 const SLASH: u8 = b'/';
 
+/// How many names a path holds without an allocation.
+const NAMES_INLINE: usize = 2;
+
 /// A path: the names from the root on, at most eight. The root's own path has none.
 #[derive(Drop)]
 pub struct Path {
-    names: Vec<Name>,
+    names: SmallVec<Name, NAMES_INLINE>,
 }
 
 impl Model for Path {
@@ -79,18 +83,14 @@ impl Path {
         let Some((&SLASH, text)) = text.as_bytes().split_first() else {
             return Err(PathFault::NoSlash);
         };
-        let mut names = Vec::new(alloc);
+        let mut names = SmallVec::new(alloc);
         let mut deep = false;
         let mut left = if text.is_empty() { None } else { Some(text) };
         while let Some(text) = left {
             let (first, behind) = split_first_name(text);
             let name = name_of(first)?;
             if names.len() < PATH_DEPTH_MAX {
-                // Most paths are short and kept for long, so no memory is taken ahead.
-                if names.reserve_exact(1).is_err() {
-                    return Err(PathFault::Memory);
-                }
-                names.push_reserved(name);
+                names.push(name)?;
             } else {
                 deep = true;
             }

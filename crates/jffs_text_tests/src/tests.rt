@@ -3,6 +3,7 @@
 mod bounds;
 mod calls;
 mod told;
+mod writers;
 
 use jffs_text::{Mistake, Quote, Script, Words, dump};
 use jffs_tree::{Limits, Tree};

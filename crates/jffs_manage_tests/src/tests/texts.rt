@@ -3,9 +3,9 @@
 use jffs_file::{FileFault, StoreFault};
 use jffs_log::ScanWhy;
 use jffs_manage::{CallFault, VolumeFault};
-use jffs_node::PathFault;
+use jffs_node::{NoMemory, PathFault};
 use jffs_tree::Cause;
-use std::alloc::Global;
+use std::alloc::{AllocError, AllocFailed, Global};
 use std::io;
 use std::io::ErrorKind;
 use std::process::Abort;
@@ -146,4 +146,23 @@ fn an_error_of_a_name_is_named_by_its_place(rt: HostRuntime) {
             VolumeFault::Write,
         ],
     );
+}
+
+/// Memory is ample in a test, so what an allocation that failed gives is made here.
+#[test]
+fn each_want_of_memory_is_told_as_one(rt: HostRuntime) -> Result<(), Fail> {
+    for fault in [
+        VolumeFault::from(AllocError),
+        VolumeFault::from(AllocFailed { value: 0u8 }),
+        VolumeFault::from(NoMemory),
+        VolumeFault::from(PathFault::from(AllocFailed { value: 0u8 })),
+        VolumeFault::File(FileFault::from(AllocError)),
+        VolumeFault::File(FileFault::from(AllocFailed { value: 0u8 })),
+    ] {
+        has_text(&rt, rt.alloc(), fault, 1, "out of memory")?;
+    }
+    let fault = CallFault::from(AllocFailed { value: 0u8 });
+    let told = format!(in rt.alloc(); "{fault}")?;
+    assert_eq!(rt; told.as_str(), "out of memory");
+    Ok(())
 }

@@ -1,6 +1,6 @@
 //! Calls of the program, each with its status, what it prints and what people are told.
 
-use jffs_run::run_called;
+use jffs_run::{run_called, run_program_on_file};
 use std::io::{ErrorKind, Read, Write};
 use std::process::Abort;
 use std::rt::Files;
@@ -205,5 +205,78 @@ fn a_fault_of_a_stream_is_told_of(rt: HostRuntime) -> Result<(), Fail> {
         jffs: standard output can't be written\n"
             .as_slice()
     );
+    Ok(())
+}
+
+#[test]
+fn a_program_goes_on_with_the_volume_in_its_file(rt: HostRuntime) -> Result<(), Fail> {
+    let _ = fs::remove_file(&rt, "p.image");
+    for (script, status, printed, told) in [
+        (SCRIPT, 0, PRINTED, ""),
+        (
+            SCRIPT,
+            0,
+            "1.1 refused NameTaken\nclosed\nscan clean\nd /\nf /f 0 -\n",
+            "",
+        ),
+        (
+            "volume 8 1024\n",
+            1,
+            "",
+            "jffs: p.image: the file has another length than the sectors together\n",
+        ),
+    ] {
+        let mut input = script.as_bytes();
+        let mut out = Vec::new(rt.alloc());
+        let mut errors = Vec::new(rt.alloc());
+        let ended = run_program_on_file(&rt, "p.image", &mut input, &mut out, &mut errors);
+        assert_eq!(rt; out.as_slice(), printed.as_bytes());
+        assert_eq!(rt; errors.as_slice(), told.as_bytes());
+        assert_eq!(rt; ended, status, "of {printed}{told}");
+    }
+    fs::remove_file(&rt, "p.image")?;
+    Ok(())
+}
+
+/// A stream that takes so many bytes, and then no more.
+#[derive(Drop)]
+struct Ending {
+    room: usize,
+    kind: ErrorKind,
+}
+
+impl Write for Ending {
+    fn write(&mut self, buf: &[u8]) -> io::Result<usize> {
+        let count = buf.len().min(self.room);
+        if count == 0 {
+            return Err(io::Error::from(self.kind));
+        }
+        self.room -= count;
+        Ok(count)
+    }
+
+    fn flush(&mut self) -> io::Result<()> {
+        Ok(())
+    }
+}
+
+#[test]
+fn a_stream_that_ends_in_the_tree_is_told_of(rt: HostRuntime) -> Result<(), Fail> {
+    let alloc = rt.alloc();
+    let words = vec![in alloc; String::from_str(alloc, "jffs")?]?;
+    for (kind, told) in [
+        (
+            ErrorKind::BrokenPipe,
+            "jffs: standard output can't be written\n",
+        ),
+        (ErrorKind::OutOfMemory, "jffs: out of memory\n"),
+    ] {
+        let room = PRINTED.len().saturating_sub(1);
+        let mut out = Ending { room, kind };
+        let mut errors = Vec::new(alloc);
+        let ended = run_called(&rt, &words, &mut SCRIPT.as_bytes(), &mut out, &mut errors);
+        assert_eq!(rt; errors.as_slice(), told.as_bytes());
+        assert_eq!(rt; (ended, out.room), (1, 0));
+    }
     Ok(())
 }

@@ -1,7 +1,10 @@
 //! What is read and when it is answered, and streams that fail.
 
+use super::records::image_of;
 use super::{called, replayed, replays};
-use jffs_tools::{run_image, run_replay};
+use jffs_node::NoMemory;
+use jffs_tools::{ToolFault, run_image, run_replay};
+use std::alloc::{AllocError, AllocFailed};
 use std::io;
 use std::io::{BufWriter, ErrorKind, Read, Write};
 use std::test::Fail;
@@ -10,6 +13,28 @@ use std::test::Fail;
 #[derive(Drop)]
 struct Broken {
     kind: ErrorKind,
+}
+
+/// A stream that takes so many bytes, and fails in this way after them.
+#[derive(Drop)]
+struct Ending {
+    room: usize,
+    kind: ErrorKind,
+}
+
+impl Write for Ending {
+    fn write(&mut self, buf: &[u8]) -> io::Result<usize> {
+        let count = buf.len().min(self.room);
+        if count == 0 {
+            return Err(io::Error::from(self.kind));
+        }
+        self.room -= count;
+        Ok(count)
+    }
+
+    fn flush(&mut self) -> io::Result<()> {
+        Ok(())
+    }
 }
 
 impl Read for Broken {
@@ -186,6 +211,56 @@ fn a_replay_takes_no_words(rt: HostRuntime) -> Result<(), Fail> {
         );
         assert_eq!(rt; errors.as_slice(), wanted.as_bytes());
         assert!(rt; out.is_empty());
+    }
+    Ok(())
+}
+
+/// The lines before the tree can be written, and nothing of the tree's, a part of it or all.
+#[test]
+fn a_stream_that_ends_in_the_tree_is_told_of(rt: HostRuntime) -> Result<(), Fail> {
+    let alloc = rt.alloc();
+    let words = called(alloc, &["jffs_image", "6", "1024"])?;
+    let image = image_of(alloc, &[], 6)?;
+    let before = "mounted unclean\nnext 1 2\nsectors\n".len();
+    for (room, kind, status, wanted) in [
+        (
+            before,
+            ErrorKind::BrokenPipe,
+            1,
+            "jffs_image: standard output can't be written\n",
+        ),
+        (
+            before.saturating_add(3),
+            ErrorKind::OutOfMemory,
+            1,
+            "jffs_image: out of memory\n",
+        ),
+        (before.saturating_add(4), ErrorKind::BrokenPipe, 0, ""),
+    ] {
+        let mut input = image.as_slice();
+        let mut out = Ending { room, kind };
+        let mut errors = Vec::new(alloc);
+        let ended = run_image(alloc, &words, &mut input, &mut out, &mut errors);
+        assert_eq!(rt;
+            errors.as_slice(),
+            wanted.as_bytes(),
+            "with room for {room}"
+        );
+        assert_eq!(rt; (ended, out.room), (status, 0), "with room for {room}");
+    }
+    Ok(())
+}
+
+/// Memory is ample in a test, so what an allocation that failed gives is made here.
+#[test]
+fn each_want_of_memory_is_told_as_one(rt: HostRuntime) -> Result<(), Fail> {
+    for fault in [
+        ToolFault::from(AllocError),
+        ToolFault::from(AllocFailed { value: 0u8 }),
+        ToolFault::from(NoMemory),
+    ] {
+        let told = format!(in rt.alloc(); "{fault}")?;
+        assert_eq!(rt; told.as_str(), "out of memory");
     }
     Ok(())
 }

@@ -1,5 +1,5 @@
 //! Steps that are put, published and looked at.
-ghost use Rattle.std.specs.Prelude.{◌≡◌};
+ghost use Rattle.std.specs.Prelude.{◌≡◌, IfOk};
 ghost use Rattle.jffs_index.specs.Histories.{view_of};
 ghost use Rattle.jffs_index.specs.Ends.{all_put, index_of, publisher_index};
 
@@ -127,14 +127,23 @@ fn published_steps_show(rt: HostRuntime) -> Result<(), Fail> {
     steps_show(&rt, alloc, &mut source, &mut reader)
 }
 
-/// `/c` (inode 4) and `/c/f` (inode 3), after a rename and a removal.
-fn move_about<W: Wait + Drop>(alloc: Global, source: &mut Source<W>) -> Result<(), Fail>
+/// `/b/f` (inode 3), created below `/a`, beside `/c` (inode 4).
+fn rename_a_directory<W: Wait + Drop>(alloc: Global, source: &mut Source<W>) -> Result<(), Fail>
     requires { source.old.tree ≡ (view_of (all_put source.old.publisher)).tree }
+    ensures { IfOk result
+        (λ _. source.new.tree ≡ (view_of (all_put source.new.publisher)).tree) }
 {
     source.request(&make_dir(alloc, "/a")?)?;
     source.request(&create(alloc, "/a/f")?)?;
     source.request(&rename(alloc, "/a", "/b")?)?;
-    source.request(&make_dir(alloc, "/c")?)?;
+    source.request(&make_dir(alloc, "/c")?)
+}
+
+/// `/c` (inode 4) and `/c/f` (inode 3), after renames, a write and a removal.
+fn move_about<W: Wait + Drop>(alloc: Global, source: &mut Source<W>) -> Result<(), Fail>
+    requires { source.old.tree ≡ (view_of (all_put source.old.publisher)).tree }
+{
+    rename_a_directory(alloc, source)?;
     source.request(&rename(alloc, "/b/f", "/c/f")?)?;
     source.request(&Wish::Write {
         path: path(alloc, "/c/f")?,

@@ -5,6 +5,10 @@ use std::sync::Wait;
 use std::sync::atomic::{AtomicU64, Ordering};
 use std::time::Duration;
 
+/// How many pauses let others run before the first sleep. They last longer than a log thread that
+/// sleeps at an empty line takes to wake, so the two don't go to sleep in turn.
+const ROUNDS: u32 = 128;
+
 /// The first sleep, in microseconds.
 const SLEEP_MIN: u64 = 50;
 
@@ -44,11 +48,13 @@ impl Ended {
     }
 }
 
-/// The pauses between the tries of a thread that waits: a few in which it lets others run, and then
+/// The pauses between the tries of a thread that waits: some in which it lets others run, and then
 /// sleeps.
 #[derive(Drop)]
 pub struct Pauses {
     backoff: Backoff,
+    // How many more pauses let others run.
+    rounds: u32,
     // Both in microseconds.
     sleep: u64,
     longest: u64,
@@ -59,6 +65,7 @@ impl Pauses {
     pub fn up_to(longest: u64) -> Pauses {
         Pauses {
             backoff: Backoff::new(),
+            rounds: ROUNDS,
             sleep: SLEEP_MIN.min(longest),
             longest,
         }
@@ -66,7 +73,8 @@ impl Pauses {
 
     /// One pause, which ends at once where the log thread ends.
     pub fn pause<R: Wait>(&mut self, rt: &R, ended: &Ended) {
-        if !self.backoff.is_completed() {
+        if self.rounds > 0 {
+            self.rounds -= 1;
             self.backoff.snooze();
             return;
         }

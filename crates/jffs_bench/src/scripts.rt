@@ -47,14 +47,16 @@ pub(crate) fn measure_scripts<R: Threads + Wait + Sync + Clock, W: Write + Drop>
     ] {
         measure.title(title)?;
         let each = measure.scale.times(WRITES) / writers;
-        let shared = script(alloc, "shared 16", writers, each, beside)?;
+        let text = script_text(alloc, "shared 16", writers, each, beside)?;
+        let shared = Script::parse(alloc, &text)?;
         let start = Instant::now(rt)?;
         let answered = answer_alone(alloc, &shared)?;
         measure.line(rt, "requests on a core alone", answered, start)?;
         let start = Instant::now(rt)?;
         let answered = run(rt, alloc, &shared)?;
         measure.line(rt, "requests over a shared line", answered, start)?;
-        let rings = script(alloc, "rings 16", writers, each, beside)?;
+        let text = script_text(alloc, "rings 16", writers, each, beside)?;
+        let rings = Script::parse(alloc, &text)?;
         let start = Instant::now(rt)?;
         let answered = run(rt, alloc, &rings)?;
         measure.line(rt, "requests over rings", answered, start)?;
@@ -62,14 +64,14 @@ pub(crate) fn measure_scripts<R: Threads + Wait + Sync + Clock, W: Write + Drop>
     Ok(())
 }
 
-/// A script in which each writer makes a file of its own and writes to it `writes` times.
-fn script(
+/// The text of a script in which each writer makes a file of its own and writes to it `writes` times.
+fn script_text(
     alloc: Global,
     line: &str,
     writers: u32,
     writes: u32,
     beside: Beside,
-) -> Result<Script, Fault> {
+) -> Result<Vec<u8>, Fault> {
     let mut text = Vec::new(alloc);
     writeln!(
         text,
@@ -91,11 +93,11 @@ fn script(
             writeln!(text, "fill /f{writer} 0 {WRITE_LEN} 61")?;
         }
     }
-    Ok(Script::parse(alloc, &text)?)
+    Ok(text)
 }
 
 /// Runs a script in threads; how many requests of its writers were answered.
-fn run<R: Threads + Wait + Sync>(rt: &R, alloc: Global, script: &Script) -> Result<u64, Fault> {
+fn run<R: Threads + Wait + Sync>(rt: &R, alloc: Global, script: &Script<'_>) -> Result<u64, Fault> {
     let flash = MemoryFlash::new(alloc, script.sectors, script.sector_size)?;
     let run = run_threads(rt, alloc, script, flash, &NoGate)?;
     if run.served != Served::Closed {
@@ -109,7 +111,7 @@ fn run<R: Threads + Wait + Sync>(rt: &R, alloc: Global, script: &Script) -> Resu
 }
 
 /// The same requests, writer by writer, on a core without threads.
-fn answer_alone(alloc: Global, script: &Script) -> Result<u64, Fault> {
+fn answer_alone(alloc: Global, script: &Script<'_>) -> Result<u64, Fault> {
     let mut volume = Volume::erased(alloc, SIZES)?;
     let mut answered = 0u64;
     for writer in script.writers.iter() {

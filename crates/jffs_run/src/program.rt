@@ -97,8 +97,8 @@ fn run_new<'a, Rt: AllocGlobal + Threads + Wait + Sync, R: Read, W: Write>(
     input: &mut R,
     out: &mut W,
 ) -> Result<(), Fault<'a>> {
-    let script = read_script(rt.alloc(), input)?;
-    run_in_memory(rt, script, out)?;
+    let text = read_whole(rt.alloc(), input)?;
+    run_in_memory(rt, script_of(rt.alloc(), &text)?, out)?;
     Ok(())
 }
 
@@ -109,11 +109,11 @@ fn run_file<'a, Rt: AllocGlobal + Files<File: Send> + Threads + Wait + Sync, W: 
     path: &'a str,
     out: &mut W,
 ) -> Result<(), Fault<'a>> {
-    let script = match read_file(rt, path) {
-        Ok(text) => script_of(rt.alloc(), text)?,
+    let text = match read_file(rt, path) {
+        Ok(text) => text,
         Err(why) => return Err(Fault::NoScript { path, why }),
     };
-    run_script(rt, volume, script, out)
+    run_script(rt, volume, script_of(rt.alloc(), &text)?, out)
 }
 
 /// Runs the script that a reader gives.
@@ -123,15 +123,15 @@ fn run_input<'a, Rt: AllocGlobal + Files<File: Send> + Threads + Wait + Sync, R:
     input: &mut R,
     out: &mut W,
 ) -> Result<(), Fault<'a>> {
-    let script = read_script(rt.alloc(), input)?;
-    run_script(rt, volume, script, out)
+    let text = read_whole(rt.alloc(), input)?;
+    run_script(rt, volume, script_of(rt.alloc(), &text)?, out)
 }
 
 /// Runs a script on the volume in a file, or on a new one in memory.
 fn run_script<'a, Rt: AllocGlobal + Files<File: Send> + Threads + Wait + Sync, W: Write>(
     rt: &Rt,
     volume: Option<&'a str>,
-    script: Script,
+    script: Script<'_>,
     out: &mut W,
 ) -> Result<(), Fault<'a>> {
     let Some(path) = volume else {
@@ -149,7 +149,7 @@ fn run_script<'a, Rt: AllocGlobal + Files<File: Send> + Threads + Wait + Sync, W
 /// Runs a script on erased flash in memory.
 fn run_in_memory<Rt: AllocGlobal + Threads + Wait + Sync, W: Write>(
     rt: &Rt,
-    script: Script,
+    script: Script<'_>,
     out: &mut W,
 ) -> Result<(), Why> {
     let flash = MemoryFlash::new(rt.alloc(), script.sectors, script.sector_size)?;
@@ -174,7 +174,7 @@ fn flash_in<Rt: AllocGlobal + Files>(
 /// All is run and scanned before the first line is written.
 fn run_on<Rt: AllocGlobal + Threads + Wait + Sync, F: Flash + Send + Drop, W: Write>(
     rt: &Rt,
-    script: Script,
+    script: Script<'_>,
     flash: F,
     out: &mut W,
 ) -> Result<(), Why> {
@@ -206,7 +206,7 @@ fn run_on<Rt: AllocGlobal + Threads + Wait + Sync, F: Flash + Send + Drop, W: Wr
 /// Runs a script, which isn't kept.
 fn run_once<Rt: AllocGlobal + Threads + Wait + Sync, F: Flash + Send + Drop>(
     rt: &Rt,
-    script: Script,
+    script: Script<'_>,
     flash: F,
 ) -> Result<Run<F>, Why> {
     run_threads(rt, rt.alloc(), &script, flash, &NoGate).map_err(run_fault)
@@ -218,17 +218,9 @@ fn moved_apart(answers: Vec<Answer>) -> Result<Vec<Answer>, Why> {
     answers.clone().map_err(|_| Why::Memory)
 }
 
-/// The script that a reader gives.
-fn read_script<'a, R: Read>(alloc: Global, input: &mut R) -> Result<Script, Fault<'a>> {
-    script_of(alloc, read_whole(alloc, input)?)
-}
-
-/// The script that a text is, which isn't kept.
-fn script_of<'a>(alloc: Global, text: Vec<u8>) -> Result<Script, Fault<'a>> {
-    match Script::read(alloc, &text) {
-        Ok(script) => Ok(script),
-        Err(mistake) => Err(Fault::Script(mistake)),
-    }
+/// The script that a text is.
+fn script_of<'a, 't>(alloc: Global, text: &'t [u8]) -> Result<Script<'t>, Fault<'a>> {
+    Script::read(alloc, text).map_err(Fault::Script)
 }
 
 fn run_fault<F: Drop>(fault: RunFault<F>) -> Why {

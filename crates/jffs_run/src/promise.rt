@@ -18,7 +18,7 @@ use std::thread::{Promise, PromisedHandle};
 #[derive(Drop)]
 pub(crate) struct Writes<'a, H: Hand> {
     pub(crate) hand: Snapshot<H>,
-    pub(crate) commands: &'a [Command],
+    pub(crate) commands: &'a [Command<'a>],
 }
 
 impl<'a, H: Hand> Promise<WriterEnd<H>> for Writes<'a, H> {

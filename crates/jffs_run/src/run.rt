@@ -86,7 +86,7 @@ fn open<W: Wait + Drop, F: Flash>(
 fn run_over<R: Threads + Wait + Sync, F: Flash + Send + Drop, T: Settle + Send, G: Gate + Sync>(
     rt: &R,
     alloc: Global,
-    script: &Script,
+    script: &Script<'_>,
     line: Ends<T::Of, T>,
     core: Core<F>,
     gate: &G,
@@ -183,7 +183,7 @@ fn settle_all<R: Wait, F: Flash + Drop, T: Settle, W: Wait + Drop>(
 pub fn run_threads<R: Threads + Wait + Sync, F: Flash + Send + Drop, G: Gate + Sync>(
     rt: &R,
     alloc: Global,
-    script: &Script,
+    script: &Script<'_>,
     flash: F,
     gate: &G,
 ) -> Result<Run<F>, RunFault<F>>
@@ -205,7 +205,7 @@ pub fn run_threads<R: Threads + Wait + Sync, F: Flash + Send + Drop, G: Gate + S
 fn run_mounted<R: Threads + Wait + Sync, F: Flash + Send + Drop, G: Gate + Sync>(
     rt: &R,
     alloc: Global,
-    script: &Script,
+    script: &Script<'_>,
     core: Core<F>,
     gate: &G,
 ) -> Result<Run<F>, RunFault<F>>

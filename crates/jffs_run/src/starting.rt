@@ -36,7 +36,7 @@ fn start_writer<'s, E, R: Wait + Sync, H: Hand + Send + 's, G: Gate + Sync>(
     alloc: Global,
     number: u16,
     hand: H,
-    commands: &'s [Command],
+    commands: &'s [Command<'s>],
     gate: &'s G,
     ended: &'s Ended,
 ) -> Option<WriterHandle<'s, H>>
@@ -67,7 +67,7 @@ pub(crate) fn start_writers<'s, E, R: Wait + Sync, H: Hand + Send + 's, G: Gate 
     alloc: Global,
     handles: Vec<WriterHandle<'s, H>>,
     hands: Vec<H>,
-    writers: &'s [Writer],
+    writers: &'s [Writer<'s>],
     gate: &'s G,
     ended: &'s Ended,
 ) -> Started<WriterHandle<'s, H>>

@@ -59,7 +59,7 @@ impl<'s, H: Hand> Reserved<'s, H> {
 /// room for what comes back.
 #[derive(Drop)]
 struct Running<'s, H: Hand, F: Flash, T: Taker, W: Wait + Drop> {
-    script: &'s Script,
+    script: &'s Script<'s>,
     crew: Snapshot<Crew<H>>,
     log: LogHandle<F, T, W>,
     cleaning: Option<Cleaning<H>>,
@@ -85,7 +85,7 @@ fn start_all<
     rt: &'s R,
     scope: &'s Scope<'s, E>,
     alloc: Global,
-    script: &'s Script,
+    script: &'s Script<'s>,
     crew: Crew<H>,
     side: LogSide<F, T, W>,
     reserved: Reserved<'s, H>,
@@ -196,7 +196,7 @@ fn run_in<
     rt: &'s R,
     scope: &'s Scope<'s, E>,
     alloc: Global,
-    script: &'s Script,
+    script: &'s Script<'s>,
     crew: Crew<H>,
     side: LogSide<F, T, W>,
     gate: &'s G,
@@ -259,7 +259,7 @@ pub(crate) fn run_all<
 >(
     rt: &R,
     alloc: Global,
-    script: &Script,
+    script: &Script<'_>,
     crew: Crew<H>,
     side: LogSide<F, T, W>,
     gate: &G,

@@ -98,7 +98,7 @@ pub(crate) fn run_writer<R: Wait, H: Hand, G: Gate>(
     alloc: Global,
     number: u16,
     hand: H,
-    commands: &[Command],
+    commands: &[Command<'_>],
     gate: &G,
     ended: &Ended,
 ) -> WriterEnd<H>

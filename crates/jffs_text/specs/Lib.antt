@@ -1,3 +1,4 @@
+pub mod Spelling
 pub mod Wishes
 pub mod Causes
 pub mod Dump

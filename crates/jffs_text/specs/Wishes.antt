@@ -1,5 +1,5 @@
 -- What a script's commands wish for.
-use Rattle.std.specs.Prelude.{List, map, replicate}
+use Rattle.std.specs.Prelude.{List, map, replicate, box_value}
 use Rattle.jffs_text.specs.declared.command.Command.{Command}
 use Rattle.jffs_text.specs.declared.command.Command.TheVariants as command
 use Rattle.jffs_tree.specs.declared.wish.Wish.{Wish}
@@ -9,7 +9,7 @@ use Rattle.jffs_tree.specs.declared.wish.Wish.TheVariants as wish
 abbrev pub wish_of : Command → Wish
 wish_of (command.MakeDir path) = wish.MakeDir path
 wish_of (command.Create path) = wish.Create path
-wish_of (command.Write path offset bytes) = wish.Write path offset bytes
+wish_of (command.Write path offset bytes) = wish.Write path offset (box_value bytes)
 wish_of (command.Fill path offset count byte) = wish.Write path offset (replicate count byte)
 wish_of (command.Truncate path size) = wish.Truncate path size
 wish_of (command.Rename from to) = wish.Rename from to

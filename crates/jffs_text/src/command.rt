@@ -5,49 +5,52 @@ ghost use Rattle.jffs_text.specs.Wishes.{wish_of};
 
 use crate::keyword::Edit;
 use crate::mistake::Mistake;
+use crate::spelled::SpelledPath;
 use crate::word::Words;
-use jffs_node::{Bytes, NoMemory, Path};
+use jffs_node::{Bytes, NoMemory};
 use jffs_tree::Wish;
 use std::alloc::Global;
 
 /// The most bytes that one `fill` writes.
 pub const FILL_MAX: u32 = 4096;
 
-/// A command of a script. A writer makes its wish of it when its turn comes.
+/// A command of a script, whose text has its paths. A writer makes its wish of it when its turn
+/// comes.
 #[derive(Drop)]
-pub enum Command {
-    MakeDir(Path),
-    Create(Path),
+pub enum Command<'a> {
+    MakeDir(SpelledPath<'a>),
+    Create(SpelledPath<'a>),
     Write {
-        path: Path,
+        path: SpelledPath<'a>,
         offset: u32,
-        bytes: Bytes,
+        /// Boxed, so that a command without bytes takes no room for them.
+        bytes: Box<Bytes>,
     },
     /// A write of `count` times the same byte.
     Fill {
-        path: Path,
+        path: SpelledPath<'a>,
         offset: u32,
         count: u32,
         byte: u8,
     },
     Truncate {
-        path: Path,
+        path: SpelledPath<'a>,
         size: u32,
     },
     Rename {
-        from: Path,
-        to: Path,
+        from: SpelledPath<'a>,
+        to: SpelledPath<'a>,
     },
-    Remove(Path),
+    Remove(SpelledPath<'a>),
 }
 
-impl Command {
+impl<'a> Command<'a> {
     /// Reads one command from all the words that are left.
     ///
     /// A mistake of the kind `Command` where they begin with no command's word, or are too few or
     /// too many; then that of the first word, from the left, that isn't what should stand there:
     /// of the kind `Path`, `Number` or `Hex`, or `Memory` if allocation failed.
-    pub fn of_words(alloc: Global, mut words: Words<'_>) -> Result<Command, Mistake> {
+    pub fn of_words(alloc: Global, mut words: Words<'a>) -> Result<Command<'a>, Mistake> {
         let line = words;
         match Edit::of(line, words.take()) {
             Ok(edit) => Command::parse(alloc, edit, words),
@@ -60,9 +63,9 @@ impl Command {
     pub(crate) fn parse(
         alloc: Global,
         edit: Edit,
-        mut words: Words<'_>,
-    ) -> Result<Command, Mistake> {
-        let path = words.take_path(alloc)?;
+        mut words: Words<'a>,
+    ) -> Result<Command<'a>, Mistake> {
+        let path = words.take_spelled(alloc)?;
         Ok(match edit {
             Edit::MakeDir => Command::MakeDir(path),
             Edit::Create => Command::Create(path),
@@ -73,7 +76,7 @@ impl Command {
                 Command::Write {
                     path,
                     offset,
-                    bytes,
+                    bytes: Box::new(alloc, bytes)?,
                 }
             }
             Edit::Fill => {
@@ -92,7 +95,7 @@ impl Command {
                 Command::Truncate { path, size }
             }
             Edit::Rename => {
-                let to = words.take_path(alloc)?;
+                let to = words.take_spelled(alloc)?;
                 Command::Rename { from: path, to }
             }
         })
@@ -106,17 +109,17 @@ impl Command {
         ensures { IfOk result (λ wish. wish ≡ wish_of self.now) }
     {
         Ok(match self {
-            Command::MakeDir(path) => Wish::MakeDir(path.clone()?),
-            Command::Create(path) => Wish::Create(path.clone()?),
-            Command::Remove(path) => Wish::Remove(path.clone()?),
+            Command::MakeDir(path) => Wish::MakeDir(path.path(alloc)?),
+            Command::Create(path) => Wish::Create(path.path(alloc)?),
+            Command::Remove(path) => Wish::Remove(path.path(alloc)?),
             Command::Write {
                 path,
                 offset,
                 bytes,
             } => Wish::Write {
-                path: path.clone()?,
+                path: path.path(alloc)?,
                 offset: *offset,
-                bytes: bytes.clone()?,
+                bytes: Bytes::clone(bytes)?,
             },
             Command::Fill {
                 path,
@@ -124,17 +127,17 @@ impl Command {
                 count,
                 byte,
             } => Wish::Write {
-                path: path.clone()?,
+                path: path.path(alloc)?,
                 offset: *offset,
                 bytes: Bytes::from_vec(vec![in alloc; *byte; *count as usize]?)?,
             },
             Command::Truncate { path, size } => Wish::Truncate {
-                path: path.clone()?,
+                path: path.path(alloc)?,
                 size: *size,
             },
             Command::Rename { from, to } => Wish::Rename {
-                from: from.clone()?,
-                to: to.clone()?,
+                from: from.path(alloc)?,
+                to: to.path(alloc)?,
             },
         })
     }

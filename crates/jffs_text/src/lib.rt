@@ -13,6 +13,7 @@ mod keyword;
 mod mistake;
 mod quote;
 mod script;
+mod spelled;
 mod word;
 
 pub use arguments::{Usage, Work};
@@ -26,4 +27,5 @@ pub use script::{
     CAPACITY_MAX, COMMANDS_MAX, LINE_MAX, LineChoice, LineForm, READERS_MAX, ROUNDS_MAX,
     ReaderStatement, Script, WRITERS_MAX, Writer, line_text,
 };
+pub use spelled::SpelledPath;
 pub use word::Words;

@@ -55,14 +55,15 @@ pub struct ReaderStatement {
 
 /// What one writer asks for.
 #[derive(Drop)]
-pub struct Writer {
+pub struct Writer<'a> {
     /// At most 4,096 commands, in order.
-    pub commands: Vec<Command>,
+    pub commands: Vec<Command<'a>>,
 }
 
-/// A script that was read: the volume, the line, who takes part, and what each writer asks for.
+/// A script that was read: the volume, the line, who takes part, and what each writer asks for. The
+/// paths of its commands stay in its text.
 #[derive(Drop)]
-pub struct Script {
+pub struct Script<'a> {
     /// How many sectors the volume has, 6 to 64.
     pub sectors: u32,
     /// How long each is: 1024, 2048, 4096, 8192 or 16384 bytes.
@@ -74,13 +75,13 @@ pub struct Script {
     /// At most 16 readers, in the order of their lines.
     pub readers: Vec<ReaderStatement>,
     /// At most 8 writers; the first has number 1.
-    pub writers: Vec<Writer>,
+    pub writers: Vec<Writer<'a>>,
 }
 
-impl Script {
+impl<'a> Script<'a> {
     /// Reads a script. An error has the first line that is refused, from 1, and the first reason
     /// that holds there; `Memory` comes wherever allocation failed.
-    pub fn parse(alloc: Global, text: &[u8]) -> Result<Script, ScriptFault> {
+    pub fn parse(alloc: Global, text: &'a [u8]) -> Result<Script<'a>, ScriptFault> {
         match Script::read(alloc, text) {
             Ok(script) => Ok(script),
             Err(mistake) => Err(mistake.fault),
@@ -88,7 +89,7 @@ impl Script {
     }
 
     /// Reads a script as `parse` does. An error has the fault of `parse`, and says more of it.
-    pub fn read(alloc: Global, text: &[u8]) -> Result<Script, ScriptMistake> {
+    pub fn read(alloc: Global, text: &'a [u8]) -> Result<Script<'a>, ScriptMistake> {
         let mut draft = Draft::new(alloc);
         for (index, line) in text.split(|byte| *byte == b'\n').enumerate() {
             if let Err(mistake) = draft.take_line(line) {
@@ -113,17 +114,17 @@ impl Script {
 
 /// What was read so far.
 #[derive(Drop)]
-struct Draft {
+struct Draft<'a> {
     alloc: Global,
     volume: Option<(u32, u32)>,
     line: Option<LineChoice>,
     cleaner: Option<u32>,
     readers: Vec<ReaderStatement>,
-    writers: Vec<Writer>,
+    writers: Vec<Writer<'a>>,
 }
 
-impl Draft {
-    fn new(alloc: Global) -> Draft {
+impl<'a> Draft<'a> {
+    fn new(alloc: Global) -> Draft<'a> {
         Draft {
             alloc,
             volume: None,
@@ -135,7 +136,7 @@ impl Draft {
     }
 
     /// The script, where some line had a statement.
-    fn finish(self) -> Option<Script> {
+    fn finish(self) -> Option<Script<'a>> {
         let (sectors, sector_size) = self.volume?;
         Some(Script {
             sectors,
@@ -147,7 +148,7 @@ impl Draft {
         })
     }
 
-    fn take_line(&mut self, line: &[u8]) -> Result<(), Mistake> {
+    fn take_line(&mut self, line: &'a [u8]) -> Result<(), Mistake> {
         let line = line_text(line)?;
         if line.len() == 0 || line.starts_with('#') {
             return Ok(());
@@ -192,7 +193,7 @@ impl Draft {
         }
     }
 
-    fn take_statement(&mut self, keyword: Keyword, mut words: Words<'_>) -> Result<(), Mistake> {
+    fn take_statement(&mut self, keyword: Keyword, mut words: Words<'a>) -> Result<(), Mistake> {
         match keyword {
             Keyword::Volume => {}
             Keyword::Line(form) => {

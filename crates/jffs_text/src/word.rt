@@ -5,6 +5,7 @@ ghost use Rattle.jffs_text.specs.Dump.{hex, hex_digit};
 
 use crate::mistake::Mistake;
 use crate::quote::Quote;
+use crate::spelled::SpelledPath;
 use jffs_node::{Path, PathFault};
 use std::alloc::Global;
 
@@ -101,14 +102,14 @@ impl<'a> Words<'a> {
     /// Takes the next word, a path. `Path` if it isn't one, `Memory` if allocation failed.
     pub fn take_path(&mut self, alloc: Global) -> Result<Path, Mistake> {
         let word = self.take();
-        match Path::parse(alloc, word) {
-            Ok(path) => Ok(path),
-            Err(PathFault::Memory) => Err(Mistake::Memory),
-            Err(fault) => Err(Mistake::Path {
-                word: Quote::of(word),
-                fault,
-            }),
-        }
+        Path::parse(alloc, word).map_err(|fault| no_path(word, fault))
+    }
+
+    /// Takes the next word, a path, as it is spelled there. Mistakes are those of
+    /// [`take_path`](Words::take_path).
+    pub(crate) fn take_spelled(&mut self, alloc: Global) -> Result<SpelledPath<'a>, Mistake> {
+        let word = self.take();
+        SpelledPath::of(alloc, word).map_err(|fault| no_path(word, fault))
     }
 
     /// Takes the next word, bytes in lower case hex; `-` stands for none. `Hex` or `OddHex` if it
@@ -131,6 +132,17 @@ impl<'a> Words<'a> {
         } else {
             Err(Mistake::OneByte(Quote::of(word)))
         }
+    }
+}
+
+/// What is wrong with a word that is no path.
+fn no_path(word: &str, fault: PathFault) -> Mistake {
+    match fault {
+        PathFault::Memory => Mistake::Memory,
+        fault => Mistake::Path {
+            word: Quote::of(word),
+            fault,
+        },
     }
 }
 

@@ -229,7 +229,7 @@ fn check_granted(answers: &[Answer]) -> Result<(), Fail> {
 
 fn run_once<Rt: Abort + AllocGlobal + Threads + Wait + Sync>(
     rt: &Rt,
-    script: &Script,
+    script: &Script<'_>,
 ) -> Result<(), Fail> {
     let alloc = rt.alloc();
     let flash = MemoryFlash::new(alloc, script.sectors, script.sector_size)?;
@@ -259,7 +259,8 @@ fn run_often<Rt: Abort + AllocGlobal + Threads + Wait + Sync>(
     line: &str,
 ) -> Result<(), Fail> {
     let alloc = rt.alloc();
-    let script = Script::parse(alloc, &script_text(alloc, line)?)?;
+    let text = script_text(alloc, line)?;
+    let script = Script::parse(alloc, &text)?;
     for _ in 0..TIMES {
         run_once(rt, &script)?;
     }

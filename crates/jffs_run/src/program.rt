@@ -98,7 +98,7 @@ fn run_new<'a, Rt: AllocGlobal + Threads + Wait + Sync, R: Read, W: Write>(
     out: &mut W,
 ) -> Result<(), Fault<'a>> {
     let text = read_whole(rt.alloc(), input)?;
-    run_in_memory(rt, script_of(rt.alloc(), &text)?, out)?;
+    run_in_memory(rt, &script_of(rt.alloc(), &text)?, out)?;
     Ok(())
 }
 
@@ -113,7 +113,7 @@ fn run_file<'a, Rt: AllocGlobal + Files<File: Send> + Threads + Wait + Sync, W: 
         Ok(text) => text,
         Err(why) => return Err(Fault::NoScript { path, why }),
     };
-    run_script(rt, volume, script_of(rt.alloc(), &text)?, out)
+    run_script(rt, volume, &script_of(rt.alloc(), &text)?, out)
 }
 
 /// Runs the script that a reader gives.
@@ -124,14 +124,14 @@ fn run_input<'a, Rt: AllocGlobal + Files<File: Send> + Threads + Wait + Sync, R:
     out: &mut W,
 ) -> Result<(), Fault<'a>> {
     let text = read_whole(rt.alloc(), input)?;
-    run_script(rt, volume, script_of(rt.alloc(), &text)?, out)
+    run_script(rt, volume, &script_of(rt.alloc(), &text)?, out)
 }
 
 /// Runs a script on the volume in a file, or on a new one in memory.
 fn run_script<'a, Rt: AllocGlobal + Files<File: Send> + Threads + Wait + Sync, W: Write>(
     rt: &Rt,
     volume: Option<&'a str>,
-    script: Script<'_>,
+    script: &Script<'_>,
     out: &mut W,
 ) -> Result<(), Fault<'a>> {
     let Some(path) = volume else {
@@ -149,7 +149,7 @@ fn run_script<'a, Rt: AllocGlobal + Files<File: Send> + Threads + Wait + Sync, W
 /// Runs a script on erased flash in memory.
 fn run_in_memory<Rt: AllocGlobal + Threads + Wait + Sync, W: Write>(
     rt: &Rt,
-    script: Script<'_>,
+    script: &Script<'_>,
     out: &mut W,
 ) -> Result<(), Why> {
     let flash = MemoryFlash::new(rt.alloc(), script.sectors, script.sector_size)?;
@@ -174,7 +174,7 @@ fn flash_in<Rt: AllocGlobal + Files>(
 /// All is run and scanned before the first line is written.
 fn run_on<Rt: AllocGlobal + Threads + Wait + Sync, F: Flash + Send + Drop, W: Write>(
     rt: &Rt,
-    script: Script<'_>,
+    script: &Script<'_>,
     flash: F,
     out: &mut W,
 ) -> Result<(), Why> {
@@ -186,7 +186,7 @@ fn run_on<Rt: AllocGlobal + Threads + Wait + Sync, F: Flash + Send + Drop, W: Wr
         readers,
         served: _,
         flash,
-    } = run_once(rt, script, flash)?;
+    } = run_threads(rt, alloc, script, flash, &NoGate).map_err(run_fault)?;
     let answers = moved_apart(answers)?;
     let Mounted {
         log: _,
@@ -203,15 +203,6 @@ fn run_on<Rt: AllocGlobal + Threads + Wait + Sync, F: Flash + Send + Drop, W: Wr
     Ok(())
 }
 
-/// Runs a script, which isn't kept.
-fn run_once<Rt: AllocGlobal + Threads + Wait + Sync, F: Flash + Send + Drop>(
-    rt: &Rt,
-    script: Script<'_>,
-    flash: F,
-) -> Result<Run<F>, Why> {
-    run_threads(rt, rt.alloc(), &script, flash, &NoGate).map_err(run_fault)
-}
-
 /// The same answers in a new allocation. The old one lies among what the log thread freed, and
 /// would keep all before it from going back to the system while the scan needs as much again.
 fn moved_apart(answers: Vec<Answer>) -> Result<Vec<Answer>, Why> {
@@ -220,7 +211,10 @@ fn moved_apart(answers: Vec<Answer>) -> Result<Vec<Answer>, Why> {
 
 /// The script that a text is.
 fn script_of<'a, 't>(alloc: Global, text: &'t [u8]) -> Result<Script<'t>, Fault<'a>> {
-    Script::read(alloc, text).map_err(Fault::Script)
+    match Script::read(alloc, text) {
+        Ok(script) => Ok(script),
+        Err(mistake) => Err(Fault::Script(mistake)),
+    }
 }
 
 fn run_fault<F: Drop>(fault: RunFault<F>) -> Why {

@@ -113,6 +113,10 @@ fn repeated(
     Ok(script)
 }
 
+fn commands_of_last(script: &Script<'_>) -> Option<usize> {
+    script.writers.last().map(|writer| writer.commands.len())
+}
+
 #[test]
 fn as_many_are_accepted_as_a_script_may_have(rt: HostRuntime) -> Result<(), Fail> {
     let alloc = rt.alloc();
@@ -128,10 +132,7 @@ fn as_many_are_accepted_as_a_script_may_have(rt: HostRuntime) -> Result<(), Fail
     let text = repeated(alloc, "volume 8 1024\n", "writer\n", 8, "mkdir /\n")?;
     let script = Script::parse(alloc, text.as_bytes())?;
     assert_eq!(rt; script.writers.len(), 8);
-    assert_eq!(rt;
-        script.writers.last().map(|writer| writer.commands.len()),
-        Some(1)
-    );
+    assert_eq!(rt; commands_of_last(&script), Some(1));
     let text = repeated(
         alloc,
         "volume 8 1024\nwriter\n",
@@ -140,10 +141,7 @@ fn as_many_are_accepted_as_a_script_may_have(rt: HostRuntime) -> Result<(), Fail
         "writer\n",
     )?;
     let script = Script::parse(alloc, text.as_bytes())?;
-    assert_eq!(rt;
-        script.writers.first().map(|writer| writer.commands.len()),
-        Some(4096)
-    );
+    assert_eq!(rt; commands_of_last(&script), Some(4096));
     let text = repeated(alloc, "#", "a", 16_383, "\nvolume 8 1024")?;
     assert!(rt; Script::parse(alloc, text.as_bytes()).is_ok());
     Ok(())

@@ -113,8 +113,11 @@ fn repeated(
     Ok(script)
 }
 
-fn commands_of_last(script: &Script<'_>) -> Option<usize> {
-    script.writers.last().map(|writer| writer.commands.len())
+fn commands_of(script: &Script<'_>, writer: usize) -> Option<usize> {
+    script
+        .writers
+        .get(writer)
+        .map(|writer| writer.commands.len())
 }
 
 #[test]
@@ -132,7 +135,7 @@ fn as_many_are_accepted_as_a_script_may_have(rt: HostRuntime) -> Result<(), Fail
     let text = repeated(alloc, "volume 8 1024\n", "writer\n", 8, "mkdir /\n")?;
     let script = Script::parse(alloc, text.as_bytes())?;
     assert_eq!(rt; script.writers.len(), 8);
-    assert_eq!(rt; commands_of_last(&script), Some(1));
+    assert_eq!(rt; commands_of(&script, 7), Some(1));
     let text = repeated(
         alloc,
         "volume 8 1024\nwriter\n",
@@ -141,7 +144,7 @@ fn as_many_are_accepted_as_a_script_may_have(rt: HostRuntime) -> Result<(), Fail
         "writer\n",
     )?;
     let script = Script::parse(alloc, text.as_bytes())?;
-    assert_eq!(rt; commands_of_last(&script), Some(4096));
+    assert_eq!(rt; commands_of(&script, 0), Some(4096));
     let text = repeated(alloc, "#", "a", 16_383, "\nvolume 8 1024")?;
     assert!(rt; Script::parse(alloc, text.as_bytes()).is_ok());
     Ok(())

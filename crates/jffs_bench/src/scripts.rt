@@ -64,7 +64,8 @@ pub(crate) fn measure_scripts<R: Threads + Wait + Sync + Clock, W: Write + Drop>
     Ok(())
 }
 
-/// The text of a script in which each writer makes a file of its own and writes to it `writes` times.
+/// The text of a script in which each writer makes a file of its own and writes to it `writes`
+/// times.
 fn script_text(
     alloc: Global,
     line: &str,

@@ -1,12 +1,13 @@
 //! Paths: the names from the root to an inode.
 
-ghost use Rattle.std.specs.Prelude.{◌≡◌, ◌≢◌, ◌<◌, ◌==◌, ◌∷◌, Err, Some, position};
+ghost use Rattle.std.specs.Prelude.{◌≡◌, ◌≢◌, ◌<◌, ◌==◌, [], ◌∷◌, ◌++◌};
+ghost use Rattle.std.specs.Prelude.{OnOk, Err, Some, position};
 ghost use Rattle.std.specs.Option.{option_copied};
 ghost use Rattle.jffs_node.specs.Path.{IsPath, path_of, named, pieces_of, left_len};
 
 use crate::name::{NAME_MAX, Name};
 use smallvec::SmallVec;
-use std::alloc::{AllocError, AllocFailed, Global};
+use std::alloc::{AllocError, Global};
 use std::marker::Model;
 use thiserror::Error;
 
@@ -61,13 +62,13 @@ pub enum PathFault {
     Memory,
 }
 
-impl<T: Drop> From<AllocFailed<T>> for PathFault {
+impl From<AllocError> for PathFault {
     ghost use Rattle.jffs_node.specs.declared.path.PathFault.TheVariants.{Memory};
     ghost use Rattle.std.specs.Prelude.{◌≡◌};
 
     ghost from_gives = { λ _ fault. fault ≡ Memory };
 
-    fn from(_refused: AllocFailed<T>) -> PathFault {
+    fn from(_refused: AllocError) -> PathFault {
         PathFault::Memory
     }
 }
@@ -90,7 +91,7 @@ impl Path {
             let (first, behind) = split_first_name(text);
             let name = name_of(first)?;
             if names.len() < PATH_DEPTH_MAX {
-                names.push(name)?;
+                add(&mut names, name)?;
             } else {
                 deep = true;
             }
@@ -121,6 +122,17 @@ impl Clone for Path {
         let names = self.names.clone()?;
         Ok(Path { names })
     }
+}
+
+/// Adds a name. The first that isn't held inline takes room for all that a path may have.
+fn add(names: &mut SmallVec<Name, NAMES_INLINE>, name: Name) -> Result<(), AllocError>
+    ensures { OnOk result (names.new.items ≡ names.old.items ++ name ∷ []) }
+{
+    if names.len() == NAMES_INLINE {
+        names.reserve(PATH_DEPTH_MAX - NAMES_INLINE)?;
+    }
+    names.push(name)?;
+    Ok(())
 }
 
 /// The name that bytes spell, or their fault.

@@ -1,7 +1,7 @@
 //! The program: a script in, lines out.
 
 use crate::ending::{Fault, Why, status_of};
-use crate::fault::RunFault;
+use crate::fault::{RunFault, RunWhy};
 use crate::outcome::Run;
 use crate::printing::{print_answers, print_ending, print_readers};
 use crate::reading::{read_file, read_whole};
@@ -13,11 +13,11 @@ use jffs_flash::{Flash, MemoryFlash};
 use jffs_log::{Mounted, ScanFault, scan};
 use jffs_text::{Script, Usage, dump};
 use std::alloc::Global;
-use std::io;
 use std::io::{Read, Write};
 use std::rt::Files;
 use std::sync::Wait;
-use std::thread::Threads;
+use std::thread::{Scope, Threads};
+use std::{io, thread};
 
 const USAGE: Usage = Usage {
     program: "jffs",
@@ -186,7 +186,7 @@ fn run_on<Rt: AllocGlobal + Threads + Wait + Sync, F: Flash + Send + Drop, W: Wr
         readers,
         served: _,
         flash,
-    } = run_threads(rt, alloc, script, flash, &NoGate).map_err(run_fault)?;
+    } = run_apart(rt, script, flash)?;
     let answers = moved_apart(answers)?;
     let Mounted {
         log: _,
@@ -201,6 +201,34 @@ fn run_on<Rt: AllocGlobal + Threads + Wait + Sync, F: Flash + Send + Drop, W: Wr
     dump(alloc, &tree, out)?;
     out.flush()?;
     Ok(())
+}
+
+/// Runs a script in a thread of its own, and waits for its end. A thread that frees memory keeps
+/// some pieces of each small size for itself as long as it lives, and these hold on to all memory
+/// below them; so what a run freed goes back to the system before the scan needs as much again.
+fn run_apart<Rt: AllocGlobal + Threads + Wait + Sync, F: Flash + Send + Drop>(
+    rt: &Rt,
+    script: &Script<'_>,
+    flash: F,
+) -> Result<Run<F>, Why> {
+    thread::scope(thread::scope_env(), rt, |scope| -> Result<Run<F>, Why> {
+        run_in(rt, scope, script, flash)
+    })
+}
+
+fn run_in<'s, E, Rt: AllocGlobal + Threads + Wait + Sync, F: Flash + Send + Drop + 's>(
+    rt: &'s Rt,
+    scope: &'s Scope<'s, E>,
+    script: &'s Script<'s>,
+    flash: F,
+) -> Result<Run<F>, Why> {
+    let started = scope.spawn(move || -> Result<Run<F>, Why> {
+        run_threads(rt, rt.alloc(), script, flash, &NoGate).map_err(run_fault)
+    });
+    match started {
+        Ok(handle) => handle.join(rt),
+        Err(_) => Err(Why::Run(RunWhy::Spawn)),
+    }
 }
 
 /// The same answers in a new allocation. The old one lies among what the log thread freed, and

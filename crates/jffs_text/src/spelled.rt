@@ -1,8 +1,7 @@
 //! Paths that stay in a script's text.
 
-ghost use Rattle.std.specs.Prelude.{◌≡◌, Ok, IfOk};
+ghost use Rattle.std.specs.Prelude.{◌≡◌, ◌≢◌, Err, IfOk};
 ghost use Rattle.jffs_node.specs.Path.{path_of};
-ghost use Rattle.jffs_text.specs.Spelling.{spelled};
 
 use jffs_node::{NoMemory, Path, PathFault};
 use std::alloc::Global;
@@ -29,11 +28,9 @@ impl<'a> Model for SpelledPath<'a> {
 }
 
 impl<'a> SpelledPath<'a> {
-    /// The path that a text spells.
-    ///
-    /// Errors are those of [`Path::parse`].
+    /// The path that a text spells, with the errors of [`Path::parse`].
     pub fn of(alloc: Global, text: &'a str) -> Result<SpelledPath<'a>, PathFault>
-        ensures { IfOk result (λ path. path_of text.now ≡ Ok path) }
+        ensures { result ≢ Err PathFault.Memory → result ≡ path_of text.now }
     {
         let _names = Path::parse(alloc, text)?;
         Ok(SpelledPath { text })

@@ -5,16 +5,16 @@ use Rattle.jffs_node.specs.Path.{IsPath, pieces_of, answer_after}
 use Rattle.jffs_node.proofs.Pieces.{answer_name, named_read, path_more}
 use Rattle.jffs_node.proofs.path.Path.parse.Goals as goal
 
-pub loop-left-preserved-in_ok-push : goal.loop-left-preserved-in_ok-push
-loop-left-preserved-in_ok-push c =
+pub loop-left-preserved-in_ok-add : goal.loop-left-preserved-in_ok-add
+loop-left-preserved-in_ok-add c =
     let names = c.loop-left.names.items in
     let piece = c.split_first_name.result.0.now in
     let pieces = pieces_of (option_copied c.split_first_name.result.1) in
     let was = c.loop-left.invariant in
     let read = named_read piece _ c.in_ok-name.ensures in
-    let items : c.push.new.self.items ≡ names ++ piece ∷ [] = c.in_ok-push.ensures.ok ∙ ap (λ (n : List ℕ). names ++ n ∷ []) read.1 in
+    let items : c.add.new.names.items ≡ names ++ piece ∷ [] = c.in_ok-add.ensures ∙ ap (λ (n : List ℕ). names ++ n ∷ []) read.1 in
     let short : length names < PATH_DEPTH_MAX = omega (arith, c.len.ensures.value, c.if-len-lt-PATH_DEPTH_MAX.true) in
-    let longer : length c.push.new.self.items ≡ length names + 1 = ap length items ∙ length-append names (piece ∷ []) in
+    let longer : length c.add.new.names.items ≡ length names + 1 = ap length items ∙ length-append names (piece ∷ []) in
     record {
       same =
           was.same

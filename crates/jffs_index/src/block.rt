@@ -1,12 +1,13 @@
 //! The outcomes of requests whose numbers follow one another.
-ghost use Rattle.std.specs.Prelude.{◌≡◌, ◌<◌, ◌==◌, ℕ, Some, None, if◌then◌else◌};
+ghost use Rattle.std.specs.Prelude.{◌≡◌, ◌<◌, ◌==◌, ℕ, Some, None, IfOk, if◌then◌else◌};
 ghost use Rattle.jffs_index.specs.Blocks.{slot};
 
 use jffs_tree::Outcome;
+use std::alloc::{AllocError, Global};
 use std::marker::Model;
 
 /// How many requests a block has a slot for.
-pub(crate) const SLOTS: usize = 16;
+pub(crate) const SLOTS: usize = 32;
 
 /// Which slots hold an outcome, and the outcomes. In one list of `Option`s each would take three
 /// bytes more.
@@ -16,10 +17,11 @@ pub(crate) struct Slots {
     pub(crate) outcomes: [Outcome; SLOTS],
 }
 
-/// A slot for each of 16 requests whose numbers follow one another, 13 bytes each.
+/// A slot for each of 32 requests whose numbers follow one another, 13 bytes each. Boxed, since the
+/// nodes of a map whose keys come in their order stay half empty.
 #[derive(Drop)]
 pub(crate) struct Block {
-    slots: Slots,
+    slots: Box<Slots>,
 }
 
 impl Model for Block {
@@ -29,22 +31,22 @@ impl Model for Block {
 
     ghost use Rattle.jffs_index.specs.Blocks.{IsWhole};
 
-    ghost view = { λ b. b.slots };
+    ghost view = { λ b. b.slots.value };
 
-    ghost invariant = { λ b. IsWhole b.slots };
+    ghost invariant = { λ b. IsWhole b.slots.value };
 }
 
 impl Block {
     /// A block without an outcome.
-    pub(crate) fn empty() -> Block
-        ensures { (at : ℕ) → slot result at ≡ None }
+    pub(crate) fn empty(alloc: Global) -> Result<Block, AllocError>
+        ensures { IfOk result (λ block. (at : ℕ) → slot block at ≡ None) }
     {
-        Block {
-            slots: Slots {
-                filled: [false; SLOTS],
-                outcomes: [Outcome::Closed; SLOTS],
-            },
-        }
+        let slots = Slots {
+            filled: [false; SLOTS],
+            outcomes: [Outcome::Closed; SLOTS],
+        };
+        let slots = Box::new(alloc, slots)?;
+        Ok(Block { slots })
     }
 
     /// What a slot holds.
@@ -64,8 +66,9 @@ impl Block {
         requires { at < SLOTS }
         ensures { (k : ℕ) → slot self.new k ≡ (if k == at then Some outcome else slot self.old k) }
     {
-        self.slots.filled[at] = true;
-        self.slots.outcomes[at] = outcome;
+        let slots = &mut *self.slots;
+        slots.filled[at] = true;
+        slots.outcomes[at] = outcome;
     }
 
     /// Takes the outcome out of a slot, if it holds one.

@@ -11,11 +11,10 @@ use std::marker::Model;
 /// For each sender and number the latest outcome, found in logarithmic time.
 ///
 /// The numbers of a sender follow one another, so all its blocks but the last are full, and an
-/// outcome takes about 28 bytes. A number without neighbours takes a block of its own. Blocks stand
-/// in the nodes of the map, which so are few and large. Of small nodes each thread that frees
-/// memory keeps some for itself, and these would hold on to all memory below them.
+/// outcome takes about 15 bytes. A number without neighbours takes a block of its own.
 #[derive(Drop)]
 pub(crate) struct Outcomes {
+    alloc: Global,
     // By the sender, and the block's number among those of the sender.
     by_block: BTreeMap<(u16, u32), Block>,
 }
@@ -35,6 +34,7 @@ impl Outcomes {
         ensures { result ≡ [] }
     {
         Outcomes {
+            alloc,
             by_block: BTreeMap::new(alloc),
         }
     }
@@ -65,7 +65,7 @@ impl Outcomes {
             block.put(slot_of(seq), outcome);
             return Ok(());
         }
-        let mut block = Block::empty();
+        let mut block = Block::empty(self.alloc)?;
         block.put(slot_of(seq), outcome);
         self.by_block.insert(key, block)?;
         Ok(())

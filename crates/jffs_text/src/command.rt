@@ -39,7 +39,8 @@ pub enum Command<'a> {
     },
     Rename {
         from: SpelledPath<'a>,
-        to: SpelledPath<'a>,
+        /// Boxed, so that a command without a second path takes no room for one.
+        to: Box<SpelledPath<'a>>,
     },
     Remove(SpelledPath<'a>),
 }
@@ -96,7 +97,10 @@ impl<'a> Command<'a> {
             }
             Edit::Rename => {
                 let to = words.take_spelled(alloc)?;
-                Command::Rename { from: path, to }
+                Command::Rename {
+                    from: path,
+                    to: Box::new(alloc, to)?,
+                }
             }
         })
     }

@@ -22,11 +22,13 @@ returns-in-Some-clause-entered c =
     }
     ∙ ap (λ (z : Outcomes). with_outcome z w s c.args.outcome) c.self.view_is
 
+pub returns-in_err-block-clause-new : goal.returns-in_err-block-clause-new
+returns-in_err-block-clause-new c =
+    on_err c.from_residual.result (ap (λ (z : Outcomes). outcome_at z c.args.writer c.args.seq) (sym c.self.view_is) ∙ no_outcome c.self.inside.by_block.entries c.args.writer c.args.seq c.block_of.result c.block_of.ensures c.in_default.ensures.value)
+
 pub returns-in_err-insert-clause-new : goal.returns-in_err-insert-clause-new
 returns-in_err-insert-clause-new c =
-    let w = c.args.writer in
-    let s = c.args.seq in
-    on_err c.from_residual.result (ap (λ (z : Outcomes). outcome_at z w s) (sym c.self.view_is) ∙ no_outcome c.self.inside.by_block.entries w s c.block_of.result c.block_of.ensures c.in_default.ensures.value)
+    on_err c.from_residual-in_err-insert.result (ap (λ (z : Outcomes). outcome_at z c.args.writer c.args.seq) (sym c.self.view_is) ∙ no_outcome c.self.inside.by_block.entries c.args.writer c.args.seq c.block_of.result c.block_of.ensures c.in_default.ensures.value)
 
 pub returns-clause-entered : goal.returns-clause-entered
 returns-clause-entered c =
@@ -38,6 +40,6 @@ returns-clause-entered c =
       block = λ q. c.in_ok-insert.ensures.updates.0 q
           ∙ ap (λ (es : Blocks). cond (is_at (request_cmp (w, c.block_of.result)) q) (Some slots) (lookup (is_at (request_cmp q)) es)) (ap (λ m. m.entries) c.get_mut.follows.holds-at-none);
       held = λ i. c.put-2.ensures i
-          ∙ ap (λ o. cond (eqb i c.slot_of-2.result) (Some c.args.outcome) o) (c.empty-block.ensures i ∙ ap (λ o. slot_in o i) c.in_default.ensures.value);
+          ∙ ap (λ o. cond (eqb i c.slot_of-2.result) (Some c.args.outcome) o) (c.in_ok-block.ensures i ∙ ap (λ o. slot_in o i) c.in_default.ensures.value);
     }
     ∙ ap (λ (z : Outcomes). with_outcome z w s c.args.outcome) c.self.view_is

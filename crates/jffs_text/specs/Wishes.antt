@@ -12,7 +12,7 @@ wish_of (command.Create path) = wish.Create path
 wish_of (command.Write path offset bytes) = wish.Write path offset (box_value bytes)
 wish_of (command.Fill path offset count byte) = wish.Write path offset (replicate count byte)
 wish_of (command.Truncate path size) = wish.Truncate path size
-wish_of (command.Rename from to) = wish.Rename from (box_value to)
+wish_of (command.Rename from to) = wish.Rename from to
 wish_of (command.Remove path) = wish.Remove path
 
 abbrev pub wishes_of : List Command → List Wish

@@ -39,8 +39,7 @@ pub enum Command<'a> {
     },
     Rename {
         from: SpelledPath<'a>,
-        /// Boxed, so that a command without a second path takes no room for one.
-        to: Box<SpelledPath<'a>>,
+        to: SpelledPath<'a>,
     },
     Remove(SpelledPath<'a>),
 }
@@ -97,10 +96,7 @@ impl<'a> Command<'a> {
             }
             Edit::Rename => {
                 let to = words.take_spelled(alloc)?;
-                Command::Rename {
-                    from: path,
-                    to: Box::new(alloc, to)?,
-                }
+                Command::Rename { from: path, to }
             }
         })
     }

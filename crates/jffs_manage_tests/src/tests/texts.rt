@@ -155,7 +155,7 @@ fn each_want_of_memory_is_told_as_one(rt: HostRuntime) -> Result<(), Fail> {
         VolumeFault::from(AllocError),
         VolumeFault::from(AllocFailed { value: 0u8 }),
         VolumeFault::from(NoMemory),
-        VolumeFault::from(PathFault::from(AllocFailed { value: 0u8 })),
+        VolumeFault::from(PathFault::from(AllocError)),
         VolumeFault::File(FileFault::from(AllocError)),
         VolumeFault::File(FileFault::from(AllocFailed { value: 0u8 })),
     ] {

@@ -5,12 +5,13 @@ use std::sync::Wait;
 use std::sync::atomic::{AtomicU64, Ordering};
 use std::time::Duration;
 
-/// How many pauses let others run before the first sleep. They last longer than a log thread that
-/// sleeps at an empty line takes to wake, so the two don't go to sleep in turn.
-const ROUNDS: u32 = 128;
+/// How many pauses let others run before the first sleep. With fewer a writer at a full line and
+/// the log thread at an empty one go to sleep in turn; more make no run faster, and take more of the
+/// processor.
+const ROUNDS: u32 = 20;
 
-/// The first sleep, in microseconds.
-const SLEEP_MIN: u64 = 50;
+/// The first sleep, in microseconds, to which the system adds some fifty.
+const SLEEP_MIN: u64 = 10;
 
 /// Each sleep is longer than the one before by the part of it that this divides off. So what is
 /// waited for is seen late by no more than that part of the wait.

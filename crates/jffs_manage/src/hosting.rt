@@ -166,7 +166,7 @@ fn add_paths<Rt: Files + AllocGlobal + Clone + Drop>(
         let name = entry.file_name();
         let path = format!(in alloc; "{inside}/{name}")?;
         set(reached, path.as_str())?;
-        let _ = Path::parse(alloc, path.as_str())?;
+        Path::check(path.as_str())?;
         if name == UNFINISHED {
             return Err(VolumeFault::Reserved);
         }

@@ -2,6 +2,8 @@
 use Rattle.std.specs.Prelude.{ℕ, ◌+◌, ◌≤◌, Bool, ◌||◌, ◌==◌, nat_lt, List, [], ◌∷◌, ◌++◌, length}
 use Rattle.std.specs.Prelude.{Option, Some, None, Result, Ok, Err, if◌then◌else◌, IsTrue}
 use Rattle.std.specs.List.{AllByRecursion, list_all, slice_split}
+use Rattle.std.specs.Option.{option_copied}
+use Rattle.std.specs.Borrow.{Bor}
 use Rattle.jffs_node.specs.declared.path.PathFault.{PathFault}
 use Rattle.jffs_node.specs.declared.path.PathFault.TheVariants.{NoSlash, NameEmpty, NameLong}
 use Rattle.jffs_node.specs.declared.path.PathFault.TheVariants.{NameByte, Deep}
@@ -65,6 +67,17 @@ pieces_of (Some text) = slice_split (λ c. c == 47) text
 abbrev pub left_len : Option (List ℕ) → ℕ
 left_len None = 0
 left_len (Some text) = length text + 1
+
+-- the path of a text, by what stands after its first slash
+abbrev pub path_after : Result (Option (Bor (List ℕ))) PathFault → Result (List (List ℕ)) PathFault
+path_after (Ok rest) = checked_names (pieces_of (option_copied rest))
+path_after (Err fault) = Err fault
+
+-- the fault, where so many names were read, and these pieces are left
+abbrev pub fault_after : ℕ → List (List ℕ) → Option PathFault
+fault_after count pieces =
+    or_else (names_fault pieces)
+    (if nat_lt PATH_DEPTH_MAX (count + length pieces) then Some Deep else None)
 
 -- the answer, where these names were read, too many or not, and these pieces are left
 abbrev pub answer_after : List (List ℕ) → Bool → List (List ℕ) → Result (List (List ℕ)) PathFault

@@ -51,15 +51,24 @@ impl Name {
     pub fn from_bytes(bytes: &[u8]) -> Option<Name>
         ensures { result ≡ (if is_name bytes.now then Some bytes.now else None) }
     {
-        if !spells_name(bytes) {
-            return None;
+        if spells_name(bytes) {
+            Some(Name::spelled(bytes))
+        } else {
+            None
         }
+    }
+
+    /// The name that bytes spell.
+    pub(crate) fn spelled(bytes: &[u8]) -> Name
+        requires { IsTrue (is_name bytes.now) }
+        ensures { result ≡ bytes.now }
+    {
         let mut padded = [0; NAME_MAX];
         padded[..bytes.len()].copy_from_slice(bytes);
-        Some(Name {
+        Name {
             bytes: padded,
             length: bytes.len() as u8,
-        })
+        }
     }
 
     /// The bytes of the name, 1 to 20.
@@ -93,7 +102,7 @@ fn spells_name(bytes: &[u8]) -> bool
 }
 
 /// Whether each byte may stand in a name.
-fn are_name_bytes(bytes: &[u8]) -> bool
+pub(crate) fn are_name_bytes(bytes: &[u8]) -> bool
     ensures { result ≡ list_all name_byte_test bytes.now }
 {
     bytes.iter().all(|b| is_name_byte(*b))

@@ -1,11 +1,13 @@
 //! Paths: the names from the root to an inode.
 
 ghost use Rattle.std.specs.Prelude.{◌≡◌, ◌≢◌, ◌<◌, ◌==◌, [], ◌∷◌, ◌++◌};
-ghost use Rattle.std.specs.Prelude.{OnOk, Err, Some, position};
+ghost use Rattle.std.specs.Prelude.{OnOk, IfOk, Err, Some, position, length, ◌≤◌};
 ghost use Rattle.std.specs.Option.{option_copied};
-ghost use Rattle.jffs_node.specs.Path.{IsPath, path_of, named, pieces_of, left_len};
+ghost use Rattle.std.specs.Result.{result_err};
+ghost use Rattle.jffs_node.specs.Path.{IsPath, path_of, path_after, named, name_fault, pieces_of};
+ghost use Rattle.jffs_node.specs.Path.{left_len};
 
-use crate::name::{NAME_MAX, Name};
+use crate::name::{NAME_MAX, Name, are_name_bytes};
 use smallvec::SmallVec;
 use std::alloc::{AllocError, Global};
 use std::marker::Model;
@@ -81,12 +83,9 @@ impl Path {
     pub fn parse(alloc: Global, text: &str) -> Result<Path, PathFault>
         ensures { result ≢ Err PathFault.Memory → result ≡ path_of text.now }
     {
-        let Some((&SLASH, text)) = text.as_bytes().split_first() else {
-            return Err(PathFault::NoSlash);
-        };
+        let mut left = after_slash(text.as_bytes())?;
         let mut names = SmallVec::new(alloc);
         let mut deep = false;
-        let mut left = if text.is_empty() { None } else { Some(text) };
         while let Some(text) = left {
             let (first, behind) = split_first_name(text);
             let name = name_of(first)?;
@@ -101,6 +100,28 @@ impl Path {
             Err(PathFault::Deep)
         } else {
             Ok(Path { names })
+        }
+    }
+
+    /// Whether a text spells a path; an error is the fault of the text, never `Memory`. Takes no
+    /// memory.
+    pub fn check(text: &str) -> Result<(), PathFault>
+        ensures { result_err result ≡ result_err (path_of text.now) }
+    {
+        let mut left = after_slash(text.as_bytes())?;
+        let mut count = 0;
+        while let Some(text) = left {
+            let (first, behind) = split_first_name(text);
+            if let Some(fault) = fault_in(first) {
+                return Err(fault);
+            }
+            count += 1;
+            left = behind;
+        }
+        if count > PATH_DEPTH_MAX {
+            Err(PathFault::Deep)
+        } else {
+            Ok(())
         }
     }
 
@@ -135,17 +156,41 @@ fn add(names: &mut SmallVec<Name, NAMES_INLINE>, name: Name) -> Result<(), Alloc
     Ok(())
 }
 
+/// What stands after a path's first slash, if anything does.
+fn after_slash(text: &[u8]) -> Result<Option<&[u8]>, PathFault>
+    ensures read { path_of text.now ≡ path_after result }
+    ensures shorter { IfOk result (λ rest. left_len (option_copied rest) ≤ length text.now) }
+{
+    match text.split_first() {
+        Some((&SLASH, [])) => Ok(None),
+        Some((&SLASH, rest)) => Ok(Some(rest)),
+        _ => Err(PathFault::NoSlash),
+    }
+}
+
 /// The name that bytes spell, or their fault.
 fn name_of(bytes: &[u8]) -> Result<Name, PathFault>
     ensures { result ≡ named bytes.now }
 {
+    match fault_in(bytes) {
+        None => Ok(Name::spelled(bytes)),
+        Some(fault) => Err(fault),
+    }
+}
+
+/// Why bytes are no name, where they aren't one.
+fn fault_in(bytes: &[u8]) -> Option<PathFault>
+    ensures { result ≡ name_fault bytes.now }
+{
     if bytes.is_empty() {
-        return Err(PathFault::NameEmpty);
+        Some(PathFault::NameEmpty)
+    } else if bytes.len() > NAME_MAX {
+        Some(PathFault::NameLong)
+    } else if are_name_bytes(bytes) {
+        None
+    } else {
+        Some(PathFault::NameByte)
     }
-    if bytes.len() > NAME_MAX {
-        return Err(PathFault::NameLong);
-    }
-    Name::from_bytes(bytes).ok_or(PathFault::NameByte)
 }
 
 /// What stands before the first slash, and what after it if there is one.

@@ -143,12 +143,14 @@ fn path_faults(rt: HostRuntime) -> Result<(), Fail> {
             Err(PathFault::Memory) => return Err("out of memory".into()),
             Err(found) => assert_eq!(rt; found, fault, "{text}"),
         }
+        assert_eq!(rt; Path::check(text).err(), Some(fault), "{text}");
     }
     for (text, count) in [
         ("/", 0),
         ("/aaaaaaaaaaaaaaaaaaaa", 1),
         ("/1/2/3/4/5/6/7/8", 8),
     ] {
+        Path::check(text)?;
         let path = Path::parse(rt.alloc(), text)?;
         assert_eq!(rt; path.names().len(), count, "{text}");
         assert_eq!(rt; path.clone()?.names().len(), count, "{text}");

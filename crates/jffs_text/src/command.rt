@@ -65,7 +65,7 @@ impl<'a> Command<'a> {
         edit: Edit,
         mut words: Words<'a>,
     ) -> Result<Command<'a>, Mistake> {
-        let path = words.take_spelled(alloc)?;
+        let path = words.take_spelled()?;
         Ok(match edit {
             Edit::MakeDir => Command::MakeDir(path),
             Edit::Create => Command::Create(path),
@@ -95,7 +95,7 @@ impl<'a> Command<'a> {
                 Command::Truncate { path, size }
             }
             Edit::Rename => {
-                let to = words.take_spelled(alloc)?;
+                let to = words.take_spelled()?;
                 Command::Rename { from: path, to }
             }
         })

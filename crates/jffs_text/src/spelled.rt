@@ -1,6 +1,6 @@
 //! Paths that stay in a script's text.
 
-ghost use Rattle.std.specs.Prelude.{◌≡◌, ◌≢◌, Err, IfOk};
+ghost use Rattle.std.specs.Prelude.{◌≡◌, IfOk};
 ghost use Rattle.jffs_node.specs.Path.{path_of};
 
 use jffs_node::{NoMemory, Path, PathFault};
@@ -28,11 +28,11 @@ impl<'a> Model for SpelledPath<'a> {
 }
 
 impl<'a> SpelledPath<'a> {
-    /// The path that a text spells, with the errors of [`Path::parse`].
-    pub fn of(alloc: Global, text: &'a str) -> Result<SpelledPath<'a>, PathFault>
-        ensures { result ≢ Err PathFault.Memory → result ≡ path_of text.now }
+    /// The path that a text spells, or the text's fault, which is never `Memory`.
+    pub fn of(text: &'a str) -> Result<SpelledPath<'a>, PathFault>
+        ensures { result ≡ path_of text.now }
     {
-        let _names = Path::parse(alloc, text)?;
+        Path::check(text)?;
         Ok(SpelledPath { text })
     }
 

@@ -105,11 +105,10 @@ impl<'a> Words<'a> {
         Path::parse(alloc, word).map_err(|fault| no_path(word, fault))
     }
 
-    /// Takes the next word, a path, as it is spelled there. Mistakes are those of
-    /// [`take_path`](Words::take_path).
-    pub(crate) fn take_spelled(&mut self, alloc: Global) -> Result<SpelledPath<'a>, Mistake> {
+    /// Takes the next word, a path, as it is spelled there. `Path` if it isn't one.
+    pub(crate) fn take_spelled(&mut self) -> Result<SpelledPath<'a>, Mistake> {
         let word = self.take();
-        SpelledPath::of(alloc, word).map_err(|fault| no_path(word, fault))
+        SpelledPath::of(word).map_err(|fault| no_path(word, fault))
     }
 
     /// Takes the next word, bytes in lower case hex; `-` stands for none. `Hex` or `OddHex` if it

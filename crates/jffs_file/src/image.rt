@@ -97,9 +97,10 @@ pub fn open_image<R: Files + AllocGlobal>(
 /// Makes a file of erased bytes, as many as `sectors` sectors of `sector_size` bytes have.
 ///
 /// It is made under the name `PATH.new`, of which any file is overwritten, and renamed when it is
-/// whole: so there is a whole file under its name, or none. `Geometry` where a volume may not have
-/// these sizes, which is tried first,
-/// `Taken` where there is such a file already, `Write` where it can't be made or written, `Memory`.
+/// whole: so there is a whole file under its name, or none.
+///
+/// `Geometry` where a volume may not have these sizes, which is tried first, `Taken` where there is
+/// such a file already, `Write` where it can't be made or written, `Memory`.
 pub fn create_image<R: Files + AllocGlobal>(
     rt: &R,
     path: &str,

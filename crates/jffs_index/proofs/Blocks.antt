@@ -13,7 +13,8 @@ use Rattle.std.proofs.lemmas.List.{nil_from_length, length-replicate, get_or-rep
 use Rattle.jffs_tree.specs.declared.wish.Outcome.{Outcome}
 use Rattle.jffs_tree.specs.declared.wish.Outcome.TheVariants.{Closed}
 use Rattle.jffs_index.specs.declared.block.Slots.{Slots}
-use Rattle.jffs_index.specs.Outcomes.{Outcomes, request_cmp, outcome_at, with_outcome, without_outcome}
+use Rattle.jffs_index.specs.declared.block.TheConstants.{SLOTS}
+use Rattle.jffs_index.specs.Outcomes.{Outcomes, request_cmp, outcome_at, with_outcome, restored}
 use Rattle.jffs_index.specs.Blocks.{slot, slot_in, Blocks, Entries, with_slot, with_slots, entries_of, outcomes_of}
 use Rattle.jffs_index.proofs.Entered.{tied_same, at_itself, back_at}
 
@@ -39,52 +40,52 @@ get-with_slot m k None q = map.get-remove request_total m k q
 get-with_slot m k (Some outcome) q = map.get-insert request_total m k outcome q
 
 module _ (m : Entries) (k : ℕ × ℕ) (slots : Slots) where
-  at_slot : (n i : ℕ) → i < n → map.get (with_slots m k slots n) (k.0, k.1 * 32 + i) ≡ slot slots i
+  at_slot : (n i : ℕ) → i < n → map.get (with_slots m k slots n) (k.0, k.1 * SLOTS + i) ≡ slot slots i
   unfolding with_slots
   at_slot zero i below = absurd (omega arith)
   at_slot (suc n) i below =
-      get-with_slot (with_slots m k slots n) (k.0, k.1 * 32 + n) (slot slots n) (k.0, k.1 * 32 + i)
+      get-with_slot (with_slots m k slots n) (k.0, k.1 * SLOTS + n) (slot slots n) (k.0, k.1 * SLOTS + i)
       ∙ ⊎_elim here (earlier (at_slot n i)) (cases_eq i n)
     where
       found : ℕ → Type 0
-      found j = cond (is_eq (request_cmp (k.0, k.1 * 32 + j) (k.0, k.1 * 32 + n))) (slot slots n) (map.get (with_slots m k slots n) (k.0, k.1 * 32 + j)) ≡ slot slots j
+      found j = cond (is_eq (request_cmp (k.0, k.1 * SLOTS + j) (k.0, k.1 * SLOTS + n))) (slot slots n) (map.get (with_slots m k slots n) (k.0, k.1 * SLOTS + j)) ≡ slot slots j
 
       here : i ≡ n → found i
-      here same = subst found (sym same) (cond-true _ _ _ (at_itself (k.0, k.1 * 32 + n)))
+      here same = subst found (sym same) (cond-true _ _ _ (at_itself (k.0, k.1 * SLOTS + n)))
 
-      earlier : (i < n → map.get (with_slots m k slots n) (k.0, k.1 * 32 + i) ≡ slot slots i) → (i ≡ n → ⊥) → found i
-      earlier rest other = cond-false _ _ _ (apart (k.0, k.1 * 32 + i) (k.0, k.1 * 32 + n) (λ e. other (omega (arith, ap (λ (p : ℕ × ℕ). p.1) e)))) ∙ rest (omega arith)
+      earlier : (i < n → map.get (with_slots m k slots n) (k.0, k.1 * SLOTS + i) ≡ slot slots i) → (i ≡ n → ⊥) → found i
+      earlier rest other = cond-false _ _ _ (apart (k.0, k.1 * SLOTS + i) (k.0, k.1 * SLOTS + n) (λ e. other (omega (arith, ap (λ (p : ℕ × ℕ). p.1) e)))) ∙ rest (omega arith)
 
-  past_slots : (n : ℕ) (q : ℕ × ℕ) → ((i : ℕ) → i < n → AreSame q (k.0, k.1 * 32 + i) → ⊥) → map.get (with_slots m k slots n) q ≡ map.get m q
+  past_slots : (n : ℕ) (q : ℕ × ℕ) → ((i : ℕ) → i < n → AreSame q (k.0, k.1 * SLOTS + i) → ⊥) → map.get (with_slots m k slots n) q ≡ map.get m q
   unfolding with_slots
   past_slots zero q none = refl
   past_slots (suc n) q none =
-      get-with_slot (with_slots m k slots n) (k.0, k.1 * 32 + n) (slot slots n) q
-      ∙ cond-false _ _ _ (apart q (k.0, k.1 * 32 + n) (none n (omega arith)))
+      get-with_slot (with_slots m k slots n) (k.0, k.1 * SLOTS + n) (slot slots n) q
+      ∙ cond-false _ _ _ (apart q (k.0, k.1 * SLOTS + n) (none n (omega arith)))
       ∙ past_slots n q (λ i below. none i (omega arith))
 
 -- an outcome is found in the slot of its number
-found_in : (blocks : Blocks) (w s : ℕ) → map.get (entries_of blocks) (w, s) ≡ slot_in (lookup (is_at (request_cmp (w, s / 32))) blocks) (s % 32)
+found_in : (blocks : Blocks) (w s : ℕ) → map.get (entries_of blocks) (w, s) ≡ slot_in (lookup (is_at (request_cmp (w, s / SLOTS))) blocks) (s % SLOTS)
 found_in [] w s = map.get-empty request_cmp (w, s)
-found_in (e ∷ blocks) w s = test (found_in blocks w s) (is_eq (request_cmp (w, s / 32) e.0)) refl
+found_in (e ∷ blocks) w s = test (found_in blocks w s) (is_eq (request_cmp (w, s / SLOTS) e.0)) refl
   where
-    test : map.get (entries_of blocks) (w, s) ≡ slot_in (lookup (is_at (request_cmp (w, s / 32))) blocks) (s % 32)
-        → (b : Bool) → is_eq (request_cmp (w, s / 32) e.0) ≡ b
-        → map.get (with_slots (entries_of blocks) e.0 e.1 32) (w, s) ≡ slot_in (cond b (Some e.1) (lookup (is_at (request_cmp (w, s / 32))) blocks)) (s % 32)
+    test : map.get (entries_of blocks) (w, s) ≡ slot_in (lookup (is_at (request_cmp (w, s / SLOTS))) blocks) (s % SLOTS)
+        → (b : Bool) → is_eq (request_cmp (w, s / SLOTS) e.0) ≡ b
+        → map.get (with_slots (entries_of blocks) e.0 e.1 SLOTS) (w, s) ≡ slot_in (cond b (Some e.1) (lookup (is_at (request_cmp (w, s / SLOTS))) blocks)) (s % SLOTS)
     test rest true is =
-        subst (λ (k : ℕ × ℕ). map.get (with_slots (entries_of blocks) k e.1 32) (w, s) ≡ slot e.1 (s % 32)) (tied_same (w, s / 32) e.0 is)
-        (ap (λ n. map.get (with_slots (entries_of blocks) (w, s / 32) e.1 32) (w, n)) parts ∙ at_slot (entries_of blocks) (w, s / 32) e.1 32 (s % 32) (omega arith))
+        subst (λ (k : ℕ × ℕ). map.get (with_slots (entries_of blocks) k e.1 SLOTS) (w, s) ≡ slot e.1 (s % SLOTS)) (tied_same (w, s / SLOTS) e.0 is)
+        (ap (λ n. map.get (with_slots (entries_of blocks) (w, s / SLOTS) e.1 SLOTS) (w, n)) parts ∙ at_slot (entries_of blocks) (w, s / SLOTS) e.1 SLOTS (s % SLOTS) (omega arith))
       where
-        parts : s ≡ s / 32 * 32 + s % 32
+        parts : s ≡ s / SLOTS * SLOTS + s % 32
         parts = omega arith
-    test rest false is = past_slots (entries_of blocks) e.0 e.1 32 (w, s) away ∙ rest
+    test rest false is = past_slots (entries_of blocks) e.0 e.1 SLOTS (w, s) away ∙ rest
       where
-        away : (i : ℕ) → i < 32 → AreSame (w, s) (e.0.0, e.0.1 * 32 + i) → ⊥
+        away : (i : ℕ) → i < SLOTS → AreSame (w, s) (e.0.0, e.0.1 * SLOTS + i) → ⊥
         away i below same =
-            let n : s ≡ e.0.1 * 32 + i = ap (λ (p : ℕ × ℕ). p.1) same in
-            let block : s / 32 ≡ e.0.1 = omega arith in
-            let k : AreSame (w, s / 32) e.0 = λ j. ((same j).0, block j) in
-            true≢false (sym (subst (λ (z : ℕ × ℕ). is_eq (request_cmp (w, s / 32) z) ≡ true) k (at_itself (w, s / 32))) ∙ is)
+            let n : s ≡ e.0.1 * SLOTS + i = ap (λ (p : ℕ × ℕ). p.1) same in
+            let block : s / SLOTS ≡ e.0.1 = omega arith in
+            let k : AreSame (w, s / SLOTS) e.0 = λ j. ((same j).0, block j) in
+            true≢false (sym (subst (λ (z : ℕ × ℕ). is_eq (request_cmp (w, s / SLOTS) z) ≡ true) k (at_itself (w, s / SLOTS))) ∙ is)
 
 find_lookup : (q : ℕ × ℕ) (es : Outcomes) → entries.find request_cmp q es ≡ lookup (is_at (request_cmp q)) es
 find_lookup q [] = refl
@@ -98,7 +99,7 @@ pub none_entered : outcomes_of [] ≡ []
 none_entered = nil_from_length (map.entries map.empty) (sym (map.len-entries (map.empty {X = Outcome} {R = request_cmp})) ∙ map.len-empty request_cmp Outcome)
 
 -- the outcome of a request is what its slot holds
-pub outcome_in : (blocks : Blocks) (w s : ℕ) → slot_in (lookup (is_at (request_cmp (w, s / 32))) blocks) (s % 32) ≡ outcome_at (outcomes_of blocks) w s
+pub outcome_in : (blocks : Blocks) (w s : ℕ) → slot_in (lookup (is_at (request_cmp (w, s / SLOTS))) blocks) (s % SLOTS) ≡ outcome_at (outcomes_of blocks) w s
 outcome_in blocks w s = sym (found_in blocks w s) ∙ get_lookup (entries_of blocks) (w, s)
 
 put_insert : (k : ℕ × ℕ) (v : Outcome) (es : Outcomes) → entries.put request_cmp k v es ≡ insert_entry request_cmp es k v
@@ -161,26 +162,26 @@ pub record SetsSlot (old new : Blocks) (w b p : ℕ) (v : Option Outcome) (slots
   pub block : (q : ℕ × ℕ) → lookup (is_at (request_cmp q)) new ≡ cond (is_at (request_cmp (w, b)) q) (Some slots) (lookup (is_at (request_cmp q)) old)
   pub held : (i : ℕ) → slot slots i ≡ cond (eqb i p) v (slot_in (lookup (is_at (request_cmp (w, b))) old) i)
 
-module _ (old new : Blocks) (w s : ℕ) (v : Option Outcome) (slots : Slots) (sets : SetsSlot old new w (s / 32) (s % 32) v slots) where
-  same_block : (t : ℕ) → s / 32 ≡ t / 32 → slot slots (t % 32) ≡ cond (is_eq (request_cmp (w, t) (w, s))) v (slot_in (lookup (is_at (request_cmp (w, s / 32))) old) (t % 32))
-  same_block t block = sets.held (t % 32) ∙ ap (λ b. cond b v (slot_in (lookup (is_at (request_cmp (w, s / 32))) old) (t % 32))) (⊎_elim here other (cases_eq t s))
+module _ (old new : Blocks) (w s : ℕ) (v : Option Outcome) (slots : Slots) (sets : SetsSlot old new w (s / SLOTS) (s % SLOTS) v slots) where
+  same_block : (t : ℕ) → s / SLOTS ≡ t / SLOTS → slot slots (t % SLOTS) ≡ cond (is_eq (request_cmp (w, t) (w, s))) v (slot_in (lookup (is_at (request_cmp (w, s / SLOTS))) old) (t % SLOTS))
+  same_block t block = sets.held (t % SLOTS) ∙ ap (λ b. cond b v (slot_in (lookup (is_at (request_cmp (w, s / SLOTS))) old) (t % SLOTS))) (⊎_elim here other (cases_eq t s))
     where
-      here : t ≡ s → eqb (t % 32) (s % 32) ≡ is_eq (request_cmp (w, t) (w, s))
-      here same = eq-eqb (t % 32) (s % 32) (ap (λ n. n % 32) same) ∙ sym (subst (λ n. is_eq (request_cmp (w, n) (w, s)) ≡ true) (sym same) (at_itself (w, s)))
+      here : t ≡ s → eqb (t % SLOTS) (s % SLOTS) ≡ is_eq (request_cmp (w, t) (w, s))
+      here same = eq-eqb (t % SLOTS) (s % SLOTS) (ap (λ n. n % SLOTS) same) ∙ sym (subst (λ n. is_eq (request_cmp (w, n) (w, s)) ≡ true) (sym same) (at_itself (w, s)))
 
-      other : (t ≡ s → ⊥) → eqb (t % 32) (s % 32) ≡ is_eq (request_cmp (w, t) (w, s))
-      other differ = ne_eqb (t % 32) (s % 32) (λ e. differ (omega arith)) ∙ sym (apart (w, t) (w, s) (λ e. differ (ap (λ (p : ℕ × ℕ). p.1) e)))
+      other : (t ≡ s → ⊥) → eqb (t % SLOTS) (s % SLOTS) ≡ is_eq (request_cmp (w, t) (w, s))
+      other differ = ne_eqb (t % SLOTS) (s % SLOTS) (λ e. differ (omega arith)) ∙ sym (apart (w, t) (w, s) (λ e. differ (ap (λ (p : ℕ × ℕ). p.1) e)))
 
-  set_at : (x t : ℕ) (b : Bool) → is_eq (request_cmp (w, s / 32) (x, t / 32)) ≡ b
-      → slot_in (cond b (Some slots) (lookup (is_at (request_cmp (x, t / 32))) old)) (t % 32) ≡ cond (is_eq (request_cmp (x, t) (w, s))) v (slot_in (lookup (is_at (request_cmp (x, t / 32))) old) (t % 32))
+  set_at : (x t : ℕ) (b : Bool) → is_eq (request_cmp (w, s / SLOTS) (x, t / SLOTS)) ≡ b
+      → slot_in (cond b (Some slots) (lookup (is_at (request_cmp (x, t / SLOTS))) old)) (t % SLOTS) ≡ cond (is_eq (request_cmp (x, t) (w, s))) v (slot_in (lookup (is_at (request_cmp (x, t / SLOTS))) old) (t % SLOTS))
   set_at x t true is =
-      let both = tied_same (w, s / 32) (x, t / 32) is in
+      let both = tied_same (w, s / SLOTS) (x, t / SLOTS) is in
       let here = same_block t (ap (λ (p : ℕ × ℕ). p.1) both) in
-      subst (λ (p : ℕ × ℕ). slot slots (t % 32) ≡ cond (is_eq (request_cmp (p.0, t) (w, s))) v (slot_in (lookup (is_at (request_cmp p)) old) (t % 32))) both here
+      subst (λ (p : ℕ × ℕ). slot slots (t % SLOTS) ≡ cond (is_eq (request_cmp (p.0, t) (w, s))) v (slot_in (lookup (is_at (request_cmp p)) old) (t % SLOTS))) both here
   set_at x t false is = sym (cond-false _ _ _ (apart (x, t) (w, s) differ))
     where
       differ : AreSame (x, t) (w, s) → ⊥
-      differ same = true≢false (sym (at_itself (w, s / 32)) ∙ ap (λ (p : ℕ × ℕ). is_eq (request_cmp (w, s / 32) (p.0, p.1 / 32))) (sym same) ∙ is)
+      differ same = true≢false (sym (at_itself (w, s / SLOTS)) ∙ ap (λ (p : ℕ × ℕ). is_eq (request_cmp (w, s / SLOTS) (p.0, p.1 / SLOTS))) (sym same) ∙ is)
 
   slot_set : entries_of new ≡ with_slot (entries_of old) (w, s) v
   slot_set = map.same_map request_total request_same (entries_of new) (with_slot (entries_of old) (w, s) v) alike
@@ -188,35 +189,57 @@ module _ (old new : Blocks) (w s : ℕ) (v : Option Outcome) (slots : Slots) (se
       alike : (q : ℕ × ℕ) → map.get (entries_of new) q ≡ map.get (with_slot (entries_of old) (w, s) v) q
       alike q =
           found_in new q.0 q.1
-          ∙ ap (λ o. slot_in o (q.1 % 32)) (sets.block (q.0, q.1 / 32))
-          ∙ set_at q.0 q.1 (is_eq (request_cmp (w, s / 32) (q.0, q.1 / 32))) refl
+          ∙ ap (λ o. slot_in o (q.1 % SLOTS)) (sets.block (q.0, q.1 / SLOTS))
+          ∙ set_at q.0 q.1 (is_eq (request_cmp (w, s / SLOTS) (q.0, q.1 / SLOTS))) refl
           ∙ sym (get-with_slot (entries_of old) (w, s) v q ∙ ap (cond (is_eq (request_cmp q (w, s))) v) (found_in old q.0 q.1))
 
-module _ (old new : Blocks) (w s b p : ℕ) (block : b ≡ s / 32) (place : p ≡ s % 32) where
-  at_place : (v : Option Outcome) (slots : Slots) → SetsSlot old new w b p v slots → SetsSlot old new w (s / 32) (s % 32) v slots
-  at_place v slots sets = subst (λ n. SetsSlot old new w (s / 32) n v slots) place (subst (λ n. SetsSlot old new w n p v slots) block sets)
+module _ (old new : Blocks) (w s b p : ℕ) (block : b ≡ s / SLOTS) (place : p ≡ s % SLOTS) where
+  at_place : (v : Option Outcome) (slots : Slots) → SetsSlot old new w b p v slots → SetsSlot old new w (s / SLOTS) (s % SLOTS) v slots
+  at_place v slots sets = subst (λ n. SetsSlot old new w (s / SLOTS) n v slots) place (subst (λ n. SetsSlot old new w n p v slots) block sets)
 
-  -- a slot that gets an outcome
-  pub outcome_entered : (outcome : Outcome) (slots : Slots) → SetsSlot old new w b p (Some outcome) slots → outcomes_of new ≡ with_outcome (outcomes_of old) w s outcome
-  outcome_entered outcome slots sets =
-      ap map.entries (slot_set old new w s (Some outcome) slots (at_place (Some outcome) slots sets)) ∙ entries_with (entries_of old) (w, s) outcome
+  -- a slot that is set or emptied
+  pub outcome_set : (v : Option Outcome) (slots : Slots) → SetsSlot old new w b p v slots → outcomes_of new ≡ restored (outcomes_of old) w s v
+  outcome_set v slots sets = ap map.entries (slot_set old new w s v slots (at_place v slots sets)) ∙ with-slot v
+    where
+      with-slot : (v : Option Outcome) → map.entries (with_slot (entries_of old) (w, s) v) ≡ restored (outcomes_of old) w s v
+      with-slot None = entries_without (entries_of old) (w, s)
+      with-slot (Some outcome) = entries_with (entries_of old) (w, s) outcome
 
-  -- a slot that is emptied
-  pub outcome_left : (slots : Slots) → SetsSlot old new w b p None slots → outcomes_of new ≡ without_outcome (outcomes_of old) w s
-  outcome_left slots sets = ap map.entries (slot_set old new w s None slots (at_place None slots sets)) ∙ entries_without (entries_of old) (w, s)
-
-module _ (blocks : Blocks) (w s b : ℕ) (block : b ≡ s / 32) where
+module _ (blocks : Blocks) (w s b : ℕ) (block : b ≡ s / SLOTS) where
   -- what a look-up finds
-  pub outcome_found : (p : ℕ) → p ≡ s % 32 → (found : Option Slots) → found ≡ lookup (is_at (request_cmp (w, b))) blocks → slot_in found p ≡ outcome_at (outcomes_of blocks) w s
+  pub outcome_found : (p : ℕ) → p ≡ s % SLOTS → (found : Option Slots) → found ≡ lookup (is_at (request_cmp (w, b))) blocks → slot_in found p ≡ outcome_at (outcomes_of blocks) w s
   outcome_found p place found is =
-      ap (slot_in found) place ∙ ap (λ o. slot_in o (s % 32)) (is ∙ ap (λ n. lookup (is_at (request_cmp (w, n))) blocks) block) ∙ outcome_in blocks w s
+      ap (slot_in found) place ∙ ap (λ o. slot_in o (s % SLOTS)) (is ∙ ap (λ n. lookup (is_at (request_cmp (w, n))) blocks) block) ∙ outcome_in blocks w s
 
   -- a request without a block has no outcome
   pub no_outcome : None ≡ lookup (is_at (request_cmp (w, b))) blocks → outcome_at (outcomes_of blocks) w s ≡ None
-  no_outcome none = sym (outcome_found (s % 32) refl None none)
+  no_outcome none = sym (outcome_found (s % SLOTS) refl None none)
 
-  pub none_left : None ≡ lookup (is_at (request_cmp (w, b))) blocks → outcomes_of blocks ≡ without_outcome (outcomes_of blocks) w s
-  none_left none = sym (none_removed (w, s) (outcomes_of blocks) (no_outcome none))
+-- what stood there is put back
+module _ (blocks : Blocks) (w s : ℕ) where
+  pub put_back : (outcome : Outcome) (was : Option Outcome) → was ≡ outcome_at (outcomes_of blocks) w s → restored (with_outcome (outcomes_of blocks) w s outcome) w s was ≡ outcomes_of blocks
+  put_back outcome None none = back_at (w, s) outcome (outcomes_of blocks) (sym none)
+  put_back outcome (Some v) some =
+      ap (λ (es : Outcomes). with_outcome es w s v) (sym (entries_with m (w, s) outcome)) ∙ sym (entries_with (map.insert m (w, s) outcome) (w, s) v) ∙ ap map.entries whole
+    where
+      m : Entries
+      m = entries_of blocks
+
+      there : map.get m (w, s) ≡ Some v
+      there = get_lookup m (w, s) ∙ sym some
+
+      again : (q : ℕ × ℕ) (b : Bool) → is_eq (request_cmp q (w, s)) ≡ b → cond b (Some v) (cond b (Some outcome) (map.get m q)) ≡ map.get m q
+      again q true is = sym (ap (map.get m) (tied_same q (w, s) is) ∙ there)
+      again q false is = refl
+
+      whole : map.insert (map.insert m (w, s) outcome) (w, s) v ≡ m
+      whole = map.same_map request_total request_same (map.insert (map.insert m (w, s) outcome) (w, s) v) m both
+        where
+          both : (q : ℕ × ℕ) → map.get (map.insert (map.insert m (w, s) outcome) (w, s) v) q ≡ map.get m q
+          both q =
+              map.get-insert request_total (map.insert m (w, s) outcome) (w, s) v q
+              ∙ ap (cond (is_eq (request_cmp q (w, s))) (Some v)) (map.get-insert request_total m (w, s) outcome q)
+              ∙ again q (is_eq (request_cmp q (w, s))) refl
 
 -- a slot that nothing was put into
 pub none_filled : (n at : ℕ) → get_or (replicate n false) at false ≡ false

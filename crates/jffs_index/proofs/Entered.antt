@@ -9,7 +9,7 @@ use Rattle.std.specs.BTreeMap.{insert_entry, is_at}
 use Rattle.std.proofs.lemmas.Bool.{eqb-true, eq-eqb, and_parts, true≢false, cond-true}
 use Rattle.jffs_tree.specs.declared.wish.Outcome.{Outcome}
 use Rattle.jffs_tree.proofs.Pointwise.{same_either_way}
-use Rattle.jffs_index.specs.Outcomes.{Outcomes, request_cmp, outcome_at, with_outcome, without_outcome}
+use Rattle.jffs_index.specs.Outcomes.{Outcomes, request_cmp, outcome_at, with_outcome}
 
 -- two requests tie only where they are the same
 same_request : (writer seq w s : ℕ) → is_at (request_cmp (writer, seq)) (w, s) ≡ (eqb writer w && eqb seq s)
@@ -75,7 +75,8 @@ module _ (k : ℕ × ℕ) (v : Outcome) where
   back_at [] none = cond-true _ _ _ (at_itself k)
   back_at (e ∷ es) none = back_step e es (insert_entry request_cmp es k v) (back_at es) (request_cmp k e.0) refl none
 
--- an outcome that was entered as the first of its request is taken back
-pub taken_back : (outcomes : Outcomes) (writer seq : ℕ) (outcome : Outcome) → outcome_at outcomes writer seq ≡ None
-    → without_outcome (with_outcome outcomes writer seq outcome) writer seq ≡ outcomes
-taken_back outcomes writer seq outcome none = back_at (writer, seq) outcome outcomes none
+-- an outcome that was entered stands there
+pub entered_there : (outcomes : Outcomes) (writer seq : ℕ) (outcome : Outcome) → outcome_at (with_outcome outcomes writer seq outcome) writer seq ≡ Some outcome
+entered_there outcomes writer seq outcome =
+    found_entered outcomes writer seq writer seq outcome
+    ∙ (λ i. cond (eq-eqb writer writer refl i && eq-eqb seq seq refl i) (Some outcome) (outcome_at outcomes writer seq))

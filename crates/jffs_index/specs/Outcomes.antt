@@ -1,5 +1,5 @@
 -- How requests were answered: the latest outcome for each sender and number, in their order.
-use Rattle.std.specs.Prelude.{◌≡◌, ℕ, ◌==◌, ◌&&◌, List, Option, Some, if◌then◌else◌}
+use Rattle.std.specs.Prelude.{◌≡◌, ℕ, ◌==◌, ◌&&◌, List, Option, Some, None, if◌then◌else◌}
 use Rattle.std.specs.Ordering.{nat_cmp, ordering_then}
 use Rattle.std.specs.declared.cmp.Ordering.{Ordering}
 use Rattle.std.specs.Map.{lookup, remove_entry}
@@ -19,8 +19,10 @@ outcome_at outcomes writer seq = lookup (is_at (request_cmp (writer, seq))) outc
 abbrev pub with_outcome : Outcomes → ℕ → ℕ → Outcome → Outcomes
 with_outcome outcomes writer seq outcome = insert_entry request_cmp outcomes (writer, seq) outcome
 
-abbrev pub without_outcome : Outcomes → ℕ → ℕ → Outcomes
-without_outcome outcomes writer seq = remove_entry (is_at (request_cmp (writer, seq))) outcomes
+-- with what stood there before an outcome was entered
+abbrev pub restored : Outcomes → ℕ → ℕ → Option Outcome → Outcomes
+restored outcomes writer seq None = remove_entry (is_at (request_cmp (writer, seq))) outcomes
+restored outcomes writer seq (Some outcome) = with_outcome outcomes writer seq outcome
 
 -- The latest outcome of a request counts, and those of others stay.
 abbrev pub LatestCounts : Type 0

@@ -61,21 +61,26 @@ impl Block {
         }
     }
 
-    /// Puts an outcome into a slot, in place of one that it holds.
-    pub(crate) fn put(&mut self, at: usize, outcome: Outcome)
+    /// Sets a slot to an outcome or to none, and returns what it held.
+    pub(crate) fn set(&mut self, at: usize, outcome: Option<Outcome>) -> Option<Outcome>
+        requires { at < SLOTS }
+        ensures held { result ≡ slot self.old at }
+        ensures set { (k : ℕ) → slot self.new k ≡ (if k == at then outcome else slot self.old k) }
+    {
+        let held = self.get(at);
+        match outcome {
+            Some(outcome) => self.fill(at, outcome),
+            None => self.slots.filled[at] = false,
+        }
+        held
+    }
+
+    fn fill(&mut self, at: usize, outcome: Outcome)
         requires { at < SLOTS }
         ensures { (k : ℕ) → slot self.new k ≡ (if k == at then Some outcome else slot self.old k) }
     {
         let slots = &mut *self.slots;
         slots.filled[at] = true;
         slots.outcomes[at] = outcome;
-    }
-
-    /// Takes the outcome out of a slot, if it holds one.
-    pub(crate) fn clear(&mut self, at: usize)
-        requires { at < SLOTS }
-        ensures { (k : ℕ) → slot self.new k ≡ (if k == at then None else slot self.old k) }
-    {
-        self.slots.filled[at] = false;
     }
 }

@@ -1,6 +1,6 @@
 //! How requests were answered, by their sender and number.
-ghost use Rattle.std.specs.Prelude.{◌≡◌, ◌/◌, ◌%◌, [], OnOk, OnErr, None};
-ghost use Rattle.jffs_index.specs.Outcomes.{outcome_at, with_outcome, without_outcome};
+ghost use Rattle.std.specs.Prelude.{◌≡◌, ◌/◌, ◌%◌, [], OnOk, OnErr, IfOk, IsSome};
+ghost use Rattle.jffs_index.specs.Outcomes.{outcome_at, with_outcome, restored};
 
 use crate::block::{Block, SLOTS};
 use jffs_tree::Outcome;
@@ -48,34 +48,35 @@ impl Outcomes {
         }
     }
 
-    /// Enters an outcome. Only a request that has none yet takes memory; where that is refused
-    /// nothing changes.
+    /// Enters an outcome, and returns what stood there. Only a request that has none yet takes
+    /// memory; where that is refused nothing changes.
     pub(crate) fn enter(
         &mut self,
         writer: u16,
         seq: u32,
         outcome: Outcome,
-    ) -> Result<(), AllocError>
+    ) -> Result<Option<Outcome>, AllocError>
         ensures entered { OnOk result (self.new ≡ with_outcome self.old writer seq outcome) }
+        ensures back { IfOk result (λ was. restored self.new writer seq was ≡ self.old) }
         ensures refused { OnErr result (self.new ≡ self.old) }
-        ensures new { OnErr result (outcome_at self.old writer seq ≡ None) }
     {
         let key = (writer, block_of(seq));
         if let Some(block) = self.by_block.get_mut(&key) {
-            block.put(slot_of(seq), outcome);
-            return Ok(());
+            return Ok(block.set(slot_of(seq), Some(outcome)));
         }
         let mut block = Block::empty(self.alloc)?;
-        block.put(slot_of(seq), outcome);
+        block.set(slot_of(seq), Some(outcome));
         self.by_block.insert(key, block)?;
-        Ok(())
+        Ok(None)
     }
 
-    pub(crate) fn leave(&mut self, writer: u16, seq: u32)
-        ensures { self.new ≡ without_outcome self.old writer seq }
+    /// Puts back what stood there before an outcome was entered.
+    pub(crate) fn restore(&mut self, writer: u16, seq: u32, was: Option<Outcome>)
+        requires { IsSome (outcome_at self.old writer seq) }
+        ensures { self.new ≡ restored self.old writer seq was }
     {
         if let Some(block) = self.by_block.get_mut(&(writer, block_of(seq))) {
-            block.clear(slot_of(seq));
+            block.set(slot_of(seq), was);
         }
     }
 }

@@ -167,9 +167,9 @@ impl View {
         Ok(())
     }
 
-    #[tactic(auto, using(crate::proofs::Entered::taken_back))]
-    /// Enters a step's outcome and applies its node. The one that may be refused memory comes
-    /// first, or is taken back.
+    #[tactic(auto, using(crate::proofs::Entered::entered_there))]
+    /// Enters a step's outcome and applies its node. The outcome is taken back where memory is
+    /// refused for the node.
     fn enter(&mut self, step: &Step) -> Result<(), AllocError>
         ensures entered { OnOk result
             (self.new ≡ record self.old {
@@ -185,13 +185,9 @@ impl View {
             outcome,
             node,
         } = step;
-        if self.outcomes.get(*writer, *seq).is_some() {
-            apply_fitting(&mut self.tree, node)?;
-            return self.outcomes.enter(*writer, *seq, *outcome);
-        }
-        self.outcomes.enter(*writer, *seq, *outcome)?;
+        let was = self.outcomes.enter(*writer, *seq, *outcome)?;
         if let Err(refused) = apply_fitting(&mut self.tree, node) {
-            self.outcomes.leave(*writer, *seq);
+            self.outcomes.restore(*writer, *seq, was);
             return Err(refused);
         }
         Ok(())

@@ -6,8 +6,8 @@ use std::sync::atomic::{AtomicU64, Ordering};
 use std::time::Duration;
 
 /// How many pauses let others run before the first sleep. With fewer a writer at a full line and
-/// the log thread at an empty one go to sleep in turn; more make no run faster, and take more of the
-/// processor.
+/// the log thread at an empty one go to sleep in turn; more take more of the processor, and make
+/// only runs over lines of a few requests a little faster.
 const ROUNDS: u32 = 20;
 
 /// The first sleep, in microseconds, to which the system adds some fifty.

@@ -2,7 +2,7 @@ use Rattle.std.proofs.Common.{Some, length, cond, eqb, ap, ◌∙◌, arith}
 use Rattle.jffs_index.specs.declared.block.Slots.{Slots}
 use Rattle.jffs_index.specs.Blocks.{slot}
 use Rattle.jffs_index.proofs.Blocks.{slot_put}
-use Rattle.jffs_index.proofs.block.Block.put.Goals as goal
+use Rattle.jffs_index.proofs.block.Block.fill.Goals as goal
 
 pub returns : goal.returns
 returns c = λ k.

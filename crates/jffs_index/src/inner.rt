@@ -11,6 +11,7 @@ use crate::rule::{
 use crate::sight::Sight;
 use crate::step::Step;
 use crate::view::View;
+use core::mem::replace_with;
 use jffs_node::NoMemory;
 use jffs_tree::Tree;
 use left_right::writer::Writer;
@@ -137,20 +138,18 @@ impl Inner {
         }
     }
 
-    /// Publishes all pending steps at once, and gives the writer back.
+    /// Publishes all pending steps at once.
     ///
     /// `NoMemory` if allocation failed: nothing is published, and the steps are still pending.
-    pub fn publish_once<R: Wait>(self, rt: &R) -> (Inner, Result<(), NoMemory>)
-        ensures index { result.0.index ≡ self.index }
-        ensures published { MatchResult result.1
-            (λ _. (result.0.published ≡ all_put self) × (result.0.pending ≡ []))
-            (λ _. (result.0.published ≡ self.published) × (result.0.pending ≡ self.pending)) }
+    pub fn publish<R: Wait>(&mut self, rt: &R) -> Result<(), NoMemory>
+        ensures index { self.new.index ≡ self.old.index }
+        ensures published { MatchResult result
+            (λ _. (self.new.published ≡ all_put self.old) × (self.new.pending ≡ []))
+            (λ _. (self.new.published ≡ self.old.published)
+            × (self.new.pending ≡ self.old.pending)) }
     {
-        let mut inner = self;
-        match inner.log_batch::<Brand>() {
-            Ok(()) => inner.publish_logged(rt),
-            Err(fault) => (inner, Err(fault)),
-        }
+        self.log_batch::<Brand>()?;
+        self.publish_logged(rt)
     }
 
     // Adds all that the history lacks to it.
@@ -183,35 +182,21 @@ impl Inner {
         Ok(())
     }
 
-    fn publish_logged<R: Wait>(self, rt: &R) -> (Inner, Result<(), NoMemory>)
-        requires { self.unlogged ≡ [] }
-        ensures index { result.0.index ≡ self.index }
-        ensures published { MatchResult result.1
-            (λ _. (result.0.published ≡ all_put self) × (result.0.pending ≡ []))
-            (λ _. (result.0.published ≡ self.published) × (result.0.pending ≡ self.pending)) }
+    fn publish_logged<R: Wait>(&mut self, rt: &R) -> Result<(), NoMemory>
+        requires { self.old.unlogged ≡ [] }
+        ensures index { self.new.index ≡ self.old.index }
+        ensures published { MatchResult result
+            (λ _. (self.new.published ≡ all_put self.old) × (self.new.pending ≡ []))
+            (λ _. (self.new.published ≡ self.old.published)
+            × (self.new.pending ≡ self.old.pending)) }
     {
-        let Inner {
-            mut writer,
-            head,
-            seen,
-            logged,
-            put,
-        } = self;
-        let (writer, published) = match writer.append(Change::Reach(seen.again())) {
-            Ok(()) => match writer.publish_as::<Seeing, R>(rt) {
-                (writer, Ok(())) => (writer, Ok(())),
-                (writer, Err(_)) => (writer, Err(NoMemory)),
-            },
-            Err(_) => (writer, Err(NoMemory)),
+        let Ok(()) = self.writer.append(Change::Reach(self.seen.again())) else {
+            return Err(NoMemory);
         };
-        let inner = Inner {
-            writer,
-            head,
-            seen,
-            logged,
-            put,
-        };
-        (inner, published)
+        match replace_with(&mut self.writer, rt, IndexWriter::publish_as::<Seeing, R>) {
+            Ok(()) => Ok(()),
+            Err(_) => Err(NoMemory),
+        }
     }
 
     /// What readers look at now. Takes no memory.

@@ -7,7 +7,6 @@ use crate::inner::Inner;
 use crate::reader::{Reader, Told};
 use crate::step::Step;
 use crate::view::View;
-use core::mem::replace_with;
 use jffs_node::NoMemory;
 use jffs_tree::Tree;
 use std::alloc::{AllocError, Global};
@@ -84,11 +83,7 @@ impl<R: Wait + Drop> Publisher<R> {
             × (pending self.new ≡ pending self.old)) }
         ensures all { all_put self.new ≡ all_put self.old }
     {
-        replace_with(
-            &mut self.inner,
-            &self.rt,
-            |inner, rt| inner.publish_once(rt),
-        )
+        self.inner.publish(&self.rt)
     }
 
     /// What readers look at now. Takes no memory.

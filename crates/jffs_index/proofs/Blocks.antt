@@ -76,7 +76,7 @@ found_in (e ∷ blocks) w s = test (found_in blocks w s) (is_eq (request_cmp (w,
         subst (λ (k : ℕ × ℕ). map.get (with_slots (entries_of blocks) k e.1 SLOTS) (w, s) ≡ slot e.1 (s % SLOTS)) (tied_same (w, s / SLOTS) e.0 is)
         (ap (λ n. map.get (with_slots (entries_of blocks) (w, s / SLOTS) e.1 SLOTS) (w, n)) parts ∙ at_slot (entries_of blocks) (w, s / SLOTS) e.1 SLOTS (s % SLOTS) (omega arith))
       where
-        parts : s ≡ s / SLOTS * SLOTS + s % 32
+        parts : s ≡ s / SLOTS * SLOTS + s % SLOTS
         parts = omega arith
     test rest false is = past_slots (entries_of blocks) e.0 e.1 SLOTS (w, s) away ∙ rest
       where

@@ -11,7 +11,7 @@ use std::marker::Model;
 /// For each sender and number the latest outcome, found in logarithmic time.
 ///
 /// The numbers of a sender follow one another, so all its blocks but the last are full, and an
-/// outcome takes about 15 bytes. A number without neighbours takes a block of its own.
+/// outcome takes about 14 bytes. A number without neighbours takes a block of its own.
 #[derive(Drop)]
 pub(crate) struct Outcomes {
     alloc: Global,

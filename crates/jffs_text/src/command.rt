@@ -66,39 +66,51 @@ impl<'a> Command<'a> {
         mut words: Words<'a>,
     ) -> Result<Command<'a>, Mistake> {
         let path = words.take_spelled()?;
-        Ok(match edit {
-            Edit::MakeDir => Command::MakeDir(path),
-            Edit::Create => Command::Create(path),
-            Edit::Remove => Command::Remove(path),
-            Edit::Write => {
-                let offset = words.take_number(0, u32::MAX)?;
-                let bytes = Bytes::from_vec(words.take_bytes(alloc)?)?;
-                Command::Write {
-                    path,
-                    offset,
-                    bytes: Box::new(alloc, bytes)?,
-                }
-            }
-            Edit::Fill => {
-                let offset = words.take_number(0, u32::MAX)?;
-                let count = words.take_number(0, FILL_MAX)?;
-                let byte = words.take_byte()?;
-                Command::Fill {
-                    path,
-                    offset,
-                    count,
-                    byte,
-                }
-            }
-            Edit::Truncate => {
-                let size = words.take_number(0, u32::MAX)?;
-                Command::Truncate { path, size }
-            }
-            Edit::Rename => {
-                let to = words.take_spelled()?;
-                Command::Rename { from: path, to }
-            }
+        match edit {
+            Edit::MakeDir => Ok(Command::MakeDir(path)),
+            Edit::Create => Ok(Command::Create(path)),
+            Edit::Remove => Ok(Command::Remove(path)),
+            Edit::Write => Command::parse_write(alloc, path, words),
+            Edit::Fill => Command::parse_fill(path, words),
+            Edit::Truncate => Command::parse_truncate(path, words),
+            Edit::Rename => Command::parse_rename(path, words),
+        }
+    }
+
+    fn parse_write(
+        alloc: Global,
+        path: SpelledPath<'a>,
+        mut words: Words<'a>,
+    ) -> Result<Command<'a>, Mistake> {
+        let offset = words.take_number(0, u32::MAX)?;
+        let bytes = Bytes::from_vec(words.take_bytes(alloc)?)?;
+        Ok(Command::Write {
+            path,
+            offset,
+            bytes: Box::new(alloc, bytes)?,
         })
+    }
+
+    fn parse_fill(path: SpelledPath<'a>, mut words: Words<'a>) -> Result<Command<'a>, Mistake> {
+        let offset = words.take_number(0, u32::MAX)?;
+        let count = words.take_number(0, FILL_MAX)?;
+        let byte = words.take_byte()?;
+        Ok(Command::Fill {
+            path,
+            offset,
+            count,
+            byte,
+        })
+    }
+
+    fn parse_truncate(path: SpelledPath<'a>, mut words: Words<'a>) -> Result<Command<'a>, Mistake> {
+        let size = words.take_number(0, u32::MAX)?;
+        Ok(Command::Truncate { path, size })
+    }
+
+    fn parse_rename(from: SpelledPath<'a>, mut words: Words<'a>) -> Result<Command<'a>, Mistake> {
+        let to = words.take_spelled()?;
+        Ok(Command::Rename { from, to })
     }
 
     /// The wish of a command. The command stays: the wish has a path of its own, and shares the

@@ -80,9 +80,22 @@ pub(crate) fn split_at(fragments: &mut Fragments, size: u32, at: u32) -> Result<
     ensures cut { OnOk result (AreCut at fragments.new.entries) }
     ensures err { OnErr result (fragments.new.entries ≡ fragments.old.entries) }
 {
-    let Some(first) = across(fragments, size, at) else {
-        return Ok(());
-    };
+    match across(fragments, size, at) {
+        Some(first) => cut(fragments, size, first, at),
+        None => Ok(()),
+    }
+}
+
+/// Cuts the fragment that begins at an offset in two at another, in a file of a size. Where an
+/// allocation failed, nothing is cut.
+fn cut(fragments: &mut Fragments, size: u32, first: u32, at: u32) -> Result<(), AllocError>
+    requires laid { AreLaid 0 size fragments.old.entries × (size ≤ file_max) }
+    requires there { (f : Fragment) × (get nat_cmp fragments.old first ≡ Some f) × (first < at)
+        × (at < end_of (first, f)) }
+    ensures ok { OnOk result (SameCells fragments.old.entries fragments.new.entries) }
+    ensures cut { OnOk result (AreCut at fragments.new.entries) }
+    ensures err { OnErr result (fragments.new.entries ≡ fragments.old.entries) }
+{
     let Some(whole) = fragments.get(&first) else {
         return Ok(());
     };

@@ -103,13 +103,13 @@ impl Tree {
         ensures ok { OnOk result (self.new ≡ put_node self.old node.now) }
         ensures err { OnErr result (self.new ≡ self.old) }
     {
-        let place = self
-            .inode(node.inode)
-            .map(|found| (found.parent, found.name));
-        if is_place(&place, node.parent, &name) {
-            self.write_here(node, name)
-        } else {
-            self.write_elsewhere(node, name, place)
+        match self.inode(node.inode) {
+            Some(found) if found.is_child(node.parent, &name) => self.write_here(node, name),
+            Some(found) => {
+                let old = (found.parent, found.name);
+                self.write_elsewhere(node, name, Some(old))
+            }
+            None => self.write_elsewhere(node, name, None),
         }
     }
 
@@ -162,16 +162,6 @@ impl Tree {
             }
         }
         Ok(())
-    }
-}
-
-/// Whether a place in the tree, where there is one, is that name in that directory.
-fn is_place(place: &Option<(u32, Name)>, parent: u32, name: &Name) -> bool
-    ensures { result ≡ true → place.now ≡ Some (parent, name.now) }
-{
-    match place {
-        Some((directory, found)) => *directory == parent && found.bytes() == name.bytes(),
-        None => false,
     }
 }
 

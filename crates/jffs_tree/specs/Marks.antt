@@ -1,6 +1,6 @@
 -- How often each version is live, kept besides the inodes.
-use Rattle.std.specs.Prelude.{◌≡◌, ◌≢◌, ◌≤◌, ◌+◌, ℕ, ◌==◌, ◌&&◌, List, Some, count_by, sum_by}
-use Rattle.std.specs.Prelude.{flat_map, unwrap_or, if◌then◌else◌}
+use Rattle.std.specs.Prelude.{◌≡◌, ◌≢◌, ◌≤◌, ◌+◌, ℕ, ◌==◌, ◌&&◌, List, Option, Some, count_by, sum_by}
+use Rattle.std.specs.Prelude.{flat_map, option_map, unwrap_or, if◌then◌else◌}
 use Rattle.std.specs.List.{filter}
 use Rattle.std.specs.List.Sorted.{IsStrictlySortedBy}
 use Rattle.std.specs.Option.{option_map_or, option_to_list}
@@ -10,7 +10,7 @@ use Rattle.std.specs.declared.cmp.Reverse.{Reverse}
 use Rattle.std.specs.Map.{lookup, keys_of}
 use Rattle.std.specs.BTreeMap.{is_at}
 use Rattle.jffs_node.specs.declared.node.Node.{Node}
-use Rattle.jffs_node.specs.Record.{dsize}
+use Rattle.jffs_node.specs.Record.{dsize, file_max}
 use Rattle.jffs_tree.specs.Origin.{Held, Tree, versions_held}
 use Rattle.jffs_tree.specs.After.{held_in}
 
@@ -104,3 +104,9 @@ held_marks tree v i =
 -- the marks are those of the tree
 abbrev pub AreMarksOf : Tree → Counts → Type 0
 AreMarksOf tree counts = (v i : ℕ) → mark_of counts v i ≡ held_marks tree v i
+
+-- The inode's newest version, where it is present. No version has more marks there than a file has
+-- bytes, and that one.
+pub record HasNewest (tree : Tree) (inode : ℕ) (newest : Option ℕ) : Type 0 where
+  pub held : option_map (λ v. Some v) newest ≡ option_map (λ h. h.newest) (held_in tree inode)
+  pub few : (v : ℕ) → held_marks tree v inode ≤ file_max + 1

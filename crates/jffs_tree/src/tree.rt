@@ -2,15 +2,15 @@
 
 ghost use Rattle.std.specs.Prelude.{◌≡◌, ◌+◌, ◌≤◌, ℕ, ◌∷◌, [], List};
 ghost use Rattle.std.specs.Prelude.{true, false, Some, None, IsSome, IsTrue};
-ghost use Rattle.std.specs.Prelude.{OnOk, OnErr, IfErr, is_some, option_map, option_copied};
+ghost use Rattle.std.specs.Prelude.{OnOk, OnErr, IfErr, is_some};
 ghost use Rattle.jffs_node.specs.declared.node.Node.{Node};
-ghost use Rattle.jffs_node.specs.Record.{file_max, is_lawful};
+ghost use Rattle.jffs_node.specs.Record.{is_lawful};
 ghost use Rattle.jffs_tree.specs.Origin.{tree_of};
 ghost use Rattle.jffs_tree.specs.After.{held_in, keeps_offsets_in, tree_after, without_inode};
 ghost use Rattle.jffs_tree.specs.After.{put_node, IsSmall, IsWritable, IsWritten};
 ghost use Rattle.jffs_tree.specs.Look.{parent_name_in};
 ghost use Rattle.jffs_tree.specs.Marks.{AreMarksOf, SameMarks, HasMarksIn, MovesMarksIn};
-ghost use Rattle.jffs_tree.specs.Marks.{held_marks};
+ghost use Rattle.jffs_tree.specs.Marks.{HasNewest};
 
 use crate::children::{ChildKey, bears};
 use crate::inode::Inode;
@@ -103,41 +103,53 @@ impl Tree {
         ensures ok { OnOk result (self.new ≡ put_node self.old node.now) }
         ensures err { OnErr result (self.new ≡ self.old) }
     {
-        match self.inode(node.inode) {
-            Some(found) if found.is_child(node.parent, &name) => self.write_here(node, name),
-            Some(found) => {
-                let old = (found.parent, found.name);
-                self.write_elsewhere(node, name, Some(old))
-            }
-            None => self.write_elsewhere(node, name, None),
+        let Some(found) = self.inode(node.inode) else {
+            return self.write_elsewhere(node, name, None, None);
+        };
+        let newest = Some(found.newest);
+        if found.is_child(node.parent, &name) {
+            return self.write_here(node, name, newest);
         }
+        let place = (found.parent, found.name);
+        self.write_elsewhere(node, name, Some(place), newest)
     }
 
-    /// Writes a node over its inode, which stands where the node says.
-    fn write_here(&mut self, node: &Node, name: Name) -> Result<(), AllocError>
+    /// Writes a node over its inode, which stands where the node says and has that newest version.
+    fn write_here(&mut self, node: &Node, name: Name, newest: Option<u32>) -> Result<(), AllocError>
         requires named { node.now.name ≡ Some name }
         requires small { IsSmall node.now }
         requires offsets { IsTrue (keeps_offsets_in self.old node.now) }
         requires here { parent_name_in self.old node.now.inode ≡ Some (node.now.parent, name) }
+        requires newest { HasNewest self.old node.now.inode newest }
         ensures ok { OnOk result (self.new ≡ put_node self.old node.now) }
         ensures err { OnErr result (self.new ≡ self.old) }
     {
-        write_marked(self.alloc, &mut self.inodes, &mut self.marks, node, name)?;
+        write_marked(
+            self.alloc,
+            &mut self.inodes,
+            &mut self.marks,
+            node,
+            name,
+            newest,
+        )?;
         Ok(())
     }
 
-    /// Writes a node over its inode, whose key may change. The new key is entered first and the
-    /// old one left last, so that it can be taken back if allocation fails.
+    /// Writes a node over its inode, whose key may change, with the place and the newest version
+    /// that it has where it is present. The new key is entered first and the old one left last, so
+    /// that it can be taken back if allocation fails.
     fn write_elsewhere(
         &mut self,
         node: &Node,
         name: Name,
         old: Option<(u32, Name)>,
+        newest: Option<u32>,
     ) -> Result<(), AllocError>
         requires named { node.now.name ≡ Some name }
         requires small { IsSmall node.now }
         requires offsets { IsTrue (keeps_offsets_in self.old node.now) }
         requires was { old ≡ parent_name_in self.old node.now.inode }
+        requires newest { HasNewest self.old node.now.inode newest }
         ensures ok { OnOk result (self.new ≡ put_node self.old node.now) }
         ensures err { OnErr result (self.new ≡ self.old) }
     {
@@ -149,6 +161,7 @@ impl Tree {
             &mut self.marks,
             node,
             name,
+            newest,
         ) {
             if is_new {
                 self.children.remove(&key);
@@ -165,46 +178,35 @@ impl Tree {
     }
 }
 
-/// Writes a node over its inode in a map, present or not, and keeps the marks. Those that the
-/// node brings are added first, so that lowering is all that is left after the write.
+/// Writes a node over its inode in a map, present or not, with the newest version that it has
+/// there, and keeps the marks. Those that the node brings are added first, so that lowering is all
+/// that is left after the write.
 fn write_marked(
     alloc: Global,
     inodes: &mut Inodes,
     marks: &mut Marks,
     node: &Node,
     name: Name,
+    newest: Option<u32>,
 ) -> Result<(), AllocError>
     requires writable { IsWritable inodes.old node.now name }
     requires marked { AreMarksOf inodes.old marks.old }
+    requires newest { HasNewest inodes.old node.now.inode newest }
     ensures ok { OnOk result (IsWritten inodes.old inodes.new node.now) }
     ensures marks { OnOk result (AreMarksOf inodes.new marks.new) }
     ensures err { OnErr result
         ((inodes.new ≡ inodes.old) × SameMarks marks.old marks.new) }
 {
-    let left = newest_of(inodes, node.inode);
     let brought = node.bytes.as_slice().len() as u32 + 1;
     marks.raise(node.version, node.inode, brought)?;
-    if let Err(refused) = write_inode(alloc, inodes, marks, node, name, left.is_some()) {
+    if let Err(refused) = write_inode(alloc, inodes, marks, node, name, newest.is_some()) {
         marks.lower(node.version, node.inode, brought);
         return Err(refused);
     }
-    if let Some(version) = left {
+    if let Some(version) = newest {
         marks.lower(version, node.inode, 1);
     }
     Ok(())
-}
-
-/// The newest version of an inode in a map. No version has more marks there than a file has
-/// bytes, and that one.
-fn newest_of(inodes: &Inodes, inode: u32) -> Option<u32>
-    ensures held { option_map (λ v. Some v) result
-        ≡ option_map (λ h. h.newest) (held_in inodes.now inode) }
-    ensures few { (v : ℕ) → held_marks inodes.now v inode ≤ file_max + 1 }
-{
-    match inodes.get(inode) {
-        Some(found) => Some(found.newest),
-        None => None,
-    }
 }
 
 /// Writes a node over its inode in a map, present or not, and moves the marks of its bytes.

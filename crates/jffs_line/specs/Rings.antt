@@ -1,5 +1,5 @@
 -- What contracts see of the ends of rings.
-use Rattle.std.specs.Prelude.{◌≡◌, ℕ, List, [], ◌∷◌, ◌++◌, ◌≢◌, map, cond, eqb}
+use Rattle.std.specs.Prelude.{◌≡◌, ℕ, List, [], ◌∷◌, ◌≢◌, map, cond, eqb}
 use Rattle.rtrb.specs.Ring.{sent, received, producer_capacity}
 use Rattle.std.specs.List.{All}
 use Rattle.jffs_line.specs.declared.request.Request.{Request}

@@ -260,7 +260,25 @@ impl RingTaker {
         true
     }
 
-    // Asks each ring but the control's once, and begins after the one that gave last.
+    // The first ring but the control's that holds a request, from the one after that which gave
+    // last on.
+    fn first_waiting(&mut self) -> Option<usize>
+        ensures ends { rings_ends self.new ≡ rings_ends self.old }
+        ensures taken { (w : ℕ) → rings_taken self.new w ≡ rings_taken self.old w }
+        ensures rings { vec_len self.new.rings ≡ vec_len self.old.rings }
+        ensures index { IfSome result (λ i. i < vec_len self.old.rings) }
+    {
+        let others = self.rings.len() - 1;
+        for step in 0..others {
+            let index = (self.next + step) % others;
+            if self.look_at(index).has_request {
+                return Some(index);
+            }
+        }
+        None
+    }
+
+    // Looks at each ring but the control's once, and takes from the first that holds a request.
     fn round(&mut self) -> Option<Request>
         ensures ends { rings_ends self.new ≡ rings_ends self.old }
         ensures some { IfSome result
@@ -268,20 +286,16 @@ impl RingTaker {
         ensures none { IfNone result ((w : ℕ) → rings_taken self.new w ≡ rings_taken self.old w) }
         ensures rings { vec_len self.new.rings ≡ vec_len self.old.rings }
     {
-        let others = self.rings.len() - 1;
-        for step in 0..others {
-            let index = (self.next + step) % others;
-            if let Some(request) = self.pop_at(index) {
-                self.next = index + 1;
-                return Some(request);
-            }
-        }
-        None
+        let Some(index) = self.first_waiting() else {
+            return None;
+        };
+        self.next = index + 1;
+        self.pop_at(index)
     }
 
     // Looks at all rings once. What waits in the control's ring is taken only after a round that
     // began later and in which no other ring gave anything.
-    fn try_take(&mut self) -> Result<Request, Idle>
+    fn look_around(&mut self) -> Result<Request, Idle>
         ensures ends { rings_ends self.new ≡ rings_ends self.old }
         ensures some { IfOk result
             (λ r. (w : ℕ) → rings_taken self.new w ≡ rings_taken self.old w ++ of w (r ∷ [])) }
@@ -303,6 +317,19 @@ impl RingTaker {
         } else {
             Idle::Empty
         })
+    }
+
+    // Takes what a round finds. Only where that is nothing, it asks who is still there.
+    fn try_take(&mut self) -> Result<Request, Idle>
+        ensures ends { rings_ends self.new ≡ rings_ends self.old }
+        ensures some { IfOk result
+            (λ r. (w : ℕ) → rings_taken self.new w ≡ rings_taken self.old w ++ of w (r ∷ [])) }
+        ensures none { OnErr result ((w : ℕ) → rings_taken self.new w ≡ rings_taken self.old w) }
+    {
+        match self.round() {
+            Some(request) => Ok(request),
+            None => self.look_around(),
+        }
     }
 }
 

@@ -115,6 +115,30 @@ last_fits size p k f es h l =
     let parts = laid_parts 0 size l.front l.back k f (subst (AreLaid 0 size) l.whole h) in
     laid_bound (k + length f.bytes) size l.back parts.2
 
+-- A fragment that is found lies within the file, and no other reaches across its ends.
+pub record Whole (size k : ℕ) (f : Fragment) (es : Fragments) : Type 0 where
+  pub fits : k + length f.bytes ≤ size
+  pub first : AreCut k es
+  pub end : AreCut (k + length f.bytes) es
+
+pub whole_there : (size k : ℕ) (f : Fragment) (es : Fragments) → AreLaid 0 size es → lookup (is_at (nat_cmp k)) es ≡ Some f → Whole size k f es
+whole_there size k f es h is =
+    let at = found k f es is in
+    let end = k + length f.bytes in
+    let parts = laid_parts 0 size at.front at.back k f (subst (AreLaid 0 size) at.whole h) in
+    let here : k ≤ k = omega arith in
+    let low : k ≤ end = omega arith in
+    let there : end ≤ end = omega arith in
+    record {
+      fits = laid_bound end size at.back parts.2;
+      first = subst (AreCut k) (sym at.whole)
+          (each_append (λ e. (end_of e ≤ k) ⊎ (k ≤ e.0)) at.front ((k, f) ∷ at.back) (cut_past 0 k k at.front parts.0 here)
+          (inr here, cut_if_all_from k at.back (all_later end size k at.back parts.2 low)));
+      end = subst (AreCut end) (sym at.whole)
+          (each_append (λ e. (end_of e ≤ end) ⊎ (end ≤ e.0)) at.front ((k, f) ∷ at.back) (cut_past 0 k end at.front parts.0 low)
+          (inl there, cut_if_all_from end at.back (all_later end size end at.back parts.2 there)));
+    }
+
 -- ---- one fragment cut in two
 greater : (x y : ℕ) → y < x → nat_cmp x y ≡ Greater
 greater x y l = sym (nat_cmp_is x y Greater l)

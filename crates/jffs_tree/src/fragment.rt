@@ -1,6 +1,6 @@
 //! Fragments: the ranges of a file's bytes that nodes wrote.
 
-ghost use Rattle.std.specs.Prelude.{◌≡◌, ◌≤◌, ◌<◌, ◌+◌, ◌==◌, ℕ, length, [], Some, OnOk, OnErr};
+ghost use Rattle.std.specs.Prelude.{◌≡◌, ◌≤◌, ◌<◌, ◌+◌, ◌==◌, ℕ, length, [], true, Some, OnOk, OnErr};
 ghost use Rattle.std.specs.Prelude.{IfOk, IsSome, IfSome, IfNone, if◌then◌else◌};
 ghost use Rattle.std.specs.BTreeMap.{get, insert_entry, is_at};
 ghost use Rattle.std.specs.Map.{remove_entry};
@@ -118,6 +118,34 @@ fn cut(fragments: &mut Fragments, size: u32, first: u32, at: u32) -> Result<(), 
     Ok(())
 }
 
+/// Whether one fragment fills a range, in a file of a size.
+fn fills(fragments: &Fragments, size: u32, from: u32, to: u32) -> bool
+    requires laid { AreLaid 0 size fragments.now.entries × (size ≤ file_max) }
+    ensures { result ≡ true → AreCut from fragments.now.entries × AreCut to fragments.now.entries }
+{
+    match fragments.get(&from) {
+        Some(there) => from + there.len() == to,
+        None => false,
+    }
+}
+
+/// Cuts the fragments of a file of a size at both ends of a range. Where one fragment fills it, as
+/// when a record is written over, one search finds that. Where an allocation failed, the file reads
+/// as before.
+fn cut_ends(fragments: &mut Fragments, size: u32, from: u32, to: u32) -> Result<(), AllocError>
+    requires laid { AreLaid 0 size fragments.old.entries × (size ≤ file_max) }
+    ensures same { SameCells fragments.old.entries fragments.new.entries }
+    ensures from { OnOk result (AreCut from fragments.new.entries) }
+    ensures to { OnOk result (AreCut to fragments.new.entries) }
+{
+    if fills(fragments, size, from, to) {
+        return Ok(());
+    }
+    split_at(fragments, size, from)?;
+    split_at(fragments, size, to)?;
+    Ok(())
+}
+
 /// Writes a node over the fragments of a file of a size, and returns the size after it. Where an
 /// allocation failed, the file reads as before.
 pub(crate) fn write_over(
@@ -206,8 +234,7 @@ pub(crate) fn make_cuts(
     ensures end { OnOk result (AreCut end fragments.new.entries) }
     ensures size { OnOk result (IfSome node.now.size (λ s. AreCut s fragments.new.entries)) }
 {
-    split_at(fragments, size, node.offset)?;
-    split_at(fragments, size, end)?;
+    cut_ends(fragments, size, node.offset, end)?;
     if let Some(stated) = node.size {
         split_at(fragments, size, stated)?;
     }

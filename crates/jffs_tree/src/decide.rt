@@ -10,7 +10,7 @@ ghost use Rattle.jffs_tree.specs.Origin.{holder, state_in};
 ghost use Rattle.jffs_tree.specs.After.{held_in};
 ghost use Rattle.jffs_node.specs.Path.{IsPath};
 ghost use Rattle.jffs_tree.specs.Deciding.{IsWish};
-ghost use Rattle.jffs_tree.specs.Decide.{decide_on, decide_new, parent_in, is_empty, plain};
+ghost use Rattle.jffs_tree.specs.Decide.{decide_on, decide_new, parent_in, is_there, is_empty, plain};
 ghost use Rattle.jffs_tree.specs.Decide.{entry_of, carries_bytes};
 
 use crate::children::any_named;
@@ -66,6 +66,18 @@ impl Tree {
         self.follow(&names[..names.len().saturating_sub(1)])
     }
 
+    /// Whether something stands at the end of the names, of which all but the last lead to `parent`.
+    fn is_taken(&self, parent: u32, names: &[Name]) -> bool
+        requires some { length names.now ≢ 0 }
+        requires parent { parent_in (state_in self.now) names.now ≡ Some parent }
+        ensures { result ≡ is_there (state_in self.now) names.now }
+    {
+        match names.last() {
+            Some(name) => self.child(parent, name).is_some(),
+            None => unreachable!(),
+        }
+    }
+
     /// A node for a new file or directory.
     fn decide_new(&self, limits: Limits, kind: Kind, path: &Path) -> Result<NewNode, Cause>
         ensures decided { result ≡ decide_new (state_in self.now) limits kind path.now }
@@ -81,7 +93,7 @@ impl Tree {
         if !self.is_directory(parent) {
             return Err(Cause::NoParent);
         }
-        if self.follow(names).is_some() {
+        if self.is_taken(parent, names) {
             return Err(Cause::NameTaken);
         }
         let Some(inode) = limits.next_inode else {
@@ -226,7 +238,7 @@ impl Tree {
         if !self.is_directory(parent) {
             return Err(Cause::NoParent);
         }
-        if self.resolve(to).is_some() {
+        if self.is_taken(parent, to.names()) {
             return Err(Cause::NameTaken);
         }
         let Some(inode) = self.resolve(from) else {

@@ -118,6 +118,13 @@ impl Marks {
         ensures least { IfSome result (λ i. (j : ℕ) → 0 < mark_of self.now version j → i ≤ j) }
         ensures none { IfNone result ((j : ℕ) → mark_of self.now version j ≡ 0) }
     {
+        // A late copy is of a version older than all that live.
+        let Some((oldest, _)) = self.next(0) else {
+            return None;
+        };
+        if version < oldest {
+            return None;
+        }
         let mut rest = self.counts.range((Reverse(version), 0)..);
         let Some((key, _)) = rest.next() else {
             return None;

@@ -12,4 +12,4 @@ returns c =
     let last : c.in-Some.name.now ≡ last_name c.args.names.now = search rules in
     c.is_some.ensures
     ∙ ap is_some (c.child.ensures ∙ ap (child s c.args.parent) last
-        ∙ sym (led_to_last s c.args.names.now c.args.parent (ne_eqb (length c.args.names.now) 0 c.requires.some) c.requires.parent))
+    ∙ sym (led_to_last s c.args.names.now c.args.parent (ne_eqb (length c.args.names.now) 0 c.requires.some) c.requires.parent))

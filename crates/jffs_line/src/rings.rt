@@ -286,9 +286,7 @@ impl RingTaker {
         ensures none { IfNone result ((w : ℕ) → rings_taken self.new w ≡ rings_taken self.old w) }
         ensures rings { vec_len self.new.rings ≡ vec_len self.old.rings }
     {
-        let Some(index) = self.first_waiting() else {
-            return None;
-        };
+        let index = self.first_waiting()?;
         self.next = index + 1;
         self.pop_at(index)
     }

@@ -7,7 +7,7 @@ ghost use Rattle.jffs_node.specs.declared.node.Node.{Node};
 ghost use Rattle.jffs_node.specs.Record.{is_lawful};
 ghost use Rattle.jffs_tree.specs.Origin.{tree_of};
 ghost use Rattle.jffs_tree.specs.After.{held_in, keeps_offsets_in, tree_after, without_inode};
-ghost use Rattle.jffs_tree.specs.After.{put_node, IsSmall, IsWritable, IsWritten};
+ghost use Rattle.jffs_tree.specs.After.{put_node, IsWritable, IsWritten};
 ghost use Rattle.jffs_tree.specs.Look.{parent_name_in};
 ghost use Rattle.jffs_tree.specs.Marks.{AreMarksOf, SameMarks, HasMarksIn, MovesMarksIn};
 ghost use Rattle.jffs_tree.specs.Marks.{HasNewest};
@@ -97,9 +97,7 @@ impl Tree {
     /// Writes a node that isn't deleted over its inode, present or not. Where an allocation failed,
     /// nothing is changed.
     fn write(&mut self, node: &Node, name: Name) -> Result<(), AllocError>
-        requires named { node.now.name ≡ Some name }
-        requires small { IsSmall node.now }
-        requires offsets { IsTrue (keeps_offsets_in self.old node.now) }
+        requires writable { IsWritable self.old node.now name }
         ensures ok { OnOk result (self.new ≡ put_node self.old node.now) }
         ensures err { OnErr result (self.new ≡ self.old) }
     {
@@ -116,9 +114,7 @@ impl Tree {
 
     /// Writes a node over its inode, which stands where the node says and has that newest version.
     fn write_here(&mut self, node: &Node, name: Name, newest: Option<u32>) -> Result<(), AllocError>
-        requires named { node.now.name ≡ Some name }
-        requires small { IsSmall node.now }
-        requires offsets { IsTrue (keeps_offsets_in self.old node.now) }
+        requires writable { IsWritable self.old node.now name }
         requires here { parent_name_in self.old node.now.inode ≡ Some (node.now.parent, name) }
         requires newest { HasNewest self.old node.now.inode newest }
         ensures ok { OnOk result (self.new ≡ put_node self.old node.now) }
@@ -145,9 +141,7 @@ impl Tree {
         old: Option<(u32, Name)>,
         newest: Option<u32>,
     ) -> Result<(), AllocError>
-        requires named { node.now.name ≡ Some name }
-        requires small { IsSmall node.now }
-        requires offsets { IsTrue (keeps_offsets_in self.old node.now) }
+        requires writable { IsWritable self.old node.now name }
         requires was { old ≡ parent_name_in self.old node.now.inode }
         requires newest { HasNewest self.old node.now.inode newest }
         ensures ok { OnOk result (self.new ≡ put_node self.old node.now) }

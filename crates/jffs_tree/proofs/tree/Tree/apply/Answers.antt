@@ -18,8 +18,10 @@ pub returns-then-node-clause-ok : goal.returns-then-node-clause-ok
 returns-then-node-clause-ok c = stepped c.args.node.now c.args.self.now c.remove.new.self
     (c.remove.ensures ∙ removed c.args.node.now c.args.self.now (named c.args.node.now c.in-Some.name c.requires.lawful c.in-Some.is) c.if-node.true)
 
-pub write-requires-clause-small : goal.write-requires-clause-small
-write-requires-clause-small c = small c.args.node.now c.requires.lawful
+pub write-requires : goal.write-requires
+write-requires c = record {
+  writable = record { named = c.in-Some.is; small = small c.args.node.now c.requires.lawful; offsets = c.requires.offsets };
+}
 
 pub returns-clause-after : goal.returns-clause-after
 returns-clause-after c =

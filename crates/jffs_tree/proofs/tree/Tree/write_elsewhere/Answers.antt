@@ -33,7 +33,7 @@ invariant_of-self-in_default-old c =
     record {
       ordered = c.in_default.ensures.ok.ordered;
       indexed = by_key old c.write_marked.new.inodes c.args.node.now c.args.name c.self.inside.children.keys c.self.invariant.indexed c.insert.new.self.keys
-          c.requires.named c.in_default.ensures.ok None
+          c.requires.writable.named c.in_default.ensures.ok None
           (ap (λ (t : List (ℕ × Held)). parent_name_in t c.args.node.now.inode) c.self.view_is ∙ sym was)
           c.in_ok-is_new.ensures.updates.0;
       marked = c.in_default.ensures.marks;
@@ -49,7 +49,7 @@ invariant_of-self-then-not-bears c =
     record {
       ordered = c.in_default.ensures.ok.ordered;
       indexed = by_key old c.write_marked.new.inodes c.args.node.now c.args.name c.self.inside.children.keys c.self.invariant.indexed c.remove-then-not-bears.new.self.keys
-          c.requires.named c.in_default.ensures.ok (Some (c.in-Some.parent, c.in-Some.left))
+          c.requires.writable.named c.in_default.ensures.ok (Some (c.in-Some.parent, c.in-Some.left))
           (ap (λ (t : List (ℕ × Held)). parent_name_in t c.args.node.now.inode) c.self.view_is ∙ sym was)
           (inl (
             λ q. c.remove-then-not-bears.ensures.updates.0 q ∙ ap (λ b. cond (tied left q) false b) (c.in_ok-is_new.ensures.updates.0 q),
@@ -66,7 +66,7 @@ invariant_of-self-else-not-bears c =
     record {
       ordered = c.in_default.ensures.ok.ordered;
       indexed = by_key old c.write_marked.new.inodes c.args.node.now c.args.name c.self.inside.children.keys c.self.invariant.indexed c.insert.new.self.keys
-          c.requires.named c.in_default.ensures.ok (Some (c.in-Some.parent, c.in-Some.left))
+          c.requires.writable.named c.in_default.ensures.ok (Some (c.in-Some.parent, c.in-Some.left))
           (ap (λ (t : List (ℕ × Held)). parent_name_in t c.args.node.now.inode) c.self.view_is ∙ sym was)
           (inr (c.in_ok-is_new.ensures.updates.0, stayed c.args.node.now.parent c.args.name (c.in-Some.parent, c.in-Some.left) same));
       marked = c.in_default.ensures.marks;

@@ -31,6 +31,23 @@ fn constructors_refuse(rt: HostRuntime) -> Result<(), Fail> {
     Ok(())
 }
 
+/// An index over the empty tree, with one reader.
+fn opened<W: Wait + Drop>(rt: W, alloc: Global) -> Result<(Source<W>, Reader), Fail>
+    ensures tree { IfOk result
+        (λ index. index.0.tree ≡ (view_of (all_put index.0.publisher)).tree) }
+    ensures index { IfOk result (λ index. index_of index.1 ≡ publisher_index index.0.publisher) }
+{
+    let (publisher, mut readers) = publish_index(rt, alloc, Tree::new(alloc), 1)?;
+    let reader = readers.pop().ok_or("one reader")?;
+    let source = Source {
+        publisher,
+        tree: Tree::new(alloc),
+        next_inode: 2,
+        next_version: 1,
+    };
+    Ok((source, reader))
+}
+
 fn path(alloc: Global, text: &str) -> Result<Path, Fail> {
     Ok(Path::parse(alloc, text)?)
 }
@@ -116,14 +133,7 @@ fn steps_show<W: Wait + Drop>(
 #[test]
 fn published_steps_show(rt: HostRuntime) -> Result<(), Fail> {
     let alloc = rt.alloc();
-    let (publisher, mut readers) = publish_index(&rt, alloc, Tree::new(alloc), 1)?;
-    let mut source = Source {
-        publisher,
-        tree: Tree::new(alloc),
-        next_inode: 2,
-        next_version: 1,
-    };
-    let mut reader = readers.pop().ok_or("one reader")?;
+    let (mut source, mut reader) = opened(&rt, alloc)?;
     steps_show(&rt, alloc, &mut source, &mut reader)
 }
 
@@ -174,47 +184,41 @@ fn has_one_name(
 #[test]
 fn the_names_of_a_published_tree(rt: HostRuntime) -> Result<(), Fail> {
     let alloc = rt.alloc();
-    let (publisher, mut readers) = publish_index(&rt, alloc, Tree::new(alloc), 1)?;
-    let mut source = Source {
-        publisher,
-        tree: Tree::new(alloc),
-        next_inode: 2,
-        next_version: 1,
-    };
-    let mut reader = readers.pop().ok_or("one reader")?;
+    let (mut source, mut reader) = opened(&rt, alloc)?;
     move_about(alloc, &mut source)?;
     has_one_name(&rt, &mut reader, 1, b"c", 4)?;
     has_one_name(&rt, &mut reader, 4, b"f", 3)?;
     Ok(())
 }
 
-#[test]
-fn a_view_answers_as_its_tree(rt: HostRuntime) -> Result<(), Fail> {
-    let alloc = rt.alloc();
-    let (publisher, mut readers) = publish_index(&rt, alloc, Tree::new(alloc), 1)?;
-    let mut source = Source {
-        publisher,
-        tree: Tree::new(alloc),
-        next_inode: 2,
-        next_version: 1,
-    };
-    let mut reader = readers.pop().ok_or("one reader")?;
-    move_about(alloc, &mut source)?;
+/// Of `/c/f` (inode 3) after all that `move_about` asked for.
+fn answers_of_the_file(rt: &impl Abort, reader: &mut Reader) {
     let read = reader.look(|view| {
         let mut bytes = [0u8; 4];
         (view.read(3, 1, &mut bytes), bytes)
     });
     assert_eq!(rt; read, Some((4, *b"ello")));
     assert_eq!(rt; reader.look(|view| view.size(3)), Some(Some(5)));
-    assert_eq!(rt;
-        reader.look(|view| view.kind(4)),
-        Some(Some(Kind::Directory))
-    );
+    assert_eq!(rt; reader.look(|view| view.live(3, 6)), Some(true));
+    assert_eq!(rt; reader.look(|view| view.live(3, 5)), Some(false));
+}
+
+/// Of `/c` (inode 4), which holds it, and of what was removed.
+fn answers_of_directories(rt: &impl Abort, reader: &mut Reader) {
+    let there = reader.look(|view| view.kind(4));
+    assert_eq!(rt; there, Some(Some(Kind::Directory)));
     assert_eq!(rt; reader.look(|view| view.kind(2)), Some(None));
     let parent = reader.look(|view| view.parent_name(3).map(|entry| entry.0));
     assert_eq!(rt; parent, Some(Some(4)));
-    assert_eq!(rt; reader.look(|view| view.live(3, 6)), Some(true));
-    assert_eq!(rt; reader.look(|view| view.live(3, 5)), Some(false));
+}
+
+#[test]
+fn a_view_answers_as_its_tree(rt: HostRuntime) -> Result<(), Fail> {
+    let alloc = rt.alloc();
+    let (mut source, mut reader) = opened(&rt, alloc)?;
+    move_about(alloc, &mut source)?;
+    answers_of_the_file(&rt, &mut reader);
+    answers_of_directories(&rt, &mut reader);
     Ok(())
 }
 
@@ -228,32 +232,27 @@ fn a_look_is_none_once_the_publisher_is_gone(rt: HostRuntime) -> Result<(), Fail
     Ok(())
 }
 
-#[test]
-fn a_thread_follows_what_is_published(rt: HostRuntime) -> Result<(), Fail> {
-    let alloc = rt.alloc();
+/// The creation of `/f`, and 499 changes of its size.
+fn resizes(alloc: Global) -> Result<Vec<Wish>, Fail> {
     let mut wishes = Vec::new(alloc);
     wishes.push(create(alloc, "/f")?)?;
     for size in 1..500 {
-        wishes.push(Wish::Truncate {
-            path: path(alloc, "/f")?,
-            size,
-        })?;
+        let path = path(alloc, "/f")?;
+        wishes.push(Wish::Truncate { path, size })?;
     }
-    let (publisher, mut readers) = publish_index(&rt, alloc, Tree::new(alloc), 1)?;
-    let source = Source {
-        publisher,
-        tree: Tree::new(alloc),
-        next_inode: 2,
-        next_version: 1,
-    };
-    let reader = readers.pop().ok_or("one reader")?;
+    Ok(wishes)
+}
+
+#[test]
+fn a_thread_follows_what_is_published(rt: HostRuntime) -> Result<(), Fail> {
+    let alloc = rt.alloc();
+    let wishes = resizes(alloc)?;
+    let (source, reader) = opened(&rt, alloc)?;
     let seen = follow(&rt, source, reader, &wishes)?;
-    assert_eq!(rt;
-        seen,
-        Seen {
-            beside: 500,
-            last: Some(500)
-        }
-    );
+    let wanted = Seen {
+        beside: 500,
+        last: Some(500),
+    };
+    assert_eq!(rt; seen, wanted);
     Ok(())
 }

@@ -10,10 +10,11 @@ use crate::tests::rounds::{asked, cleaned_by, index, outcomes_of, served};
 use crate::tests::volumes::{filled, moved};
 use jffs_core::Core;
 use jffs_flash::MemoryFlash;
-use jffs_line::{Ends, LineFault, shared_line};
+use jffs_line::{Ends, LineFault, Request, shared_line};
 use jffs_serve::{Ended, JobEnd, Jobs, clean_until, job_ring};
 use jffs_tree::{Cause, Outcome};
 use std::alloc::Global;
+use std::sync::Wait;
 use std::test::Fail;
 
 #[test]
@@ -74,15 +75,28 @@ fn with_job(alloc: Global, core: &mut Core<MemoryFlash>) -> Result<JobEnd, Fail>
     Ok(end)
 }
 
+/// A ring with the image of the oldest sector of a volume that was mounted again.
+fn moved_job(alloc: Global) -> Result<JobEnd, Fail> {
+    let flash = moved(alloc)?.into_flash();
+    let mut core = Core::mount(alloc, flash).ok().ok_or("it mounts")?;
+    with_job(alloc, &mut core)
+}
+
+/// What a cleaner hands in over the tree of such a volume.
+fn moved_copies<R: Wait>(
+    rt: &R,
+    alloc: Global,
+    core: &Core<MemoryFlash>,
+) -> Result<Vec<Request>, Fail> {
+    let end = moved_job(alloc)?;
+    cleaned_by(rt, alloc, 8, core.tree().copy_tree()?, end)
+}
+
 #[test]
 fn cleaner_hands_in_copies(rt: HostRuntime) -> Result<(), Fail> {
     let alloc = rt.alloc();
-    let mut second = Core::mount(alloc, moved(alloc)?.into_flash())
-        .ok()
-        .ok_or("it mounts")?;
-    let end = with_job(alloc, &mut second)?;
     let mut core = moved(alloc)?;
-    let copies = cleaned_by(&rt, alloc, 8, core.tree().copy_tree()?, end)?;
+    let copies = moved_copies(&rt, alloc, &core)?;
     assert_eq!(rt; asked(&copies)?, [(1, 1), (2, 3), (3, 4)]);
     let outcomes = outcomes_of(&mut core, copies)?;
     let wanted = [

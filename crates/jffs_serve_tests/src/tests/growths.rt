@@ -155,19 +155,30 @@ fn check_scan(
     Ok(())
 }
 
+#[tactic(auto, using(jffs_serve::proofs::Showing::can_begin))]
+/// The session after all that waits on a line was served, and was seen.
+fn session_after<R: Wait + Abort>(
+    rt: &R,
+    alloc: Global,
+    core: Core<MemoryFlash>,
+    mut taker: SharedTaker,
+    mut jobs: Jobs,
+) -> Result<Session<MemoryFlash>, Fail> {
+    let (mut publisher, mut reader) = index(rt, alloc, core.tree().copy_tree()?)?;
+    let mut session = Session::new(core);
+    let served = serve_on(rt, &mut session, &mut taker, &mut publisher, &mut jobs);
+    assert!(rt; served != Served::Memory);
+    check(rt, &session, &mut reader);
+    Ok(session)
+}
+
 // Run it with each allocation failing in turn.
 #[test]
-#[tactic(auto, using(jffs_serve::proofs::Showing::can_begin))]
 fn each_growth_refused_in_turn(rt: HostRuntime) -> Result<(), Fail> {
     let alloc = rt.alloc();
-    let core = erased(alloc, 8)?;
-    let (mut publisher, mut reader) = index(&rt, alloc, core.tree().copy_tree()?)?;
-    let (mut jobs, _end) = job_ring(alloc, 4)?;
-    let mut taker = write_and_unmount(&rt, alloc)?;
-    let mut session = Session::new(core);
-    let served = serve_on(&rt, &mut session, &mut taker, &mut publisher, &mut jobs);
-    assert!(rt; served != Served::Memory);
-    check(&rt, &session, &mut reader);
+    let taker = write_and_unmount(&rt, alloc)?;
+    let (jobs, _end) = job_ring(alloc, 4)?;
+    let session = session_after(&rt, alloc, erased(alloc, 8)?, taker, jobs)?;
     let size = size_after(session.core().answers());
     check_scan(&rt, alloc, session.into_core().into_flash(), size)
 }

@@ -9,7 +9,7 @@ use jffs_core::Core;
 use jffs_flash::MemoryFlash;
 use jffs_index::{Publisher, Reader, publish_index};
 use jffs_line::{Ends, Hand, Request, SharedTaker, Taker, shared_line};
-use jffs_serve::{JobEnd, Served, Session, clean_loop, job_ring, serve};
+use jffs_serve::{JobEnd, Jobs, Served, Session, clean_loop, job_ring, serve};
 use jffs_tree::{Outcome, Tree, Wish};
 use std::alloc::Global;
 use std::sync::Wait;
@@ -52,21 +52,41 @@ fn last_two(core: &Core<MemoryFlash>) -> Result<[Outcome; 2], Fail> {
     }
 }
 
+/// What serving left.
+#[derive(Drop)]
+pub(super) struct Left {
+    pub(super) session: Session<MemoryFlash>,
+    pub(super) served: Served,
+}
+
 #[tactic(auto, using(jffs_serve::proofs::Showing::can_begin))]
+/// Serves all that waits on a line.
+pub(super) fn served_from<R: Wait>(
+    rt: &R,
+    alloc: Global,
+    core: Core<MemoryFlash>,
+    mut taker: SharedTaker,
+    mut jobs: Jobs,
+) -> Result<Left, Fail> {
+    let (mut publisher, _reader) = index(rt, alloc, core.tree().copy_tree()?)?;
+    let mut session = Session::new(core);
+    let served = serve(rt, &mut session, &mut taker, &mut publisher, &mut jobs);
+    Ok(Left { session, served })
+}
+
 /// Serves a file of 1,728 bytes; gives the last two outcomes, and the cleaner's end of the jobs.
 pub(super) fn served<R: Wait>(
     rt: &R,
     alloc: Global,
     core: Core<MemoryFlash>,
 ) -> Result<([Outcome; 2], JobEnd), Fail> {
-    let (mut publisher, _reader) = index(rt, alloc, core.tree().copy_tree()?)?;
-    let (mut jobs, end) = job_ring(alloc, 4)?;
-    let mut taker = cut_and_unmount(rt, alloc)?;
-    let mut session = Session::new(core);
-    if serve(rt, &mut session, &mut taker, &mut publisher, &mut jobs) != Served::Closed {
+    let (jobs, end) = job_ring(alloc, 4)?;
+    let taker = cut_and_unmount(rt, alloc)?;
+    let left = served_from(rt, alloc, core, taker, jobs)?;
+    if left.served != Served::Closed {
         return Err("it closes".into());
     }
-    Ok((last_two(session.core())?, end))
+    Ok((last_two(left.session.core())?, end))
 }
 
 /// One round of the cleaner over a published tree, on a line with room for `capacity` requests;

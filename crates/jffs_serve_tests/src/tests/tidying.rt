@@ -1,22 +1,15 @@
 //! What is done between two answers: dead sectors are erased.
 
-use crate::tests::rounds::index;
+use crate::tests::rounds::{Left, served_from};
 use crate::tests::volumes::{create, dead_below_tail};
 use jffs_core::Core;
 use jffs_flash::MemoryFlash;
 use jffs_line::{Ends, Hand, SharedTaker, shared_line};
-use jffs_serve::{Served, Session, job_ring, serve};
+use jffs_serve::{Served, job_ring};
 use jffs_tree::Wish;
 use std::alloc::Global;
 use std::sync::Wait;
 use std::test::Fail;
-
-/// What serving left.
-#[derive(Drop)]
-struct Left {
-    session: Session<MemoryFlash>,
-    served: Served,
-}
 
 /// The taker of a line on which these wishes of a writer wait, and perhaps an Unmount, and whose
 /// hands are gone.
@@ -37,7 +30,6 @@ fn all_waiting<R: Wait>(
     Ok(taker)
 }
 
-#[tactic(auto, using(jffs_serve::proofs::Showing::can_begin))]
 /// Serves these wishes of a writer, and perhaps an Unmount, until nothing waits.
 fn serve_all<R: Wait>(
     rt: &R,
@@ -46,12 +38,9 @@ fn serve_all<R: Wait>(
     wishes: Vec<Wish>,
     unmounts: bool,
 ) -> Result<Left, Fail> {
-    let (mut publisher, _reader) = index(rt, alloc, core.tree().copy_tree()?)?;
-    let (mut sender, _jobs) = job_ring(alloc, 4)?;
-    let mut taker = all_waiting(rt, alloc, wishes, unmounts)?;
-    let mut session = Session::new(core);
-    let served = serve(rt, &mut session, &mut taker, &mut publisher, &mut sender);
-    Ok(Left { session, served })
+    let taker = all_waiting(rt, alloc, wishes, unmounts)?;
+    let (jobs, _end) = job_ring(alloc, 4)?;
+    served_from(rt, alloc, core, taker, jobs)
 }
 
 #[test]

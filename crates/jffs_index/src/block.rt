@@ -7,7 +7,7 @@ use std::alloc::{AllocError, Global};
 use std::marker::Model;
 
 /// How many requests a block has a slot for.
-pub(crate) const SLOTS: usize = 64;
+pub(crate) const SLOTS: usize = 128;
 
 /// Which slots hold an outcome, and the outcomes. In one list of `Option`s each would take three
 /// bytes more.
@@ -17,7 +17,7 @@ pub(crate) struct Slots {
     pub(crate) outcomes: [Outcome; SLOTS],
 }
 
-/// A slot for each of 64 requests whose numbers follow one another, 13 bytes each. Boxed, since the
+/// A slot for each of 128 requests whose numbers follow one another, 13 bytes each. Boxed, since the
 /// nodes of a map whose keys come in their order stay half empty.
 #[derive(Drop)]
 pub(crate) struct Block {

@@ -17,8 +17,8 @@ pub(crate) struct Slots {
     pub(crate) outcomes: [Outcome; SLOTS],
 }
 
-/// A slot for each of 128 requests whose numbers follow one another, 13 bytes each. Boxed, since the
-/// nodes of a map whose keys come in their order stay half empty.
+/// A slot for each of 128 requests whose numbers follow one another, 13 bytes each. Boxed, since
+/// the nodes of a map whose keys come in their order stay half empty.
 #[derive(Drop)]
 pub(crate) struct Block {
     slots: Box<Slots>,

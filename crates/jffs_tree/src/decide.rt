@@ -10,8 +10,8 @@ ghost use Rattle.jffs_tree.specs.Origin.{holder, state_in};
 ghost use Rattle.jffs_tree.specs.After.{held_in};
 ghost use Rattle.jffs_node.specs.Path.{IsPath};
 ghost use Rattle.jffs_tree.specs.Deciding.{IsWish};
-ghost use Rattle.jffs_tree.specs.Decide.{decide_on, decide_new, parent_in, is_there, is_empty, plain};
-ghost use Rattle.jffs_tree.specs.Decide.{entry_of, carries_bytes};
+ghost use Rattle.jffs_tree.specs.Decide.{decide_on, decide_new, parent_in, is_there, is_empty};
+ghost use Rattle.jffs_tree.specs.Decide.{plain, entry_of, carries_bytes};
 
 use crate::children::any_named;
 use crate::inode::Inode;
@@ -66,7 +66,8 @@ impl Tree {
         self.follow(&names[..names.len().saturating_sub(1)])
     }
 
-    /// Whether something stands at the end of the names, of which all but the last lead to `parent`.
+    /// Whether something stands at the end of the names, of which all but the last lead to
+    /// `parent`.
     fn is_taken(&self, parent: u32, names: &[Name]) -> bool
         requires some { length names.now ≢ 0 }
         requires parent { parent_in (state_in self.now) names.now ≡ Some parent }

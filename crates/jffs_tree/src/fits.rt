@@ -1,9 +1,10 @@
 //! Whether a node may be applied to a tree.
 
-ghost use Rattle.std.specs.Prelude.{◌≡◌, true, IsTrue};
-ghost use Rattle.jffs_node.specs.Record.{is_lawful};
+ghost use Rattle.std.specs.Prelude.{◌≡◌, ◌==◌, ◌&&◌, ◌||◌, ◌+◌, true, IsTrue, length, nat_le};
+ghost use Rattle.jffs_node.specs.Record.{is_lawful, dsize, kind_byte};
 ghost use Rattle.jffs_tree.specs.After.{can_apply, keeps_kind_in, keeps_offsets_in};
 
+use crate::inode::Inode;
 use crate::tree::Tree;
 use jffs_node::{Node, is_lawful};
 
@@ -17,32 +18,35 @@ impl Tree {
         ensures lawful { result ≡ true → IsTrue (is_lawful node.now) }
         ensures offsets { result ≡ true → IsTrue (keeps_offsets_in self.now node.now) }
     {
-        is_lawful(node) && self.keeps_kind(node) && self.keeps_offsets(node)
+        is_lawful(node) && self.keeps_kind_and_offsets(node)
     }
 
-    fn keeps_kind(&self, node: &Node) -> bool
-        ensures { result ≡ keeps_kind_in self.now node.now }
+    fn keeps_kind_and_offsets(&self, node: &Node) -> bool
+        ensures { result ≡ (keeps_kind_in self.now node.now && keeps_offsets_in self.now node.now) }
     {
-        if node.deleted {
-            return true;
-        }
         match self.inode(node.inode) {
-            Some(found) => found.kind == node.kind,
+            Some(found) => found.keeps_kind(node) && found.keeps_offsets(node),
             None => true,
         }
     }
+}
 
+impl Inode {
+    /// Whether a node leaves the inode its kind.
+    fn keeps_kind(&self, node: &Node) -> bool
+        ensures { result
+            ≡ (node.now.deleted || (kind_byte self.now.entry.kind == kind_byte node.now.kind)) }
+    {
+        node.deleted || self.kind == node.kind
+    }
+
+    /// Whether no byte after the node's range moves.
     fn keeps_offsets(&self, node: &Node) -> bool
-        ensures { result ≡ keeps_offsets_in self.now node.now }
+        ensures { result ≡ ((dsize node.now == node.now.rsize)
+            || nat_le (length self.now.entry.bytes) (node.now.offset + node.now.rsize)) }
     {
         let amount = node.bytes.as_slice().len();
-        if amount == node.rsize as usize {
-            return true;
-        }
-        let end = node.offset as u64 + node.rsize as u64;
-        match self.inode(node.inode) {
-            Some(found) => found.size() as u64 <= end,
-            None => true,
-        }
+        amount == node.rsize as usize
+            || self.size() as u64 <= node.offset as u64 + node.rsize as u64
     }
 }

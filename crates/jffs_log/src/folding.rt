@@ -1,19 +1,21 @@
 //! What the nodes of a log make: the numbers that come next, and the tree.
 
-ghost use Rattle.std.specs.Prelude.{◌≡◌, ◌⊎◌, ◌&&◌, ◌-◌, ◌/◌, true, false, reverse, IsTrue, IfOk};
-ghost use Rattle.std.specs.Prelude.{IfErr};
+ghost use Rattle.std.specs.Prelude.{◌≡◌, ◌⊎◌, ◌&&◌, ◌-◌, ◌/◌, ◌++◌, List, true, false, reverse};
+ghost use Rattle.std.specs.Prelude.{IsTrue, IfOk, OnOk, IfErr};
 ghost use Rattle.std.specs.List.{AllByRecursion};
+ghost use Rattle.jffs_node.specs.declared.node.Node.{Node};
 ghost use Rattle.jffs_node.specs.Record.{is_lawful};
 ghost use Rattle.jffs_tree.specs.Origin.{tree_of};
-ghost use Rattle.jffs_tree.specs.Check.{makes_tree};
+ghost use Rattle.jffs_tree.specs.Check.{each_fits, makes_tree};
 ghost use Rattle.jffs_tree.specs.After.{can_apply, keeps_offsets_in};
 ghost use Rattle.jffs_log.specs.Scan.{versions_rise};
 ghost use Rattle.jffs_log.specs.Room.{following};
 ghost use Rattle.jffs_log.specs.ScanFound.{last_version, greatest_inode, keeps_form_after};
+ghost use Rattle.jffs_log.specs.ScanFound.{IsMadeBy, nodes_held};
 ghost use Rattle.jffs_node.specs.declared.layout.TheConstants.{HEADER_LEN};
 
 use crate::scanning::ScanWhy;
-use crate::sector::RECORDS_PER_SECTOR;
+use crate::sector::{RECORDS_PER_SECTOR, SectorRead};
 use jffs_node::{HEADER_LEN, Kind, Node, ROOT_INODE};
 use jffs_tree::{Limits, Tree};
 use std::alloc::Global;
@@ -28,25 +30,29 @@ pub(crate) struct GreatestNumbers {
 }
 
 impl GreatestNumbers {
-    /// The greatest numbers of the nodes; `BadOrder` where their versions don't rise.
-    pub(crate) fn of(nodes: &[Node]) -> Result<GreatestNumbers, ScanWhy>
-        requires { AllByRecursion (λ n. IsTrue (is_lawful n)) nodes.now }
-        ensures rise { IfOk result (λ _. versions_rise nodes.now ≡ true) }
-        ensures version { IfOk result (λ numbers. numbers.version ≡ last_version nodes.now) }
-        ensures inode { IfOk result (λ numbers. numbers.inode ≡ greatest_inode nodes.now) }
-        ensures refused { IfErr result
-            (λ why. (why ≡ ScanWhy.BadOrder) × (versions_rise nodes.now ≡ false)) }
+    /// The greatest numbers of the sectors' nodes; `BadOrder` where their versions don't rise.
+    pub(crate) fn of(held: &[SectorRead]) -> Result<GreatestNumbers, ScanWhy>
+        requires { AllByRecursion (λ n. IsTrue (is_lawful n)) (nodes_held held.now) }
+        ensures rise { IfOk result (λ _. versions_rise (nodes_held held.now) ≡ true) }
+        ensures version { IfOk result
+            (λ numbers. numbers.version ≡ last_version (nodes_held held.now)) }
+        ensures inode { IfOk result
+            (λ numbers. numbers.inode ≡ greatest_inode (nodes_held held.now)) }
+        ensures refused { IfErr result (λ why.
+            (why ≡ ScanWhy.BadOrder) × (versions_rise (nodes_held held.now) ≡ false)) }
     {
         let mut numbers = GreatestNumbers {
             version: 0,
             inode: ROOT_INODE,
         };
-        for node in nodes {
-            if node.version <= numbers.version {
-                return Err(ScanWhy::BadOrder);
+        for sector in held {
+            for node in sector.nodes() {
+                if node.version <= numbers.version {
+                    return Err(ScanWhy::BadOrder);
+                }
+                numbers.version = node.version;
+                numbers.inode = numbers.inode.max(node.inode);
             }
-            numbers.version = node.version;
-            numbers.inode = numbers.inode.max(node.inode);
         }
         Ok(numbers)
     }
@@ -65,32 +71,60 @@ impl GreatestNumbers {
     }
 }
 
-/// The tree of all nodes, copies included. `BadTree` where they make none, `Memory` where a
-/// allocation failed.
-pub(crate) fn tree_of_log(alloc: Global, nodes: &[Node]) -> Result<Tree, ScanWhy>
-    requires { AllByRecursion (λ n. IsTrue (is_lawful n)) nodes.now }
-    ensures value { IfOk result (λ tree. tree ≡ tree_of (reverse nodes.now)) }
-    ensures lawful { IfOk result (λ _. makes_tree (reverse nodes.now) ≡ true) }
+/// The tree of the sectors' nodes, copies included. `BadTree` where they make none, `Memory` where
+/// an allocation failed.
+pub(crate) fn tree_of_log(alloc: Global, held: &[SectorRead]) -> Result<Tree, ScanWhy>
+    requires { AllByRecursion (λ n. IsTrue (is_lawful n)) (nodes_held held.now) }
+    ensures value { IfOk result (λ tree. tree ≡ tree_of (reverse (nodes_held held.now))) }
+    ensures lawful { IfOk result (λ _. makes_tree (reverse (nodes_held held.now)) ≡ true) }
     ensures refused { IfErr result (λ why.
         (why ≡ ScanWhy.Memory)
-        ⊎ ((why ≡ ScanWhy.BadTree) × (makes_tree (reverse nodes.now) ≡ false))) }
+        ⊎ ((why ≡ ScanWhy.BadTree) × (makes_tree (reverse (nodes_held held.now)) ≡ false))) }
 {
-    let mut tree = Tree::new(alloc);
-    let mut has_sizes = false;
-    for node in nodes {
-        if !fits(&tree, node, has_sizes) {
-            return Err(ScanWhy::BadTree);
-        }
-        match tree.apply(node) {
-            Ok(()) => has_sizes = has_sizes || node.size.is_some(),
-            // Nothing but memory was wanting.
-            Err(_) => return Err(ScanWhy::Memory),
-        }
+    let mut made = MadeTree {
+        tree: Tree::new(alloc),
+        has_sizes: false,
+    };
+    for sector in held {
+        made.add(sector.nodes())?;
     }
-    if tree.check() {
-        Ok(tree)
+    if made.tree.check() {
+        Ok(made.tree)
     } else {
         Err(ScanWhy::BadTree)
+    }
+}
+
+/// The tree of the nodes so far, and whether one of them is of the second form.
+#[derive(Drop)]
+struct MadeTree {
+    tree: Tree,
+    has_sizes: bool,
+}
+
+impl MadeTree {
+    /// Adds the nodes that come next. `BadTree` where one of them doesn't fit, `Memory` where an
+    /// allocation failed.
+    fn add(&mut self, nodes: &[Node]) -> Result<(), ScanWhy>
+        requires { AllByRecursion (λ n. IsTrue (is_lawful n)) nodes.now }
+        ensures ok { OnOk result ((past : List Node) → IsMadeBy past self.old
+            → IsMadeBy (reverse nodes.now ++ past) self.new) }
+        ensures refused { IfErr result (λ why.
+            (why ≡ ScanWhy.Memory)
+            ⊎ ((why ≡ ScanWhy.BadTree) × ((past : List Node) → IsMadeBy past self.old
+            → each_fits (reverse nodes.now ++ past) ≡ false))) }
+    {
+        for node in nodes {
+            if !fits(&self.tree, node, self.has_sizes) {
+                return Err(ScanWhy::BadTree);
+            }
+            match self.tree.apply(node) {
+                Ok(()) => self.has_sizes |= node.size.is_some(),
+                // Nothing but memory was wanting.
+                Err(_) => return Err(ScanWhy::Memory),
+            }
+        }
+        Ok(())
     }
 }
 

@@ -2,9 +2,7 @@
 
 ghost use Rattle.std.specs.Prelude.{◌≡◌, ℕ, List, ◌+◌, ◌*◌, ◌<◌, ◌≤◌, ◌^◌, true, not, ◌++◌, None};
 ghost use Rattle.std.specs.Prelude.{option_copied, length, map, filter, flat_map, IfOk, IfErr};
-ghost use Rattle.std.specs.Prelude.{IsTrue};
-ghost use Rattle.std.specs.List.{AllByRecursion, list_any, last_or};
-ghost use Rattle.jffs_node.specs.Record.{is_lawful};
+ghost use Rattle.std.specs.List.{list_any, last_or};
 ghost use Rattle.jffs_flash.specs.Device.{Unchanged};
 ghost use Rattle.jffs_flash.specs.ReadsLeft.{FailsWhereSpent};
 ghost use Rattle.jffs_log.specs.Image.{Sector, sector_of, records_in, turned, is_erased_option};
@@ -253,17 +251,4 @@ pub(crate) fn list_records(
         sector.list_records(&mut records)?;
     }
     Ok(records)
-}
-
-/// The nodes of the log, the oldest first. They are moved, and not copied.
-pub(crate) fn nodes_of(alloc: Global, held: Vec<SectorRead>) -> Result<Vec<Node>, AllocError>
-    ensures value { IfOk result
-        (λ nodes. nodes.items ≡ flat_map (λ s. s.1.reading.nodes) held.items) }
-    ensures lawful { IfOk result (λ nodes. AllByRecursion (λ n. IsTrue (is_lawful n)) nodes.items) }
-{
-    let mut nodes = Vec::new(alloc);
-    for sector in held {
-        nodes.append(&mut sector.into_nodes())?;
-    }
-    Ok(nodes)
 }

@@ -8,7 +8,7 @@ ghost use Rattle.jffs_log.specs.ScanFound.{IsFound, IsMounted, IsRefused};
 use crate::folding::{GreatestNumbers, tree_of_log};
 use crate::log::Log;
 use crate::log_index::LogIndex;
-use crate::log_sectors::{Tail, is_clean, keep_log, list_records, nodes_of, oldest, read_sectors};
+use crate::log_sectors::{Tail, is_clean, keep_log, list_records, oldest, read_sectors};
 use jffs_flash::{Flash, FlashFault, is_geometry};
 use jffs_node::{NoMemory, Why};
 use jffs_tree::{Limits, Tree};
@@ -164,9 +164,8 @@ fn find_log<F: Flash>(alloc: Global, flash: &mut F) -> Result<FoundLog, ScanWhy>
     let tail = Tail::of(&held, sector_size);
     let clean = is_clean(&held);
     let records = list_records(alloc, &held)?;
-    let nodes = nodes_of(alloc, held)?;
-    let numbers = GreatestNumbers::of(&nodes)?;
-    let tree = tree_of_log(alloc, &nodes)?;
+    let numbers = GreatestNumbers::of(&held)?;
+    let tree = tree_of_log(alloc, &held)?;
     let index = LogIndex {
         sectors,
         sector_size,

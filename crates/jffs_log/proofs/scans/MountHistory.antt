@@ -9,7 +9,7 @@ use Rattle.jffs_node.specs.Reading.{found, reading_of}
 use Rattle.jffs_node.proofs.Sound.{found_are_records}
 use Rattle.jffs_flash.specs.Sizes.{is_geometry}
 use Rattle.jffs_node.proofs.Each.{each_append}
-use Rattle.jffs_log.specs.Image.{Placed, sector_of, records_in, starts, oldest_of, turned, log_sectors, nodes_of, past_of}
+use Rattle.jffs_log.specs.Image.{Placed, sector_of, records_in, starts, oldest_of, turned, log_sectors, log_of, nodes_of, past_of}
 use Rattle.jffs_log.specs.Volume.{split, sectors_in}
 use Rattle.jffs_log.specs.Live.{live_log}
 use Rattle.jffs_log.specs.History.{IsLawfulHistory, MountsAreHistories}
@@ -19,7 +19,7 @@ use Rattle.jffs_log.proofs.scans.MountedLog.{Bytes, after_found, dropped_bytes, 
 use Rattle.jffs_log.proofs.scans.ScanSectors.{all_sound}
 use Rattle.jffs_log.proofs.Histories.{all_turned}
 
-abbrev IsLawful : Node → Type 0
+abbrev pub IsLawful : Node → Type 0
 IsLawful n = is_lawful n ≡ true
 
 -- Nodes that are read are lawful.
@@ -42,15 +42,20 @@ lawful_log (s ∷ held) h =
     subst (AllByRecursion IsLawful) (sym (nodes_mapped (records_in s) (flat_map records_in held)))
     (each_append IsLawful (nodes_of (records_in s)) (nodes_of (flat_map records_in held)) (subst (AllByRecursion IsLawful) (sym (placed_nodes s.0 0 s.1.reading.nodes)) h.0) (lawful_log held h.1))
 
+-- All nodes of the log of an image of bytes.
+pub log_lawful : (count len : ℕ) (image : List ℕ) → AllByRecursion Bytes (split count len image) → AllByRecursion IsLawful (nodes_of (log_of (sectors_in count len image)))
+log_lawful count len image bytes =
+    let sectors = sectors_in count len image in
+    let P : Numbered → Type 0 = λ s. AllByRecursion IsLawful s.1.reading.nodes in
+    lawful_log (log_sectors sectors) (each_filtered P (λ s. not s.1.erased) (turned (oldest_of (starts sectors)) (enumerate_from 0 sectors))
+    (each_turned P (oldest_of (starts sectors)) (enumerate_from 0 sectors) (each_numbered (λ s. AllByRecursion IsLawful s.reading.nodes) 0 sectors (lawful_sectors (split count len image) bytes))))
+
 pub mounts_are_histories : MountsAreHistories
 mounts_are_histories count len image scanned bytes is =
     let sectors = sectors_in count len image in
     let log = live_log count len image in
     let s = scan_parts len (split count len image) scanned is in
-    let P : Numbered → Type 0 = λ s. AllByRecursion IsLawful s.1.reading.nodes in
-    let lawful : AllByRecursion IsLawful (nodes_of log) =
-    lawful_log (log_sectors sectors) (each_filtered P (λ s. not s.1.erased) (turned (oldest_of (starts sectors)) (enumerate_from 0 sectors))
-    (each_turned P (oldest_of (starts sectors)) (enumerate_from 0 sectors) (each_numbered (λ s. AllByRecursion IsLawful s.reading.nodes) 0 sectors (lawful_sectors (split count len image) bytes)))) in
+    let lawful : AllByRecursion IsLawful (nodes_of log) = log_lawful count len image bytes in
     let history : IsLawfulHistory count len image (past_of log) = record {
       sizes = ap (λ k. is_geometry k len) (sym (length-split count len image)) ∙ s.sizes;
       readable = record {

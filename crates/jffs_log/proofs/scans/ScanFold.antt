@@ -3,7 +3,8 @@ use Rattle.std.proofs.Common.{◌≡◌, ⊎_elim, ℕ, ◌+◌, ◌<◌, Bool, 
 use Rattle.std.specs.Prelude.{is_some}
 use Rattle.std.specs.List.{list_any, AllByRecursion}
 use Rattle.std.proofs.lemmas.Bool.{and_parts, and_from, cases_Bool}
-use Rattle.std.proofs.lemmas.List.{take_more, reverse-append, take-append-drop}
+use Rattle.std.proofs.lemmas.List.{take_more, reverse-append, take-append-drop, append_assoc, append-nil}
+use Rattle.std.proofs.lemmas.Grind.{flat_map-append}
 use Rattle.jffs_node.specs.declared.node.Node.{Node}
 use Rattle.jffs_node.specs.Record.{is_lawful}
 use Rattle.jffs_tree.specs.Origin.{tree_of}
@@ -12,7 +13,8 @@ use Rattle.jffs_tree.specs.After.{can_apply, keeps_kind_in, keeps_offsets_in}
 use Rattle.jffs_tree.proofs.Tested.{trees_test_as_nodes}
 use Rattle.jffs_tree.proofs.Entries.{fits_parts, each_fits_from}
 use Rattle.jffs_node.proofs.Each.{each_at}
-use Rattle.jffs_log.specs.ScanFound.{keeps_form_after}
+use Rattle.jffs_log.specs.Image.{Sector}
+use Rattle.jffs_log.specs.ScanFound.{keeps_form_after, nodes_held}
 
 abbrev pub sized : List Node → Bool
 sized past = list_any (λ m. is_some m.size) past
@@ -42,22 +44,55 @@ older_fit : (newer past : List Node) → each_fits (newer ++ past) ≡ true → 
 older_fit [] past fits = fits
 older_fit (n ∷ newer) past fits = older_fit newer past (fits_parts n (newer ++ past) fits).0
 
-pub reverse_more : (nodes : List Node) (i : ℕ) (n : Node) → i < length nodes → n ≡ get_or nodes i n → reverse (take (i + 1) nodes) ≡ n ∷ reverse (take i nodes)
+reverse_more : (nodes : List Node) (i : ℕ) (n : Node) → i < length nodes → n ≡ get_or nodes i n → reverse (take (i + 1) nodes) ≡ n ∷ reverse (take i nodes)
 reverse_more nodes i n below is =
     ap (λ (xs : List Node). reverse xs) (take_more nodes i n below)
     ∙ reverse-append (take i nodes) (get_or nodes i n ∷ [])
     ∙ ap (λ (m : Node). m ∷ reverse (take i nodes)) (sym is)
 
-pub refused_at : (nodes : List Node) (i : ℕ) (n : Node) → AllByRecursion (λ n. is_lawful n ≡ true) nodes → i < length nodes → n ≡ get_or nodes i n → fits_after (reverse (take i nodes)) n ≡ false
-    → makes_tree (reverse nodes) ≡ false
-refused_at nodes i n lawful below is unfit = ⊎_elim
-    (λ (yes : makes_tree (reverse nodes) ≡ true).
-    let whole : reverse nodes ≡ reverse (drop (i + 1) nodes) ++ reverse (take (i + 1) nodes) =
-    ap (λ (xs : List Node). reverse xs) (sym (take-append-drop (i + 1) nodes)) ∙ reverse-append (take (i + 1) nodes) (drop (i + 1) nodes) in
-    let all = (and_parts (each_fits (reverse nodes)) (check (tree_of (reverse nodes))) yes).0 in
-    let older = older_fit (reverse (drop (i + 1) nodes)) (reverse (take (i + 1) nodes)) (sym (ap each_fits whole) ∙ all) in
-    let here : is_lawful n ≡ true = subst (λ (m : Node). is_lawful m ≡ true) (sym is) (each_at (λ n. is_lawful n ≡ true) nodes i n below lawful) in
-    let fit = next_fits (reverse (take i nodes)) n here (sym (ap each_fits (reverse_more nodes i n below is)) ∙ older) in
-    cc)
-    (λ (no : makes_tree (reverse nodes) ≡ false). no)
-    (cases_Bool (makes_tree (reverse nodes)))
+module _ (past nodes : List Node) (i : ℕ) (n : Node) (below : i < length nodes) (is : n ≡ get_or nodes i n) where
+  pub next_past : reverse (take (i + 1) nodes) ++ past ≡ n ∷ reverse (take i nodes) ++ past
+  next_past = ap (λ (xs : List Node). xs ++ past) (reverse_more nodes i n below is)
+
+  -- a node that doesn't fit those before it refuses all
+  pub refused_at : AllByRecursion (λ n. is_lawful n ≡ true) nodes → fits_after (reverse (take i nodes) ++ past) n ≡ false → each_fits (reverse nodes ++ past) ≡ false
+  refused_at lawful unfit = ⊎_elim
+      (λ (yes : each_fits (reverse nodes ++ past) ≡ true).
+      let later = reverse (drop (i + 1) nodes) in
+      let whole : reverse nodes ++ past ≡ later ++ (n ∷ reverse (take i nodes) ++ past) =
+      ap (λ (xs : List Node). reverse xs ++ past) (sym (take-append-drop (i + 1) nodes))
+      ∙ ap (λ (xs : List Node). xs ++ past) (reverse-append (take (i + 1) nodes) (drop (i + 1) nodes))
+      ∙ append_assoc later (reverse (take (i + 1) nodes)) past
+      ∙ ap (λ (xs : List Node). later ++ xs) next_past in
+      let older = older_fit later (n ∷ reverse (take i nodes) ++ past) (sym (ap each_fits whole) ∙ yes) in
+      let here : is_lawful n ≡ true = subst (λ (m : Node). is_lawful m ≡ true) (sym is) (each_at (λ n. is_lawful n ≡ true) nodes i n below lawful) in
+      let fit = next_fits (reverse (take i nodes) ++ past) n here older in
+      cc)
+      (λ (no : each_fits (reverse nodes ++ past) ≡ false). no)
+      (cases_Bool (each_fits (reverse nodes ++ past)))
+
+module _ (held : List (ℕ × Sector)) (k : ℕ) (s : ℕ × Sector) (below : k < length held) (is : s ≡ get_or held k s) where
+  -- the nodes of one sector more
+  pub sectors_more : reverse (nodes_held (take (k + 1) held)) ≡ reverse s.1.reading.nodes ++ reverse (nodes_held (take k held))
+  sectors_more =
+      ap (λ (xs : List (ℕ × Sector)). reverse (nodes_held xs)) (take_more held k s below)
+      ∙ ap (λ (xs : List Node). reverse xs) (flat_map-append (λ (t : ℕ × Sector). t.1.reading.nodes) (take k held) (get_or held k s ∷ []))
+      ∙ ap (λ (t : ℕ × Sector). reverse (nodes_held (take k held) ++ (t.1.reading.nodes ++ []))) (sym is)
+      ∙ ap (λ (xs : List Node). reverse (nodes_held (take k held) ++ xs)) (append-nil s.1.reading.nodes)
+      ∙ reverse-append (nodes_held (take k held)) s.1.reading.nodes
+
+  -- nodes of a sector that don't fit refuse the log
+  pub log_refused : each_fits (reverse s.1.reading.nodes ++ reverse (nodes_held (take k held))) ≡ false → makes_tree (reverse (nodes_held held)) ≡ false
+  log_refused unfit = ⊎_elim
+      (λ (yes : makes_tree (reverse (nodes_held held)) ≡ true).
+      let later = nodes_held (drop (k + 1) held) in
+      let whole : reverse (nodes_held held) ≡ reverse later ++ reverse (nodes_held (take (k + 1) held)) =
+      ap (λ (xs : List (ℕ × Sector)). reverse (nodes_held xs)) (sym (take-append-drop (k + 1) held))
+      ∙ ap (λ (xs : List Node). reverse xs) (flat_map-append (λ (t : ℕ × Sector). t.1.reading.nodes) (take (k + 1) held) (drop (k + 1) held))
+      ∙ reverse-append (nodes_held (take (k + 1) held)) later in
+      let all = (and_parts (each_fits (reverse (nodes_held held))) (check (tree_of (reverse (nodes_held held)))) yes).0 in
+      let older = older_fit (reverse later) (reverse (nodes_held (take (k + 1) held))) (sym (ap each_fits whole) ∙ all) in
+      let here = sym (ap each_fits sectors_more) ∙ older in
+      cc)
+      (λ (no : makes_tree (reverse (nodes_held held)) ≡ false). no)
+      (cases_Bool (makes_tree (reverse (nodes_held held))))

@@ -1,6 +1,6 @@
 -- The answer of a scan, and the cause of a refusal.
-use Rattle.std.proofs.Common.{◌≡◌, ◌⊎◌, inl, inr, ℕ, ◌-◌, ◌/◌, ◌<◌, Bool, true, false, cond, not, List, [], ◌∷◌, ◌++◌, length, map, filter, flat_map, reverse, Some, None, Result, Ok, Err, refl, sym, ap, subst, ◌∙◌, arith}
-use Rattle.std.specs.List.{list_any, last_or}
+use Rattle.std.proofs.Common.{◌≡◌, ◌⊎◌, inl, inr, ℕ, ◌-◌, ◌/◌, ◌<◌, Bool, true, false, cond, not, List, [], ◌∷◌, ◌++◌, length, map, filter, flat_map, reverse, get_or, Some, None, Result, Ok, Err, refl, sym, ap, subst, ◌∙◌, arith}
+use Rattle.std.specs.List.{list_any, last_or, AllByRecursion}
 use Rattle.std.proofs.lemmas.List.FromFn.{length-enumerate_from}
 use Rattle.jffs_node.specs.declared.node.Node.{Node}
 use Rattle.jffs_flash.specs.Device.{Device as FlashDevice}
@@ -16,12 +16,13 @@ use Rattle.jffs_log.specs.Volume.{split, sectors_in}
 use Rattle.jffs_log.specs.Scan.{Scanned, first_bad, versions_rise, or_refuse, unless, scan_sectors, scan}
 use Rattle.jffs_log.specs.ScanRead.{oldest_sector, AreRead, IsReadFault}
 use Rattle.jffs_log.specs.Room.{following, limits as limits_after}
-use Rattle.jffs_log.specs.ScanFound.{greatest_inode, last_version, scan_of, IsCause, IsFound, IsRefused}
+use Rattle.jffs_log.specs.ScanFound.{greatest_inode, last_version, nodes_held, scan_of, IsCause, IsFound, IsRefused}
 use Rattle.jffs_log.proofs.ring.Ring.{Numbered, sectors_of, sectors_numbered, ring_lengths}
 use Rattle.jffs_log.proofs.ring.Volume.{length-split}
 use Rattle.jffs_log.proofs.ring.Live.{geometry_passed, bad_passed, rest_of_causes, answer_on, scan_reads}
 use Rattle.jffs_log.proofs.scans.ScanNumbers.{greatest_first, version_first}
-use Rattle.jffs_log.proofs.scans.ScanSectors.{all_sound}
+use Rattle.jffs_log.proofs.scans.MountHistory.{IsLawful, log_lawful}
+use Rattle.jffs_log.proofs.scans.ScanSectors.{all_sound, all_split}
 use Rattle.jffs_log.proofs.scans.ScanIndex.{IsLocated, is_held, located, nodes_in}
 use Rattle.jffs_log.proofs.append.Open.{length-sectors_in}
 
@@ -71,19 +72,26 @@ oldest_refused why count len image list before after sizes read h same =
     same
 
 -- What a scan has found of the sectors.
-pub record IsAll (count len : ℕ) (image : List ℕ) (first : ℕ) (held : List Numbered) (nodes : List Node) : Type 0 where
+pub record IsAll (count len : ℕ) (image : List ℕ) (first : ℕ) (held : List Numbered) : Type 0 where
   pub sizes : is_geometry count len ≡ true
   pub list : List Numbered
   pub read : AreRead count len image list
   pub log : IsLocated (sectors_in count len image) first held
-  pub nodes_are : nodes ≡ flat_map (λ s. s.1.reading.nodes) held
 
 abbrev pub checks : List Node → List (Bool × ScanWhy)
 checks nodes = (not (versions_rise nodes), BadOrder) ∷ (not (makes_tree (reverse nodes)), BadTree) ∷ []
 
-module _ (count len : ℕ) (image : List ℕ) (first : ℕ) (held : List Numbered) (nodes : List Node) (all : IsAll count len image first held nodes) where
+module _ (count len : ℕ) (image : List ℕ) (first : ℕ) (held : List Numbered) (all : IsAll count len image first held) where
+  abbrev nodes : List Node
+  nodes = nodes_held held
+
   pub log_nodes : nodes_of (log_of (sectors_in count len image)) ≡ nodes
-  log_nodes = ap (λ (xs : List Numbered). nodes_of (flat_map records_in xs)) all.log.log ∙ nodes_in held ∙ sym all.nodes_are
+  log_nodes = ap (λ (xs : List Numbered). nodes_of (flat_map records_in xs)) all.log.log ∙ nodes_in held
+
+  pub held_lawful : AllByRecursion IsLawful nodes
+  held_lawful =
+      subst (AllByRecursion IsLawful) log_nodes
+      (log_lawful count len image (all_split (λ (xs : List ℕ). (i : ℕ) → get_or xs i 0 < 256) count len image (λ k below. let spelled = all.read.spelled k below in spelled.bytes)))
 
   answer_is : answer count len image ≡ answer_on (sectors_in count len image)
   answer_is = scan_reads count len image all.sizes (record { sound = all_sound 0 (sectors_in count len image) all.read.none; erased = all.log.some; run = all.log.run })

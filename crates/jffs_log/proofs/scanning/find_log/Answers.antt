@@ -1,6 +1,6 @@
 -- Step by step, in the definition's order.
 use Rattle.std.proofs.Common.{◌≡◌, ◌⊎◌, ◌*◌, false, ℕ, ◌<◌, get_or, List, length, map, flat_map, reverse, Ok, Err, refl, sym, ap, subst, ◌∙◌, arith}
-use Rattle.std.specs.List.{last_or}
+use Rattle.std.specs.List.{AllByRecursion, last_or}
 use Rattle.std.specs.Prelude.{None}
 use Rattle.std.proofs.lemmas.Bool.{false_from_ne_true, false≢true}
 use Rattle.jffs_node.specs.declared.node.Node.{Node}
@@ -13,14 +13,15 @@ use Rattle.jffs_log.specs.LogIndex.{ref_of}
 use Rattle.jffs_log.specs.Scan.{versions_rise}
 use Rattle.jffs_log.specs.ScanRead.{number_of_tail, used_of_tail, oldest_sector}
 use Rattle.jffs_log.specs.Room.{limits as limits_after}
-use Rattle.jffs_log.specs.ScanFound.{IsRefused, greatest_inode, last_version}
+use Rattle.jffs_log.specs.ScanFound.{IsRefused, greatest_inode, last_version, nodes_held}
 use Rattle.jffs_log.proofs.ring.Ring.{Numbered}
 use Rattle.jffs_log.proofs.append.Appended.{sizes_small}
+use Rattle.jffs_log.proofs.scans.MountHistory.{IsLawful}
 use Rattle.jffs_log.proofs.Results.{err_from}
 use Rattle.jffs_log.proofs.scans.ReadOnce.{sizes_some}
 use Rattle.jffs_log.proofs.scans.ScanSectors.{all_split}
 use Rattle.jffs_log.proofs.scans.ScanIndex.{described_is}
-use Rattle.jffs_log.proofs.scans.ScanFound.{unmoved, cause_at, found_at, geometry_refused, read_refused, oldest_refused, order_refused, tree_refused, scan_is, IsAll, log_nodes, located_in, described_in, first_below, held_below, limits_are}
+use Rattle.jffs_log.proofs.scans.ScanFound.{unmoved, cause_at, found_at, held_lawful, geometry_refused, read_refused, oldest_refused, order_refused, tree_refused, scan_is, IsAll, log_nodes, located_in, described_in, first_below, held_below, limits_are}
 use Rattle.jffs_log.proofs.scanning.find_log.Goals as goal
 
 pub returns-then-not-is_geometry-clause-refused : goal.returns-then-not-is_geometry-clause-refused
@@ -125,6 +126,19 @@ overflow_cast-index g c =
     let few = (sizes_small count len sizes).0 in
     omega arith
 
+pub of-requires : goal.of-requires
+of-requires g c =
+    let count = c.sectors-sectors.result in
+    let len = c.sector_size-sector_size.result in
+    let image = (g.F.Flash.device c.args.flash.now).image in
+    let sizes = c.if-not-is_geometry.ensures.0 refl in
+    let list = c.in_ok-held.held.items in
+    let oldest : Ok c.in_ok-first.first ≡ oldest_sector (map (λ (s : Numbered). s.1) list) = c.in_ok-first.ensures ∙ ap (λ (xs : List Numbered). oldest_sector (map (λ (s : Numbered). s.1) xs)) c.deref.ensures.value in
+    let held = c.keep_log.new.found.items in
+    let log = located_in count len image list c.in_ok-first.first held c.in_ok-held.ensures.read oldest c.keep_log.ensures in
+    subst (λ (xs : List Numbered). AllByRecursion IsLawful (nodes_held xs)) (sym c.deref-5.ensures.value)
+    (held_lawful count len image c.in_ok-first.first held (record { sizes = sizes; list = list; read = c.in_ok-held.ensures.read; log = log }))
+
 pub returns-in_err-numbers-clause-refused : goal.returns-in_err-numbers-clause-refused
 returns-in_err-numbers-clause-refused g c =
     let count = c.sectors-sectors.result in
@@ -137,12 +151,24 @@ returns-in_err-numbers-clause-refused g c =
     let oldest : Ok c.in_ok-first.first ≡ oldest_sector (map (λ (s : Numbered). s.1) list) = c.in_ok-first.ensures ∙ ap (λ (xs : List Numbered). oldest_sector (map (λ (s : Numbered). s.1) xs)) c.deref.ensures.value in
     let held = c.keep_log.new.found.items in
     let log = located_in count len image list c.in_ok-first.first held c.in_ok-held.ensures.read oldest c.keep_log.ensures in
-    let nodes = c.in_ok-nodes.nodes.items in
-    let all : IsAll count len image c.in_ok-first.first held nodes = record { sizes = sizes; list = list; read = c.in_ok-held.ensures.read; log = log; nodes_are = c.in_ok-nodes.ensures.value } in
+    let all : IsAll count len image c.in_ok-first.first held = record { sizes = sizes; list = list; read = c.in_ok-held.ensures.read; log = log } in
     let refused = c.in_err-numbers.ensures.refused in
     err_from c.from_residual-in_err-numbers.result c.in_err-numbers.field-0.0 (λ (v : ScanWhy). IsRefused device v after) c.from_residual-in_err-numbers.ensures.1
     (unmoved _ device after c.in_ok-held.ensures.same (cause_at c.in_err-numbers.field-0.0 device.faults device.faults count _ len _ image c.sectors-sectors.ensures.count c.sector_size-sector_size.ensures
-    (order_refused count len image c.in_ok-first.first held nodes all c.in_err-numbers.field-0.0 device.faults device.faults (refused.0, ap versions_rise (sym c.deref-5.ensures.value) ∙ refused.1) refl)))
+    (order_refused count len image c.in_ok-first.first held all c.in_err-numbers.field-0.0 device.faults device.faults (refused.0, ap (λ (xs : List Numbered). versions_rise (nodes_held xs)) (sym c.deref-5.ensures.value) ∙ refused.1) refl)))
+
+pub tree_of_log-requires : goal.tree_of_log-requires
+tree_of_log-requires g c =
+    let count = c.sectors-sectors.result in
+    let len = c.sector_size-sector_size.result in
+    let image = (g.F.Flash.device c.args.flash.now).image in
+    let sizes = c.if-not-is_geometry.ensures.0 refl in
+    let list = c.in_ok-held.held.items in
+    let oldest : Ok c.in_ok-first.first ≡ oldest_sector (map (λ (s : Numbered). s.1) list) = c.in_ok-first.ensures ∙ ap (λ (xs : List Numbered). oldest_sector (map (λ (s : Numbered). s.1) xs)) c.deref.ensures.value in
+    let held = c.keep_log.new.found.items in
+    let log = located_in count len image list c.in_ok-first.first held c.in_ok-held.ensures.read oldest c.keep_log.ensures in
+    subst (λ (xs : List Numbered). AllByRecursion IsLawful (nodes_held xs)) (sym c.deref-6.ensures.value)
+    (held_lawful count len image c.in_ok-first.first held (record { sizes = sizes; list = list; read = c.in_ok-held.ensures.read; log = log }))
 
 pub returns-in_err-tree-clause-refused : goal.returns-in_err-tree-clause-refused
 returns-in_err-tree-clause-refused g c =
@@ -156,13 +182,12 @@ returns-in_err-tree-clause-refused g c =
     let oldest : Ok c.in_ok-first.first ≡ oldest_sector (map (λ (s : Numbered). s.1) list) = c.in_ok-first.ensures ∙ ap (λ (xs : List Numbered). oldest_sector (map (λ (s : Numbered). s.1) xs)) c.deref.ensures.value in
     let held = c.keep_log.new.found.items in
     let log = located_in count len image list c.in_ok-first.first held c.in_ok-held.ensures.read oldest c.keep_log.ensures in
-    let nodes = c.in_ok-nodes.nodes.items in
-    let all : IsAll count len image c.in_ok-first.first held nodes = record { sizes = sizes; list = list; read = c.in_ok-held.ensures.read; log = log; nodes_are = c.in_ok-nodes.ensures.value } in
-    let rise = ap versions_rise (sym c.deref-5.ensures.value) ∙ c.in_ok-numbers.ensures.rise in
-    let refused = subst (λ (xs : List Node). (c.in_err-tree.field-0.0 ≡ Memory) ⊎ ((c.in_err-tree.field-0.0 ≡ BadTree) × (makes_tree (reverse xs) ≡ false))) c.deref-6.ensures.value c.in_err-tree.ensures.refused in
+    let all : IsAll count len image c.in_ok-first.first held = record { sizes = sizes; list = list; read = c.in_ok-held.ensures.read; log = log } in
+    let rise = ap (λ (xs : List Numbered). versions_rise (nodes_held xs)) (sym c.deref-5.ensures.value) ∙ c.in_ok-numbers.ensures.rise in
+    let refused = subst (λ (xs : List Numbered). (c.in_err-tree.field-0.0 ≡ Memory) ⊎ ((c.in_err-tree.field-0.0 ≡ BadTree) × (makes_tree (reverse (nodes_held xs)) ≡ false))) c.deref-6.ensures.value c.in_err-tree.ensures.refused in
     err_from c.from_residual-in_err-tree.result c.in_err-tree.field-0.0 (λ (v : ScanWhy). IsRefused device v after) c.from_residual-in_err-tree.ensures.1
     (unmoved _ device after c.in_ok-held.ensures.same (cause_at c.in_err-tree.field-0.0 device.faults device.faults count _ len _ image c.sectors-sectors.ensures.count c.sector_size-sector_size.ensures
-    (tree_refused count len image c.in_ok-first.first held nodes all c.in_err-tree.field-0.0 device.faults device.faults rise refused refl)))
+    (tree_refused count len image c.in_ok-first.first held all c.in_err-tree.field-0.0 device.faults device.faults rise refused refl)))
 
 pub returns-clause-found : goal.returns-clause-found
 returns-clause-found g c =
@@ -176,21 +201,20 @@ returns-clause-found g c =
     let oldest : Ok c.in_ok-first.first ≡ oldest_sector (map (λ (s : Numbered). s.1) list) = c.in_ok-first.ensures ∙ ap (λ (xs : List Numbered). oldest_sector (map (λ (s : Numbered). s.1) xs)) c.deref.ensures.value in
     let held = c.keep_log.new.found.items in
     let log = located_in count len image list c.in_ok-first.first held c.in_ok-held.ensures.read oldest c.keep_log.ensures in
-    let nodes = c.in_ok-nodes.nodes.items in
-    let all : IsAll count len image c.in_ok-first.first held nodes = record { sizes = sizes; list = list; read = c.in_ok-held.ensures.read; log = log; nodes_are = c.in_ok-nodes.ensures.value } in
-    let rise = ap versions_rise (sym c.deref-5.ensures.value) ∙ c.in_ok-numbers.ensures.rise in
-    let lawful = ap (λ (xs : List Node). makes_tree (reverse xs)) (sym c.deref-6.ensures.value) ∙ c.in_ok-tree.ensures.lawful in
-    let made = c.in_ok-tree.ensures.value ∙ ap (λ (xs : List Node). tree_of (reverse xs)) c.deref-6.ensures.value in
+    let all : IsAll count len image c.in_ok-first.first held = record { sizes = sizes; list = list; read = c.in_ok-held.ensures.read; log = log } in
+    let rise = ap (λ (xs : List Numbered). versions_rise (nodes_held xs)) (sym c.deref-5.ensures.value) ∙ c.in_ok-numbers.ensures.rise in
+    let lawful = ap (λ (xs : List Numbered). makes_tree (reverse (nodes_held xs))) (sym c.deref-6.ensures.value) ∙ c.in_ok-tree.ensures.lawful in
+    let made = c.in_ok-tree.ensures.value ∙ ap (λ (xs : List Numbered). tree_of (reverse (nodes_held xs))) c.deref-6.ensures.value in
     let ends = c.is_clean-clean.ensures ∙ ap (λ (xs : List Numbered). is_clean_tail (last_or None xs)) c.deref-3.ensures.value in
     let whole : length image ≡ count * len = c.sectors-sectors.ensures.whole ∙ (λ i. (sym c.sectors-sectors.ensures.count) i * (sym c.sector_size-sector_size.ensures) i) in
     let is = c.len-many.ensures in
     let same = c.keep_log.new.found.ok in
     let counted : length held ≡ c.len-many.result = omega arith in
-    let inodes = c.in_ok-numbers.ensures.inode ∙ ap greatest_inode c.deref-5.ensures.value in
-    let versions = c.in_ok-numbers.ensures.version ∙ ap last_version c.deref-5.ensures.value in
+    let inodes = c.in_ok-numbers.ensures.inode ∙ ap (λ (xs : List Numbered). greatest_inode (nodes_held xs)) c.deref-5.ensures.value in
+    let versions = c.in_ok-numbers.ensures.version ∙ ap (λ (xs : List Numbered). last_version (nodes_held xs)) c.deref-5.ensures.value in
     found_at count _ len _ image _ _ _ _ c.sectors-sectors.ensures.count c.sector_size-sector_size.ensures
     (record {
-      answer = scan_is count len image c.in_ok-first.first held nodes all c.in_ok-tree.tree c.is_clean-clean.result rise lawful made ends;
+      answer = scan_is count len image c.in_ok-first.first held all c.in_ok-tree.tree c.is_clean-clean.result rise lawful made ends;
       index = described_is count len image list c.in_ok-first.first held whole c.in_ok-held.ensures.read log sizes c.len-many.result c.of-tail.result.sector c.of-tail.result.used c.of-tail.result.free c.in_ok-records.records.items
           counted
           (c.of-tail.ensures.sector ∙ ap (λ (xs : List Numbered). number_of_tail (last_or None xs)) c.deref-2.ensures.value)
@@ -200,7 +224,7 @@ returns-clause-found g c =
       sizes = (refl, refl);
       erases = refl;
       limits_are =
-          limits_are len nodes c.limits.result c.in_ok-numbers.numbers.inode c.in_ok-numbers.numbers.version c.limits.ensures.data_max c.limits.ensures.inode c.limits.ensures.version inodes versions
-          ∙ ap (λ (xs : List Node). limits_after len (reverse xs)) (sym (log_nodes count len image c.in_ok-first.first held nodes all));
+          limits_are len (nodes_held held) c.limits.result c.in_ok-numbers.numbers.inode c.in_ok-numbers.numbers.version c.limits.ensures.data_max c.limits.ensures.inode c.limits.ensures.version inodes versions
+          ∙ ap (λ (xs : List Node). limits_after len (reverse xs)) (sym (log_nodes count len image c.in_ok-first.first held all));
       bytes = all_split (λ (xs : List ℕ). (i : ℕ) → get_or xs i 0 < 256) count len image (λ k below. let spelled = c.in_ok-held.ensures.read.spelled k below in spelled.bytes);
     })

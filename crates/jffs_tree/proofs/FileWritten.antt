@@ -1,5 +1,5 @@
 -- A node written over a file of fragments: the cells are spliced and sized as it says.
-use Rattle.std.proofs.Common.{◌≡◌, ◌≢◌, ℕ, max, ◌+◌, ◌-◌, ◌<◌, ◌≤◌, true, false, cond, eqb, List, [], ◌∷◌, ◌++◌, Bool, length, map, take, drop, replicate, ◌⊎◌, inl, ⊎_elim, Option, Some, None, sym, ap, subst, ◌∙◌, arith, append_assoc, length-append}
+use Rattle.std.proofs.Common.{◌≡◌, ◌≢◌, ℕ, max, ◌+◌, ◌-◌, ◌<◌, ◌≤◌, true, false, cond, eqb, List, [], ◌∷◌, ◌++◌, Bool, length, map, take, drop, replicate, ◌⊎◌, inl, ⊎_elim, Option, Some, None, unwrap_or, refl, sym, ap, subst, ◌∙◌, arith, append_assoc, length-append}
 use Rattle.std.specs.List.{filter}
 use Rattle.std.proofs.lemmas.Bool.{cases_Bool, cases_lt, eqb-true, eqb-false}
 use Rattle.std.proofs.lemmas.List.{append-nil, nil_from_length, length-replicate, length-drop}
@@ -11,7 +11,8 @@ use Rattle.jffs_tree.specs.After.{padded_with, spliced_with, sized_with}
 use Rattle.jffs_tree.specs.Fragments.{Fragments, Cell, end_of, laid, AreLaid, AreCut, FitsFile, IsFileAfter, SameCells, before, from, outside, overwritten, fragment_of}
 use Rattle.jffs_tree.proofs.Fragments.{laid_from_earlier, are_laid_append, laid_append, length-laid, all_before, none_from, parted, front_cells, back_cells}
 use Rattle.jffs_tree.proofs.Overwriting.{outside_parts}
-use Rattle.jffs_tree.proofs.Splitting.{cut_past}
+use Rattle.jffs_tree.proofs.SameCells.{same_cells}
+use Rattle.jffs_tree.proofs.Splitting.{Whole, cut_past}
 
 abbrev pub node_cells : Node → List Cell
 node_cells n = map (λ b. Some (b, n.version)) n.bytes
@@ -227,3 +228,22 @@ pub file_within : (n : Node) (size after stated : ℕ) (was cut now : Fragments)
     → IsFileAfter n size was stated now
 file_within n size after stated was cut now same h s some low long =
     file_stated n size after stated was cut now now same h s some low (cut_past 0 after stated now s.ordered long) (sym (kept_before stated after now s.ordered s.small low ∙ all_before 0 after stated now s.ordered long))
+
+-- Where the data stand for one fragment of their range, the rest of the file stays.
+pub file_replaced : (n : Node) (size after : ℕ) (f : Fragment) (was now : Fragments) → AreLaid 0 size was → FitsFile n size → Whole size n.offset f was → length f.bytes ≡ dsize n → dsize n ≡ n.rsize
+    → now ≡ overwritten (n.offset + dsize n) n was → after ≡ unwrap_or n.size size → size ≤ after → IsFileAfter n size was after now
+file_replaced n size after f was now h fits there long same is stated grown = by_size n.size refl stated
+  where
+    spliced : Spliced n size was (max (n.offset + dsize n) size) now
+    spliced = spliced_staying n size was now h fits there.first (subst (λ k. AreCut (n.offset + k) was) long there.end) same is
+
+    by_size : (o : Option ℕ) → n.size ≡ o → after ≡ unwrap_or o size → IsFileAfter n size was after now
+    by_size None none all =
+        let inside = there.fits in
+        let reach : max (n.offset + dsize n) size ≡ after = omega arith in
+        file_plain n size after was was now (same_cells was) h (subst (λ k. Spliced n size was k now) reach spliced) none
+    by_size (Some k) some all =
+        let inside = there.fits in
+        let low : k ≤ file_max = subst (λ (o : Option ℕ). unwrap_or o 0 ≤ file_max) some fits.node.size in
+        subst (λ s. IsFileAfter n size was s now) (sym all)
+        (file_within n size (max (n.offset + dsize n) size) k was was now (same_cells was) h spliced some low (omega arith))

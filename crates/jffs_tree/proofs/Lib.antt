@@ -43,6 +43,7 @@ pub mod Fragments
 pub mod Splitting
 pub mod Taking
 pub mod Overwriting
+pub mod Replacing
 pub mod Reading
 pub mod Comparing
 pub mod SameCells

@@ -140,7 +140,7 @@ whole_there size k f es h is =
     }
 
 -- ---- one fragment cut in two
-greater : (x y : ℕ) → y < x → nat_cmp x y ≡ Greater
+pub greater : (x y : ℕ) → y < x → nat_cmp x y ≡ Greater
 greater x y l = sym (nat_cmp_is x y Greater l)
 
 less : (x y : ℕ) → x < y → nat_cmp x y ≡ Less
@@ -158,7 +158,7 @@ put_after p x at k f (e ∷ a) b h l is =
     ap (λ (o : Ordering). match_ordering o ((p, x) ∷ e ∷ (a ++ (k, f) ∷ b)) ((e.0, x) ∷ (a ++ (k, f) ∷ b)) (e ∷ insert_entry nat_cmp (a ++ (k, f) ∷ b) p x)) (greater p e.0 (omega arith))
     ∙ ap (λ y. e ∷ y) (put_after p x (end_of e) k f a b h.2 l is)
 
-set_after : (k : ℕ) (f x : Fragment) (at : ℕ) (a b : Fragments) → AreLaid at k a → set_value (is_at (nat_cmp k)) (a ++ (k, f) ∷ b) x ≡ a ++ (k, x) ∷ b
+pub set_after : (k : ℕ) (f x : Fragment) (at : ℕ) (a b : Fragments) → AreLaid at k a → set_value (is_at (nat_cmp k)) (a ++ (k, f) ∷ b) x ≡ a ++ (k, x) ∷ b
 set_after k f x at [] b h = ap (λ t. cond t ((k, x) ∷ b) ((k, f) ∷ set_value (is_at (nat_cmp k)) b x)) (unsigned_tied k k ∙ eq-eqb k k refl)
 set_after k f x at (e ∷ a) b h =
     let bound = laid_bound (end_of e) k a h.2 in

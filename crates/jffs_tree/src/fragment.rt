@@ -16,6 +16,7 @@ use crate::marks::Marks;
 use jffs_node::{Bytes, FILE_MAX, Node, shared};
 use std::alloc::AllocError;
 use std::collections::BTreeMap;
+use std::mem;
 
 /// Bytes that one node wrote and that no later one did, and the node's version. It shares the
 /// block of the node's bytes.
@@ -118,34 +119,6 @@ fn cut(fragments: &mut Fragments, size: u32, first: u32, at: u32) -> Result<(), 
     Ok(())
 }
 
-/// Whether one fragment fills a range, in a file of a size.
-fn fills(fragments: &Fragments, size: u32, from: u32, to: u32) -> bool
-    requires laid { AreLaid 0 size fragments.now.entries × (size ≤ file_max) }
-    ensures { result ≡ true → AreCut from fragments.now.entries × AreCut to fragments.now.entries }
-{
-    match fragments.get(&from) {
-        Some(there) => from + there.len() == to,
-        None => false,
-    }
-}
-
-/// Cuts the fragments of a file of a size at both ends of a range. Where one fragment fills it, as
-/// when a record is written over, one search finds that. Where an allocation failed, the file reads
-/// as before.
-fn cut_ends(fragments: &mut Fragments, size: u32, from: u32, to: u32) -> Result<(), AllocError>
-    requires laid { AreLaid 0 size fragments.old.entries × (size ≤ file_max) }
-    ensures same { SameCells fragments.old.entries fragments.new.entries }
-    ensures from { OnOk result (AreCut from fragments.new.entries) }
-    ensures to { OnOk result (AreCut to fragments.new.entries) }
-{
-    if fills(fragments, size, from, to) {
-        return Ok(());
-    }
-    split_at(fragments, size, from)?;
-    split_at(fragments, size, to)?;
-    Ok(())
-}
-
 /// Writes a node over the fragments of a file of a size, and returns the size after it. Where an
 /// allocation failed, the file reads as before.
 pub(crate) fn write_over(
@@ -172,21 +145,10 @@ pub(crate) fn write_over(
     if size <= node.offset {
         return append(fragments, size, node, marks);
     }
-    let amount = node.bytes.len() as u32;
-    let reached = node.offset + amount;
-    let moves = amount != node.rsize;
-    let end = if moves { FILE_MAX } else { reached };
-    make_cuts(fragments, size, node, end)?;
-    overwrite(fragments, size, node, end, marks)?;
-    match node.size {
-        Some(stated) if stated < size => {
-            take_out(fragments, stated, FILE_MAX, node.inode, marks);
-            Ok(stated)
-        }
-        Some(stated) => Ok(stated),
-        None if moves => Ok(reached),
-        None => Ok(reached.max(size)),
+    if let Some(after) = replace(fragments, size, node, marks)? {
+        return Ok(after);
     }
+    splice(fragments, size, node, marks)
 }
 
 /// Writes a node over a file that ends where the node begins, or before: no fragment is in its way.
@@ -219,6 +181,85 @@ fn append(
     Ok(node.size.unwrap_or(node.offset + node.bytes.len() as u32))
 }
 
+/// Writes a node over the one fragment that has the range of its data, as when a record is written
+/// over: one search does. Returns the file's size after it, or `None` where there is no such
+/// fragment or the rest of the file changes too. Then, and where an allocation failed, nothing is
+/// changed.
+fn replace(
+    fragments: &mut Fragments,
+    size: u32,
+    node: &Node,
+    marks: &mut Marks,
+) -> Result<Option<u32>, AllocError>
+    requires fits { AreLaid 0 size fragments.old.entries × FitsFile node.now size }
+    requires marked { HasAmounts marks.old node.now.inode fragments.old.entries }
+    ensures replaced { IfOk result (λ some. IfSome some
+        (λ after. IsFileAfter node.now size fragments.old.entries after fragments.new.entries)) }
+    ensures moved { IfOk result (λ some. IfSome some (λ after. (v i : ℕ) → mark_of marks.new v i
+        + (if i == node.now.inode then amount_by v fragments.old.entries + brought_by v node.now
+        else 0) ≡ mark_of marks.old v i
+        + (if i == node.now.inode then amount_by v fragments.new.entries else 0))) }
+    ensures none { IfOk result (λ some. IfNone some
+        ((fragments.new.entries ≡ fragments.old.entries) × (marks.new ≡ marks.old))) }
+    ensures err { OnErr result
+        ((fragments.new.entries ≡ fragments.old.entries) × (marks.new ≡ marks.old)) }
+{
+    let amount = node.bytes.len();
+    let after = node.size.unwrap_or(size);
+    if amount as u32 != node.rsize || after < size {
+        return Ok(None);
+    }
+    let Some(there) = fragments.get_mut(&node.offset) else {
+        return Ok(None);
+    };
+    if there.bytes.len() != amount {
+        return Ok(None);
+    }
+    let covered = mem::replace(there, fragment_of(node)?);
+    marks.lower(covered.writer, node.inode, covered.len());
+    Ok(Some(after))
+}
+
+/// Cuts the fragments at the ends of a node's range, and writes the node between. Where an
+/// allocation failed, the file reads as before.
+fn splice(
+    fragments: &mut Fragments,
+    size: u32,
+    node: &Node,
+    marks: &mut Marks,
+) -> Result<u32, AllocError>
+    requires laid { AreLaid 0 size fragments.old.entries }
+    requires fits { FitsFile node.now size }
+    requires marked { (v : ℕ)
+        → amount_by v fragments.old.entries + brought_by v node.now
+        ≤ mark_of marks.old v node.now.inode }
+    ensures ok { IfOk result
+        (λ after. IsFileAfter node.now size fragments.old.entries after fragments.new.entries) }
+    ensures moved { OnOk result
+        ((v i : ℕ) → mark_of marks.new v i
+        + (if i == node.now.inode then amount_by v fragments.old.entries + brought_by v node.now
+        else 0) ≡ mark_of marks.old v i
+        + (if i == node.now.inode then amount_by v fragments.new.entries else 0)) }
+    ensures err { OnErr result
+        (SameCells fragments.old.entries fragments.new.entries × (marks.new ≡ marks.old)) }
+{
+    let amount = node.bytes.len() as u32;
+    let reached = node.offset + amount;
+    let moves = amount != node.rsize;
+    let end = if moves { FILE_MAX } else { reached };
+    make_cuts(fragments, size, node, end)?;
+    overwrite(fragments, size, node, end, marks)?;
+    match node.size {
+        Some(stated) if stated < size => {
+            take_out(fragments, stated, FILE_MAX, node.inode, marks);
+            Ok(stated)
+        }
+        Some(stated) => Ok(stated),
+        None if moves => Ok(reached),
+        None => Ok(reached.max(size)),
+    }
+}
+
 /// Cuts the fragments of a file of a size at both ends of what a node writes and at the size that
 /// it states, so that only whole ones are to be taken out. Where an allocation failed, the file
 /// reads as before.
@@ -234,7 +275,8 @@ pub(crate) fn make_cuts(
     ensures end { OnOk result (AreCut end fragments.new.entries) }
     ensures size { OnOk result (IfSome node.now.size (λ s. AreCut s fragments.new.entries)) }
 {
-    cut_ends(fragments, size, node.offset, end)?;
+    split_at(fragments, size, node.offset)?;
+    split_at(fragments, size, end)?;
     if let Some(stated) = node.size {
         split_at(fragments, size, stated)?;
     }

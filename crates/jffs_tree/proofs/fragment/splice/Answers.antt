@@ -4,8 +4,8 @@ use Rattle.jffs_node.specs.Record.{dsize, file_max}
 use Rattle.jffs_tree.specs.Fragments.{AreCut, IsFileAfter}
 use Rattle.jffs_tree.proofs.FileWritten.{Ends, spliced_either, spliced_moved, spliced_stayed, file_plain, file_stated, file_within, cut_overwritten}
 use Rattle.jffs_tree.proofs.Overwriting.{short_from_laid}
-use Rattle.jffs_tree.proofs.fragment.write_over.Goals as goal
-use Rattle.jffs_tree.proofs.fragment.write_over.Goals.{then-moves, else-moves}
+use Rattle.jffs_tree.proofs.fragment.splice.Goals as goal
+use Rattle.jffs_tree.proofs.fragment.splice.Goals.{then-moves, else-moves}
 
 pub make_cuts-requires : goal.make_cuts-requires
 make_cuts-requires c = record { laid = (c.requires.laid, c.requires.fits.small) }

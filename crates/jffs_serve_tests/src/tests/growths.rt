@@ -155,7 +155,6 @@ fn check_scan(
     Ok(())
 }
 
-#[tactic(auto, using(jffs_serve::proofs::Showing::can_begin))]
 /// The session after all that waits on a line was served, and was seen.
 fn session_after<R: Wait + Abort>(
     rt: &R,

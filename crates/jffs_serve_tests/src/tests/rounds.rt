@@ -59,7 +59,6 @@ pub(super) struct Left {
     pub(super) served: Served,
 }
 
-#[tactic(auto, using(jffs_serve::proofs::Showing::can_begin))]
 /// Serves all that waits on a line.
 pub(super) fn served_from<R: Wait>(
     rt: &R,

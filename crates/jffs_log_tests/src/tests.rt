@@ -129,25 +129,42 @@ fn each_call_on_its_happy_path(rt: HostRuntime) -> Result<(), TestFail> {
     Ok(())
 }
 
+/// A volume with version 1 of the file.
+fn with_first(rt: &(impl Abort + AllocGlobal)) -> Result<MemoryFlash, Cause> {
+    let Mounted { mut log, tree, .. } = mount(rt, blank(rt));
+    let first = written(rt.alloc(), 1, 5)?;
+    append(rt, &mut log, &tree, &first)?;
+    Ok(log.into_flash())
+}
+
+/// Appends a version of the file to a device whose writes fail after `calls` of them: whether that
+/// was refused, and the device.
+fn cut_append(
+    rt: &(impl Abort + AllocGlobal),
+    flash: MemoryFlash,
+    version: u32,
+    calls: u64,
+    fail: Fail,
+) -> Result<(bool, MemoryFlash), AllocError> {
+    let fuse = FuseFlash::new(flash, calls, Fused::Writes, fail);
+    let Mounted { mut log, tree, .. } = mount(rt, fuse);
+    let node = written(rt.alloc(), version, 5)?;
+    let cut = append(rt, &mut log, &tree, &node).is_err();
+    Ok((cut, log.into_flash().into_inner()))
+}
+
+/// The versions that a scan finds, as `versions` gives them.
+fn found(rt: &(impl Abort + AllocGlobal), flash: MemoryFlash) -> u32 {
+    versions(&mount(rt, flash).log)
+}
+
 #[test]
 fn a_cut_append_leaves_the_record_or_nothing(rt: HostRuntime) -> Result<(), TestFail> {
     for fail in [Fail::Nothing, Fail::Half] {
         for calls in 0..3 {
-            let Mounted {
-                mut log,
-                mut tree,
-                ..
-            } = mount(&rt, blank(&rt));
-            let first = written(rt.alloc(), 1, 5)?;
-            append(&rt, &mut log, &tree, &first)?;
-            apply(&rt, &mut tree, &first)?;
-            let fuse = FuseFlash::new(log.into_flash(), calls, Fused::Writes, fail);
-            let Mounted { mut log, tree, .. } = mount(&rt, fuse);
-            let second = written(rt.alloc(), 2, 5)?;
-            let cut = append(&rt, &mut log, &tree, &second);
-            assert_eq!(rt; cut.is_err(), calls < 2);
-            let again = mount(&rt, log.into_flash().into_inner());
-            assert_eq!(rt; versions(&again.log), if calls < 2 { 1 } else { 12 });
+            let (cut, flash) = cut_append(&rt, with_first(&rt)?, 2, calls, fail)?;
+            assert_eq!(rt; cut, calls < 2);
+            assert_eq!(rt; found(&rt, flash), if calls < 2 { 1 } else { 12 });
         }
     }
     Ok(())
@@ -155,17 +172,15 @@ fn a_cut_append_leaves_the_record_or_nothing(rt: HostRuntime) -> Result<(), Test
 
 #[test]
 fn half_record_does_not_count(rt: HostRuntime) -> Result<(), TestFail> {
-    let fuse = FuseFlash::new(blank(&rt), 0, Fused::Writes, Fail::Half);
-    let Mounted { mut log, tree, .. } = mount(&rt, fuse);
-    let node = written(rt.alloc(), 1, 5)?;
-    assert!(rt; append(&rt, &mut log, &tree, &node).is_err());
-    let Mounted { mut log, tree, .. } = mount(&rt, log.into_flash().into_inner());
+    let (cut, flash) = cut_append(&rt, blank(&rt), 1, 0, Fail::Half)?;
+    assert!(rt; cut);
+    let Mounted { mut log, tree, .. } = mount(&rt, flash);
     assert_eq!(rt; log.records().len(), 0);
     assert_eq!(rt; log.erased(), 5);
+    let node = written(rt.alloc(), 1, 5)?;
     append(&rt, &mut log, &tree, &node)?;
     assert_eq!(rt; log.erased(), 4);
-    let again = mount(&rt, log.into_flash());
-    assert_eq!(rt; versions(&again.log), 1);
+    assert_eq!(rt; found(&rt, log.into_flash()), 1);
     Ok(())
 }
 
@@ -173,6 +188,33 @@ fn half_record_does_not_count(rt: HostRuntime) -> Result<(), TestFail> {
 fn erase<F: Flash>(rt: &impl Abort, log: &mut Log<F>, tree: &Tree) -> Result<(), Cause> {
     assert!(rt; !log.failed() && log.oldest_dead(tree));
     log.erase_oldest(tree)
+}
+
+/// Appends a version of the file, and erases the oldest sector where it is dead then.
+fn append_and_erase(
+    rt: &(impl Abort + AllocGlobal),
+    log: &mut Log<MemoryFlash>,
+    tree: &mut Tree,
+    version: u32,
+) -> Result<(), Cause> {
+    let node = written(rt.alloc(), version, 192)?;
+    append(rt, log, tree, &node)?;
+    apply(rt, tree, &node)?;
+    if is_oldest_dead(rt, log, tree) {
+        erase(rt, log, tree)?;
+        assert_eq!(rt; log.erases(), 1);
+    }
+    Ok(())
+}
+
+/// A scan finds the records and the sectors that the log holds.
+fn is_found(rt: &(impl Abort + AllocGlobal), log: Log<MemoryFlash>) -> MemoryFlash {
+    let kept = versions(&log);
+    let ring = (log.oldest(), log.held());
+    let again = mount(rt, log.into_flash());
+    assert_eq!(rt; versions(&again.log), kept);
+    assert_eq!(rt; (again.log.oldest(), again.log.held()), ring);
+    again.log.into_flash()
 }
 
 #[test]
@@ -184,19 +226,8 @@ fn a_log_goes_round_the_end_of_the_image(rt: HostRuntime) -> Result<(), TestFail
             mut tree,
             ..
         } = mount(&rt, flash);
-        let node = written(rt.alloc(), version, 192)?;
-        append(&rt, &mut log, &tree, &node)?;
-        apply(&rt, &mut tree, &node)?;
-        if is_oldest_dead(&rt, &log, &tree) {
-            erase(&rt, &mut log, &tree)?;
-            assert_eq!(rt; log.erases(), 1);
-        }
-        let kept = versions(&log);
-        let ring = (log.oldest(), log.held());
-        let again = mount(&rt, log.into_flash());
-        assert_eq!(rt; versions(&again.log), kept);
-        assert_eq!(rt; (again.log.oldest(), again.log.held()), ring);
-        flash = again.log.into_flash();
+        append_and_erase(&rt, &mut log, &mut tree, version)?;
+        flash = is_found(&rt, log);
     }
     Ok(())
 }

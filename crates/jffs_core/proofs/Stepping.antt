@@ -16,7 +16,6 @@ use Rattle.jffs_log.specs.declared.room.Room.{Room}
 use Rattle.jffs_log.specs.declared.room.Room.TheVariants as rooms
 use Rattle.jffs_log.specs.Room.{next_version, heavy, weight}
 use Rattle.jffs_log.specs.LogIndex.{layout_in}
-use Rattle.jffs_core.specs.declared.answer.Answered.{Answered}
 use Rattle.jffs_core.specs.CoreState.{CoreState}
 use Rattle.jffs_core.specs.History.{AreOwnCopies, MayFollow, Grows}
 use Rattle.jffs_core.specs.Run.{OnlyCopies, is_failure}
@@ -274,8 +273,8 @@ module _ (past : List Node) (old new : CoreState) (q : Request) (works : old.fai
           c r bound full
 
 -- the answer in other words
-pub answers_same : (past : List Node) (old new : CoreState) (q : Request) (a b : Answered) → a ≡ b → HasAnswered past old new q b.outcome b.node → HasAnswered past old new q a.outcome a.node
-answers_same past old new q a b same h = subst (λ (x : Answered). HasAnswered past old new q x.outcome x.node) (sym same) h
+pub answers_same : (past : List Node) (old new : CoreState) (q : Request) (a b : Outcome) (node : Node) → a ≡ b → HasAnswered past old new q b (Some node) → HasAnswered past old new q a (Some node)
+answers_same past old new q a b node same h = subst (λ (o : Outcome). HasAnswered past old new q o (Some node)) (sym same) h
 
 -- no version is left
 pub none_left : (o : Option ℕ) → ((k : ℕ) → o ≡ Some k → ⊥) → o ≡ None

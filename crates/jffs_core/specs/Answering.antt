@@ -80,6 +80,12 @@ abbrev pub HasActed : List Node → CoreState → CoreState → Request → Resu
 HasActed past old new q (Ok a) = HasAnswered past old new q a.outcome a.node
 HasActed past old new q (Err cause) = HasAnswered past old new q (Refused cause) None
 
+-- the same of what became of a request for which this node was to be appended
+abbrev pub HasAppended : List Node → CoreState → CoreState → Request → Node → Result Outcome Cause
+    → Type 0
+HasAppended past old new q node (Ok o) = HasAnswered past old new q o (Some node)
+HasAppended past old new q node (Err cause) = HasAnswered past old new q (Refused cause) None
+
 -- the same of the history since a mount, but for the node
 pub record Answers (mounted past : List Node) (old new : CoreState) (q : Request) (o : Outcome) :
     Type 0 where

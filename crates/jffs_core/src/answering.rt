@@ -20,6 +20,7 @@ impl<F: Flash> Core<F> {
     ghost use Rattle.jffs_node.specs.declared.node.Node.{Node};
     ghost use Rattle.jffs_core.specs.Past.{RepresentsWorking, Represents, has_room_for};
     ghost use Rattle.jffs_core.specs.Answering.{Answers, AnswersWith, HasAnswered, HasActed};
+    ghost use Rattle.jffs_core.specs.Answering.{HasAppended};
     ghost use Rattle.jffs_core.specs.Answering.{AddsAnswer, IsNodeOf, KeepsAnswer, WantsFresh};
     ghost use Rattle.jffs_core.specs.Erases.{Leaves, StaysBounded, erased_for};
     ghost use Rattle.jffs_core.specs.Trees.{TellsNode};
@@ -52,20 +53,20 @@ impl<F: Flash> Core<F> {
             → Answers mounted past self.old self.new request result }
         ensures bounded { StaysBounded request.wish self.old self.new }
     {
-        self.answer_with_node(request).outcome
+        self.answer_with_node(&request).outcome
     }
 
     /// Answers a request as [`answer`](Core::answer) does, and also returns the node that was
     /// appended for it. That node may be applied to the tree that the core had, or to any of the
     /// same state, and makes the state of the tree that it has then.
-    pub fn answer_with_node(&mut self, request: Request) -> Answered
+    pub fn answer_with_node(&mut self, request: &Request) -> Answered
         requires reserved { length self.old.answers < self.old.capacity }
-        ensures kept { AddsAnswer request.writer request.seq result.outcome self.old self.new }
+        ensures kept { AddsAnswer request.now.writer request.now.seq result.outcome self.old self.new }
         ensures step { (mounted past : List Node) → Represents mounted past self.old
-            → AnswersWith mounted past self.old self.new request result.outcome result.node }
+            → AnswersWith mounted past self.old self.new request.now result.outcome result.node }
         ensures node { HasNode result.outcome result.node }
         ensures tree { TellsNode self.old self.new result.node }
-        ensures bounded { StaysBounded request.wish self.old self.new }
+        ensures bounded { StaysBounded request.now.wish self.old self.new }
     {
         let answered = if self.log.failed() {
             Answered {
@@ -73,7 +74,7 @@ impl<F: Flash> Core<F> {
                 node: None,
             }
         } else {
-            self.act(&request)
+            self.act(request)
         };
         self.push_answer(request.writer, request.seq, answered.outcome);
         answered
@@ -128,16 +129,21 @@ impl<F: Flash> Core<F> {
         let Some(version) = self.limits.next_version else {
             unreachable!()
         };
-        let node = new.with(version, request.writer, request.seq);
-        self.append_decided(request, node)
+        let mut node = new.with(version, request.writer, request.seq);
+        let outcome = self.append_decided(request, &mut node)?;
+        Ok(Answered {
+            outcome,
+            node: Some(node),
+        })
     }
 
-    /// Appends the node that was decided on.
-    fn append_decided(&mut self, request: &Request, node: Node) -> Result<Answered, Cause>
+    /// Appends the node that was decided on. Cleaning that comes before it gives it a later
+    /// version.
+    fn append_decided(&mut self, request: &Request, node: &mut Node) -> Result<Outcome, Cause>
         requires working { self.old.failed ≡ false }
-        requires decided { IsNodeOf self.old request.now node }
+        requires decided { IsNodeOf self.old request.now node.old }
         ensures acted { (past : List Node) → RepresentsWorking past self.old
-            → HasActed past self.old self.new request.now result }
+            → HasAppended past self.old self.new request.now node.new result }
         ensures leaves { Leaves (erased_for request.now.wish self.old.index.held)
             self.old self.new }
     {
@@ -147,94 +153,81 @@ impl<F: Flash> Core<F> {
         if request.wish.is_copy() {
             return self.append_copy(request, node);
         }
-        if !self.has_room(Room::Fresh, record_len(&node)) {
+        if !self.has_room(Room::Fresh, record_len(node)) {
             return self.clean_for(request, node);
         }
         self.append_fresh(request, node)
     }
 
     /// Appends an unmount node.
-    fn append_unmount(&mut self, request: &Request, node: Node) -> Result<Answered, Cause>
+    fn append_unmount(&mut self, request: &Request, node: &Node) -> Result<Outcome, Cause>
         requires working { self.old.failed ≡ false }
-        requires decided { IsNodeOf self.old request.now node }
+        requires decided { IsNodeOf self.old request.now node.now }
         requires unmounts { is_unmount_wish request.now.wish ≡ true }
         ensures acted { (past : List Node) → RepresentsWorking past self.old
-            → HasActed past self.old self.new request.now result }
+            → HasAppended past self.old self.new request.now node.now result }
         ensures leaves { Leaves 0 self.old self.new }
     {
-        self.append(Room::Unmount, &node)?;
-        Ok(Answered {
-            outcome: Outcome::Closed,
-            node: Some(node),
-        })
+        self.append(Room::Unmount, node)?;
+        Ok(Outcome::Closed)
     }
 
     /// Appends a copy that a sender handed in.
-    fn append_copy(&mut self, request: &Request, node: Node) -> Result<Answered, Cause>
+    fn append_copy(&mut self, request: &Request, node: &Node) -> Result<Outcome, Cause>
         requires working { self.old.failed ≡ false }
-        requires decided { IsNodeOf self.old request.now node }
+        requires decided { IsNodeOf self.old request.now node.now }
         requires copies { is_copy_wish request.now.wish ≡ true }
         ensures acted { (past : List Node) → RepresentsWorking past self.old
-            → HasActed past self.old self.new request.now result }
+            → HasAppended past self.old self.new request.now node.now result }
         ensures leaves { Leaves 0 self.old self.new }
     {
-        self.append(Room::Fresh, &node)?;
-        Ok(Answered {
-            outcome: Outcome::Copied {
-                version: node.version,
-            },
-            node: Some(node),
+        self.append(Room::Fresh, node)?;
+        Ok(Outcome::Copied {
+            version: node.version,
         })
     }
 
     /// Appends a fresh node that has room.
-    fn append_fresh(&mut self, request: &Request, node: Node) -> Result<Answered, Cause>
+    fn append_fresh(&mut self, request: &Request, node: &Node) -> Result<Outcome, Cause>
         requires working { self.old.failed ≡ false }
-        requires decided { IsNodeOf self.old request.now node }
+        requires decided { IsNodeOf self.old request.now node.now }
         requires fresh { WantsFresh request.now.wish }
-        requires room { has_room_for self.old Room.Fresh (length_of node) ≡ true }
+        requires room { has_room_for self.old Room.Fresh (length_of node.now) ≡ true }
         ensures acted { (past : List Node) → RepresentsWorking past self.old
-            → HasActed past self.old self.new request.now result }
+            → HasAppended past self.old self.new request.now node.now result }
         ensures leaves { Leaves 0 self.old self.new }
     {
-        self.append(Room::Fresh, &node)?;
+        self.append(Room::Fresh, node)?;
         Ok(appended(node))
     }
 
     /// Makes room for a fresh node that has none, and appends it. The copies take versions.
-    fn clean_for(&mut self, request: &Request, node: Node) -> Result<Answered, Cause>
+    fn clean_for(&mut self, request: &Request, node: &mut Node) -> Result<Outcome, Cause>
         requires working { self.old.failed ≡ false }
-        requires decided { IsNodeOf self.old request.now node }
+        requires decided { IsNodeOf self.old request.now node.old }
         requires fresh { WantsFresh request.now.wish }
-        requires no_room { has_room_for self.old Room.Fresh (length_of node) ≡ false }
+        requires no_room { has_room_for self.old Room.Fresh (length_of node.old) ≡ false }
         ensures acted { (past : List Node) → RepresentsWorking past self.old
-            → HasActed past self.old self.new request.now result }
+            → HasAppended past self.old self.new request.now node.new result }
         ensures leaves { Leaves self.old.index.held self.old self.new }
     {
-        self.make_room(record_len(&node))?;
+        self.make_room(record_len(node))?;
         let Some(version) = self.limits.next_version else {
             return Err(Cause::VersionsSpent);
         };
-        let mut node = node;
         node.version = version;
-        self.append(Room::Fresh, &node)?;
+        self.append(Room::Fresh, node)?;
         Ok(appended(node))
     }
 }
 
 /// The answer to a request whose fresh node was appended.
-fn appended(node: Node) -> Answered
-    ensures { result ≡ record {
-      outcome = Outcome.Appended node.inode node.version;
-      node = Some node;
-    } }
+fn appended(node: &Node) -> Outcome
+    ensures { result ≡ Outcome.Appended node.now.inode node.now.version }
 {
-    Answered {
-        outcome: Outcome::Appended {
-            inode: node.inode,
-            version: node.version,
-        },
-        node: Some(node),
+    Outcome::Appended {
+        inode: node.inode,
+        version: node.version,
     }
 }
 

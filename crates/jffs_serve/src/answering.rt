@@ -27,12 +27,12 @@ impl<F: Flash> Session<F> {
     ghost use Rattle.jffs_serve.specs.Showing.{ShowsCore, IsShown};
 
     /// Answers a request, and keeps the answer's step.
-    pub(crate) fn answer(&mut self, request: Request)
+    pub(crate) fn answer(&mut self, request: &Request)
         requires reserved { length self.old.core.answers < self.old.core.capacity }
         requires opened { self.old.core.closed ≡ false }
         requires sent { self.old.unsent ≡ None }
         ensures replies { (put : List Step) (before now : ℕ → List Request)
-            → ((w : ℕ) → now w ≡ before w ++ of w (request ∷ []))
+            → ((w : ℕ) → now w ≡ before w ++ of w (request.now ∷ []))
             → RepliesMore self.old put before self.new put now None }
         ensures ready { IsReady self.new.unsent [] }
         ensures shown { (shown : Shown) → ShowsCore shown.tree self.old.core

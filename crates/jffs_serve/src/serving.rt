@@ -94,7 +94,7 @@ fn answer_next<R: Wait, F: Flash, T: Taker>(
     }
     match taker.take(rt) {
         Some(request) => {
-            session.answer(request);
+            session.answer(&request);
             Ok(())
         }
         None => Err(Served::Ended),

@@ -19,7 +19,7 @@ use Rattle.jffs_core.proofs.mounted_core.Core.answer_with_node.Goals.{then-faile
 
 pub returns-clause-step : goal.returns-clause-step
 returns-clause-step g c = λ mounted past stands.
-    let q = c.args.request in
+    let q = c.args.request.now in
     let old : CoreState = c.args.self.now in
     let a : Answered = c.if-failed.answered in
     let acted : HasAnswered past old c.if-failed.self q a.outcome a.node =
@@ -40,7 +40,7 @@ returns-clause-node g c =
     elim c.if-failed.branch [
       | then-failed w ↦ subst (λ (a : Answered). HasNode a.outcome a.node) (sym w.answered-is) refl
       | else-failed w ↦
-          let q = c.args.request in
+          let q = c.args.request.now in
           let past = c.self.invariant.past (sym c.failed.ensures ∙ w.if-failed.false) in
           let known = subst (λ (v : CoreState). RepresentsWorking past.0 v) c.self.view_is past.1 in
           let acted = w.act-answered.ensures.acted past.0 known in
@@ -49,7 +49,7 @@ returns-clause-node g c =
 
 pub returns-clause-kept : goal.returns-clause-kept
 returns-clause-kept g c =
-    let q = c.args.request in
+    let q = c.args.request.now in
     let old : CoreState = c.args.self.now in
     let o = c.if-failed.answered.outcome in
     let new : CoreState = c.push_answer.new.self in
@@ -78,17 +78,17 @@ returns-clause-bounded g c =
     let held = c.push_answer.ensures.held in
     elim c.if-failed.branch [
       | then-failed w ↦
-          let most = erased_for c.args.request.wish old.index.held in
+          let most = erased_for c.args.request.now.wish old.index.held in
           let leaves = subst (Leaves most old) (sym w.self-is) (leaves_all most old) in
           let same = ap (λ (v : CoreState). v.index.erases) w.self-is in
           let erases = ap (λ (b : LogIndex). b.erases) index in
-          answer_bounded c.args.request.wish old middle new leaves index (ap (λ (v : CoreState). v.failed) kept) held (omega arith)
+          answer_bounded c.args.request.now.wish old middle new leaves index (ap (λ (v : CoreState). v.failed) kept) held (omega arith)
       | else-failed w ↦
           let v = c.self.inside in
           let past = c.self.invariant.past (sym c.failed.ensures ∙ w.if-failed.false) in
           let low = held_most past.0 v.log.device.image v.log.index v.tree v.limits v.clean (c.self.invariant.index (sym c.failed.ensures ∙ w.if-failed.false)) past.1 in
           let few : old.index.held ≤ old.index.sectors = subst (λ (v : CoreState). v.index.held ≤ v.index.sectors) c.self.view_is low in
-          let wish = c.args.request.wish in
+          let wish = c.args.request.now.wish in
           let within = erased_within wish old.index.held in
           let leaves = subst (Leaves (erased_for wish old.index.held) old) (sym w.self-is) w.act-answered.ensures.leaves in
           let bound = leaves.erases in
@@ -98,7 +98,7 @@ returns-clause-bounded g c =
 
 pub returns-clause-tree : goal.returns-clause-tree
 returns-clause-tree g c =
-    let q = c.args.request in
+    let q = c.args.request.now in
     let old : CoreState = c.args.self.now in
     let middle : CoreState = c.if-failed.self in
     let new : CoreState = c.push_answer.new.self in

@@ -20,13 +20,13 @@ use Rattle.jffs_core.proofs.Erasing.{leaves_along}
 use Rattle.jffs_core.proofs.mounted_core.Core.clean_for.Goals as goal
 
 pub record_len-requires : goal.record_len-requires
-record_len-requires g c = let d = c.requires.decided in its_len d.past _ c.args.request.now c.args.node d.known d
+record_len-requires g c = let d = c.requires.decided in its_len d.past _ c.args.request.now c.args.node.now d.known d
 
 pub returns-in_err-make_room-clause-acted : goal.returns-in_err-make_room-clause-acted
 returns-in_err-make_room-clause-acted g c = let p = err_from_is_err_and c.from_residual.result c.from_residual.ensures.1 in rw (p.1, p.2) λ past known.
     let d = c.requires.decided in
     let q = c.args.request.now in
-    let n = c.args.node in
+    let n = c.args.node.now in
     let made = c.in_err-make_room.ensures.refused past known in
     let making = made.1 in
     let stopped = making.stopped in
@@ -38,7 +38,7 @@ pub returns-in_default-clause-acted : goal.returns-in_default-clause-acted
 returns-in_default-clause-acted g c = λ past known.
     let d = c.requires.decided in
     let q = c.args.request.now in
-    let n = c.args.node in
+    let n = c.args.node.now in
     let m = c.in_ok-make_room.ensures.made past known in
     let h = m.1 in
     let none = none_left _ c.in_default.not-Some in
@@ -56,7 +56,7 @@ append-requires-clause-follows g c =
     let h = m.1 in (
       m.0,
       h.stands.represents,
-      may_later d.past m.0 _ c.make_room.new.self c.args.request.now c.args.node d c.in-Some.version d.known c.requires.fresh.no_copy c.requires.fresh.no_unmount h.copies h.stands.represents (let l = c.make_room.ensures.leaves in l.sizes)
+      may_later d.past m.0 _ c.make_room.new.self c.args.request.now c.args.node.now d c.in-Some.version d.known c.requires.fresh.no_copy c.requires.fresh.no_unmount h.copies h.stands.represents (let l = c.make_room.ensures.leaves in l.sizes)
           (ap (λ (v : CoreState). v.limits.next_version) (sym c.self.view_is) ∙ c.in-Some.is),
     )
 
@@ -64,7 +64,7 @@ pub returns-clause-acted : goal.returns-clause-acted
 returns-clause-acted g c = λ past known.
     let d = c.requires.decided in
     let q = c.args.request.now in
-    let n = c.args.node in
+    let n = c.args.node.now in
     let later : Node = record n { version = c.in-Some.version } in
     let m = c.in_ok-make_room.ensures.made past known in
     let h = m.1 in
@@ -72,7 +72,7 @@ returns-clause-acted g c = λ past known.
     let next = ap (λ (v : CoreState). v.limits.next_version) (sym c.self.view_is) ∙ c.in-Some.is in
     let may = may_later past m.0 _ c.make_room.new.self q n d c.in-Some.version known c.requires.fresh.no_copy c.requires.fresh.no_unmount h.copies h.stands.represents (let l = c.make_room.ensures.leaves in l.sizes) next in
     let fresh = fresh_is past _ q n known d c.requires.fresh.no_copy c.requires.fresh.no_unmount in
-    answers_same past _ _ q c.appended.result (record { outcome = Appended later.inode later.version; node = Some later }) c.appended.ensures
+    answers_same past _ _ q c.appended.result (Appended later.inode later.version) later c.appended.ensures
     (put_fresh past _ _ q c.requires.working known n later m.0 d fresh h.copies
     (inr (its_makes_room past _ q n known d c.append.new.self (fresh_room past _ q n known d c.requires.fresh.no_copy c.requires.fresh.no_unmount) c.requires.no_room fresh)) (made_is_little c.record_len.result past m.0 _ c.make_room.new.self known h) (
       its_gets past _ q n known d c.append.new.self c.record_len.result true c.record_len.ensures (h.room ∙ ap (has_room_for c.make_room.new.self rooms.Fresh) c.record_len.ensures ∙ p.had_room),
@@ -86,7 +86,7 @@ pub returns-in_err-append-clause-acted : goal.returns-in_err-append-clause-acted
 returns-in_err-append-clause-acted g c = let p = err_from_is_err_and c.from_residual-in_err-append.result c.from_residual-in_err-append.ensures.1 in rw (p.1, p.2) λ past known.
     let d = c.requires.decided in
     let q = c.args.request.now in
-    let n = c.args.node in
+    let n = c.args.node.now in
     let later : Node = record n { version = c.in-Some.version } in
     let m = c.in_ok-make_room.ensures.made past known in
     let h = m.1 in

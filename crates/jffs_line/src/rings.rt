@@ -10,9 +10,9 @@ mod settling;
 
 use crate::hand::{Ends, Hand, Taker};
 use crate::request::{NotTaken, Request, Why};
-use bell::Bell;
+use bell::{Bell, HandWaker};
 use crossbeam_utils::Backoff;
-use crossbeam_utils::sync::{Parker, Unparker};
+use crossbeam_utils::sync::Parker;
 use jffs_tree::Wish;
 pub use make::ring_line;
 use rtrb::{Consumer, Producer, PushError};
@@ -150,7 +150,7 @@ pub(crate) struct Ring {
     consumer: Consumer<Note>,
     number: u16,
     // Wakes the hand where it sleeps.
-    hand: Unparker,
+    waker: HandWaker,
 }
 
 impl Ring {
@@ -166,7 +166,7 @@ impl Ring {
     {
         match self.consumer.pop() {
             Ok(note) => {
-                self.hand.unpark();
+                self.waker.count();
                 Some(Request {
                     writer: self.number,
                     seq: note.seq,

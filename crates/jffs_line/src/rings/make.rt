@@ -10,7 +10,7 @@ ghost use Rattle.jffs_line.specs.declared.request.LineFault.TheVariants.{Capacit
 ghost use Rattle.jffs_line.specs.declared.hand.TheConstants.{MOST_WRITERS, MOST_CAPACITY};
 ghost use Rattle.jffs_line.specs.Settling.{all_hands};
 
-use super::bell::Bell;
+use super::bell::{Bell, HandWaker};
 use super::{Ring, RingHand, RingLine, RingTaker};
 use crate::hand::{CLEANER, CONTROL, Control, Ends, Hands, MOST_CAPACITY, MOST_WRITERS};
 use crate::request::LineFault;
@@ -42,7 +42,7 @@ fn ring(
     let ring = Ring {
         consumer,
         number,
-        hand: wakes_hand,
+        waker: HandWaker::new(wakes_hand, capacity),
     };
     Ok((hand, ring))
 }

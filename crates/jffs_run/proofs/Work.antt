@@ -1,5 +1,4 @@
 -- What the answers of a run copy and erase.
-use Rattle.std.proofs.Common.{◌≡◌}
 use Rattle.jffs_log.specs.Image.{past_of}
 use Rattle.jffs_core.proofs.Working.{answers_copy_little}
 use Rattle.jffs_run.specs.Work.{RunsWorkLittle}

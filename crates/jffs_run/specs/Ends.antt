@@ -1,12 +1,10 @@
 -- The hands of a run.
-use Rattle.std.specs.Prelude.{◌≡◌, ℕ, ◌+◌, ◌<◌, List, [], ◌∷◌, ◌++◌, length, take, eqb, cond}
-use Rattle.std.specs.Prelude.{slice_index_or, map, Contains}
-use Rattle.std.specs.List.{All, AllByRecursion}
+use Rattle.std.specs.Prelude.{◌≡◌, ℕ, ◌+◌, ◌<◌, List, [], ◌∷◌, length, take, eqb, cond}
+use Rattle.std.specs.Prelude.{slice_index_or}
+use Rattle.std.specs.List.{AllByRecursion}
 use Rattle.jffs_line.specs.Line.{End}
 use Rattle.jffs_line.specs.declared.request.Request.{Request}
-use Rattle.jffs_line.specs.Requests.{of, IsNumbered}
 use Rattle.jffs_line.specs.declared.hand.Hand as Hand
-use Rattle.jffs_line.specs.declared.hand.Hands.{Hands}
 use Rattle.jffs_text.specs.declared.command.Command.{Command}
 use Rattle.jffs_text.specs.declared.script.Writer.{Writer}
 use Rattle.jffs_serve.specs.Copies.{IsCopy}

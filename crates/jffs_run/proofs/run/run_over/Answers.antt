@@ -1,4 +1,4 @@
-use Rattle.std.proofs.Common.{rules, ◌≡◌, List, [], ◌++◌, length, sym, ◌∙◌, ap, ap₂, subst, arith, vec_len, Option, Some}
+use Rattle.std.proofs.Common.{rules, ◌≡◌, List, ◌++◌, length, sym, ◌∙◌, ap, ap₂, subst, arith, vec_len, Option, Some}
 use Rattle.jffs_line.specs.Line.{senders}
 use Rattle.jffs_core.specs.CoreState.{CoreState}
 use Rattle.jffs_index.specs.declared.step.Step.{Step}

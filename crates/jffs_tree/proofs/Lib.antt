@@ -40,6 +40,7 @@ pub mod Changing
 pub mod Decided
 pub mod Wishes
 pub mod Fragments
+pub mod Reversed
 pub mod Splitting
 pub mod Taking
 pub mod Overwriting

@@ -263,6 +263,12 @@ written_cells : (v : ℕ) (bs : List ℕ) (rest : List Cell) → all_written (ma
 written_cells v [] rest = refl
 written_cells v (b ∷ bs) rest = written_cells v bs rest
 
+-- What lies before the first fragment is not written.
+pub gap_unwritten : (end size k : ℕ) (f : Fragment) (es : Fragments) → end < k → all_written (laid end size ((k, f) ∷ es)) ≡ false
+gap_unwritten end size k f es gap =
+    let some : k - end ≡ suc (k - end - 1) = omega (arith, gap) in
+    ap (λ x. all_written (replicate {A = Cell} x None ++ (cells_of f ++ laid (k + length f.bytes) size es))) some
+
 pub written_step : (end size k : ℕ) (f : Fragment) (es : Fragments) → k ≡ end → all_written (laid end size ((k, f) ∷ es)) ≡ all_written (laid (end + length f.bytes) size es)
 written_step end size k f es same =
     let gap : k - end ≡ 0 = omega arith in

@@ -1,5 +1,5 @@
 -- A node's data instead of the one fragment that has their range.
-use Rattle.std.proofs.Common.{◌≡◌, ℕ, ◌+◌, cond, [], ◌∷◌, ◌++◌, length, ⊎_elim, Option, Some, refl, sym, ap, subst, ◌∙◌, arith, nat_cmp}
+use Rattle.std.proofs.Common.{◌≡◌, ℕ, ◌+◌, [], ◌∷◌, ◌++◌, length, Option, Some, refl, sym, ap, subst, ◌∙◌, arith, nat_cmp}
 use Rattle.std.specs.Ordering.{match_ordering}
 use Rattle.std.specs.Cmp.{nat_cmp_is}
 use Rattle.std.specs.BTreeMap.{insert_entry, is_at}
@@ -7,27 +7,14 @@ use Rattle.std.specs.Map.{lookup, set_value}
 use Rattle.std.specs.Option.{option_map_or}
 use Rattle.std.specs.declared.cmp.Ordering.{Ordering}
 use Rattle.std.specs.declared.cmp.Ordering.TheVariants.{Equal}
-use Rattle.std.proofs.lemmas.Bool.{cases_Bool, ne_eqb}
-use Rattle.std.proofs.lemmas.Option.{same_Some}
+use Rattle.std.proofs.lemmas.Bool.{ne_eqb}
 use Rattle.jffs_node.specs.declared.node.Node.{Node}
 use Rattle.jffs_node.specs.Record.{dsize}
 use Rattle.jffs_tree.specs.declared.fragment.Fragment.{Fragment}
 use Rattle.jffs_tree.specs.Fragments.{Fragments, end_of, AreLaid, before, from, overwritten, part_by, amount_by}
 use Rattle.jffs_tree.proofs.Fragments.{laid_bound}
-use Rattle.jffs_tree.proofs.Splitting.{found, laid_parts, whole_there, greater, set_after, amount_append, amount_cons}
+use Rattle.jffs_tree.proofs.Splitting.{found, laid_parts, greater, set_after, amount_append, amount_cons}
 use Rattle.jffs_tree.proofs.Overwriting.{covers_all, some_data}
-
--- The map's call leaves all as it is where the value is the one that stood there.
-pub set_kept : (k : ℕ) (f : Fragment) (es : Fragments) → lookup (is_at (nat_cmp k)) es ≡ Some f → set_value (is_at (nat_cmp k)) es f ≡ es
-set_kept k f [] is = refl
-set_kept k f (e ∷ es) is = ⊎_elim
-    (λ tied.
-    let this : e.1 ≡ f = same_Some e.1 f (sym (ap (λ t. cond t (Some e.1) (lookup (is_at (nat_cmp k)) es)) tied) ∙ is) in
-    ap (λ t. cond t ((e.0, f) ∷ es) (e ∷ set_value (is_at (nat_cmp k)) es f)) tied ∙ ap (λ x. (e.0, x) ∷ es) (sym this))
-    (λ apart.
-    ap (λ t. cond t ((e.0, f) ∷ es) (e ∷ set_value (is_at (nat_cmp k)) es f)) apart
-    ∙ ap (λ x. e ∷ x) (set_kept k f es (sym (ap (λ t. cond t (Some e.1) (lookup (is_at (nat_cmp k)) es)) apart) ∙ is)))
-    (cases_Bool (is_at (nat_cmp k) e.0))
 
 put_over : (k : ℕ) (f x : Fragment) (at : ℕ) (a b : Fragments) → AreLaid at k a → insert_entry nat_cmp (a ++ (k, f) ∷ b) k x ≡ a ++ (k, x) ∷ b
 put_over k f x at [] b h = ap (λ (o : Ordering). match_ordering o ((k, x) ∷ (k, f) ∷ b) ((k, x) ∷ b) ((k, f) ∷ insert_entry nat_cmp b k x)) (sym (nat_cmp_is k k Equal refl))

@@ -1,23 +1,20 @@
 -- Fragments found by their first offset, and one of them cut in two.
-use Rattle.std.proofs.Common.{◌≡◌, ℕ, ◌+◌, ◌-◌, ◌<◌, ◌≤◌, Bool, true, false, cond, eqb, [], ◌∷◌, ◌++◌, length, map, take, drop, replicate, sum_by, ◌⊎◌, inl, inr, ⊎_elim, Some, None, refl, sym, ap, subst, ◌∙◌, arith, append_assoc, length-take, length-drop, nat_cmp}
+use Rattle.std.proofs.Common.{◌≡◌, ℕ, ◌+◌, ◌-◌, ◌<◌, ◌≤◌, Bool, true, false, cond, eqb, ltb, [], ◌∷◌, ◌++◌, length, map, take, drop, replicate, sum_by, ◌⊎◌, inl, inr, ⊎_elim, Some, None, refl, sym, ap, subst, ◌∙◌, arith, append_assoc, length-take, length-drop, nat_cmp}
 use Rattle.std.specs.List.{AllByRecursion, filter}
-use Rattle.std.specs.Ordering.{is_le, match_ordering}
+use Rattle.std.specs.Ordering.{match_ordering}
 use Rattle.std.specs.Cmp.{nat_cmp_is}
-use Rattle.std.specs.BTreeMap.Range.{range_contains}
-use Rattle.std.specs.declared.ops.Bound.TheVariants.{Unbounded, Excluded}
 use Rattle.std.specs.declared.cmp.Ordering.{Ordering}
 use Rattle.std.specs.declared.cmp.Ordering.TheVariants.{Less, Greater}
-use Rattle.std.proofs.lemmas.Map.Keys.{le_from_is_le}
 use Rattle.jffs_node.proofs.Each.{each_append, each_front}
 use Rattle.std.specs.Map.{lookup, set_value, values_of}
 use Rattle.std.proofs.lemmas.List.Sums.{sum_by-append, sum_by-cons}
 use Rattle.std.specs.BTreeMap.{is_at, insert_entry}
-use Rattle.std.proofs.lemmas.Bool.{cases_Bool, eqb-true, ne_eqb, eq-eqb, not-false}
+use Rattle.std.proofs.lemmas.Bool.{cases_Bool, eqb-true, ne_eqb, eq-eqb, ltb-false}
 use Rattle.std.proofs.lemmas.Option.{none-some, same_Some}
 use Rattle.std.proofs.lemmas.List.{map-append, take-append-drop}
 use Rattle.std.specs.Cmp.{unsigned_tied}
 use Rattle.jffs_tree.specs.declared.fragment.Fragment.{Fragment}
-use Rattle.jffs_tree.specs.Fragments.{Fragments, Cell, cells_of, end_of, laid, AreLaid, AreCut, SameCells, part_by, amount_by}
+use Rattle.jffs_tree.specs.Fragments.{Fragments, Cell, cells_of, end_of, before, laid, AreLaid, AreCut, SameCells, part_by, amount_by}
 use Rattle.jffs_tree.proofs.Fragments.{are_laid_append, laid_append, laid_bound}
 
 -- where the fragment of a first offset stands
@@ -45,23 +42,24 @@ laid_parts at size (e ∷ a) b k f h = let r = laid_parts (end_of e) size a b k 
 
 -- ---- the last fragment that begins before an offset
 abbrev pub begins_before : ℕ → (ℕ × Fragment) → Bool
-begins_before p e = range_contains nat_cmp Unbounded (Excluded p) e.0
+begins_before p e = ltb e.0 p
 
 abbrev pub AllFrom : ℕ → Fragments → Type 0
 AllFrom p es = AllByRecursion (λ e. p ≤ e.0) es
-
-later : (p k : ℕ) → begins_before p (k, record { bytes = []; writer = 0 }) ≡ false → p ≤ k
-later p k h = le_from_is_le p k (not-false (is_le (nat_cmp p k)) h)
 
 pub none_begins_before : (p : ℕ) (es : Fragments) → filter (begins_before p) es ≡ [] → AllFrom p es
 none_begins_before p [] h = tt
 none_begins_before p (e ∷ es) h = ⊎_elim
     (λ yes. let k : e ∷ filter (begins_before p) es ≡ [] = sym (ap (λ b. cond b (e ∷ filter (begins_before p) es) (filter (begins_before p) es)) yes) ∙ h in absurd (no_first e (filter (begins_before p) es) k))
-    (λ no. (later p e.0 no, none_begins_before p es (sym (ap (λ b. cond b (e ∷ filter (begins_before p) es) (filter (begins_before p) es)) no) ∙ h)))
+    (λ no. (ltb-false e.0 p no, none_begins_before p es (sym (ap (λ b. cond b (e ∷ filter (begins_before p) es) (filter (begins_before p) es)) no) ∙ h)))
     (cases_Bool (begins_before p e))
   where
     no_first : (x : ℕ × Fragment) (xs : Fragments) → x ∷ xs ≡ [] → ⊥
     no_first x xs k = cc
+
+-- What begins at the offset before, or earlier, begins before it.
+pub at_or_before : (p : ℕ) (es : Fragments) → 0 < p → before (p - 1 + 1) es ≡ before p es
+at_or_before p es some = ap (λ q. before q es) (omega (arith, some))
 
 -- where the last of those stands: the others that stand after it begin later
 pub record LastBefore (p k : ℕ) (f : Fragment) (es : Fragments) : Type 0 where
@@ -143,7 +141,7 @@ whole_there size k f es h is =
 pub greater : (x y : ℕ) → y < x → nat_cmp x y ≡ Greater
 greater x y l = sym (nat_cmp_is x y Greater l)
 
-less : (x y : ℕ) → x < y → nat_cmp x y ≡ Less
+pub less : (x y : ℕ) → x < y → nat_cmp x y ≡ Less
 less x y l = sym (nat_cmp_is x y Less l)
 
 put_first : (p : ℕ) (x : Fragment) (at size : ℕ) (b : Fragments) → p < at → AreLaid at size b → insert_entry nat_cmp b p x ≡ (p, x) ∷ b

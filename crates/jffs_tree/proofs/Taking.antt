@@ -2,13 +2,11 @@
 use Rattle.std.proofs.Common.{◌≡◌, ℕ, ◌+◌, ◌<◌, ◌≤◌, Bool, true, false, cond, not, ◌&&◌, eqb, leb, ltb, [], ◌∷◌, length, ◌⊎◌, inl, inr, ⊎_elim, Some, unwrap_or, option_map, refl, sym, ap, subst, ◌∙◌, arith, nat_cmp}
 use Rattle.std.specs.List.{AllByRecursion, filter}
 use Rattle.std.specs.List.Sorted.{IsStrictlySortedBy}
-use Rattle.std.specs.Ordering.{is_le, is_lt}
-use Rattle.std.specs.Cmp.{unsigned_tied, nat_cmp_is}
+use Rattle.std.specs.Ordering.{is_lt}
+use Rattle.std.specs.Cmp.{unsigned_tied}
 use Rattle.std.specs.Map.{lookup, remove_entry, keys_of}
 use Rattle.std.specs.BTreeMap.{is_at, insert_entry}
-use Rattle.std.specs.BTreeMap.Range.{range_contains}
-use Rattle.std.specs.declared.ops.Bound.TheVariants.{Unbounded, Included}
-use Rattle.std.specs.declared.cmp.Ordering.TheVariants.{Less, Equal}
+use Rattle.std.specs.declared.cmp.Ordering.TheVariants.{Less}
 use Rattle.std.proofs.lemmas.Bool.{cases_Bool, cases_lt, eqb-true, le-leb, lt-leb, lt-ltb, le-ltb, eq-eqb, ne_eqb, cases_eq}
 use Rattle.std.proofs.lemmas.Cmp.{nat_cmp_total}
 use Rattle.std.proofs.lemmas.Map.Entries.{sum_by-insert_entry, sum_by-remove_entry}
@@ -21,7 +19,7 @@ use Rattle.jffs_tree.proofs.Maps.{is_less}
 
 -- ---- which ones a range of offsets has
 abbrev pub begins_from : ℕ → (ℕ × Fragment) → Bool
-begins_from p e = range_contains nat_cmp (Included p) Unbounded e.0
+begins_from p e = leb p e.0
 
 abbrev pub within : ℕ → ℕ → (ℕ × Fragment) → Bool
 within p q e = not (leb p e.0 && ltb e.0 q)
@@ -41,17 +39,8 @@ none_within p q [] h = refl
 none_within p q (e ∷ es) h =
     ap (λ b. cond b (e ∷ outside p q es) (outside p q es)) (not_within p q e.0 h.0) ∙ ap (λ x. e ∷ x) (none_within p q es h.1)
 
-is_le_from : (p k : ℕ) → p ≤ k → is_le (nat_cmp p k) ≡ true
-is_le_from p k l = ⊎_elim
-    (λ below. ap is_le (sym (nat_cmp_is p k Less below)))
-    (λ same. let e : p ≡ k = omega arith in ap is_le (sym (nat_cmp_is p k Equal e)))
-    (cases_lt p k)
-
-begins : (p k : ℕ) (f : Fragment) → p ≤ k → begins_from p (k, f) ≡ true
-begins p k f l = ap (λ b. b && true) (is_le_from p k l)
-
 early : (p k : ℕ) (f : Fragment) → begins_from p (k, f) ≡ false → k < p
-early p k f h = ⊎_elim (λ l. l) (λ l. let z : true ≡ false = sym (begins p k f l) ∙ h in cc) (cases_lt k p)
+early p k f h = ⊎_elim (λ l. l) (λ l. let z : true ≡ false = sym (le-leb p k l) ∙ h in cc) (cases_lt k p)
 
 take_filter : (p : ℕ) (e : ℕ × Fragment) (es : Fragments) → begins_from p e ≡ true → filter (begins_from p) (e ∷ es) ≡ e ∷ filter (begins_from p) es
 take_filter p e es h = ap (λ b. cond b (e ∷ filter (begins_from p) es) (filter (begins_from p) es)) h

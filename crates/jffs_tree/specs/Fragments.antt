@@ -4,7 +4,11 @@ use Rattle.std.specs.Prelude.{◌≡◌, ◌≢◌, ◌<◌, ◌≤◌, ◌⊎�
 use Rattle.std.specs.Prelude.{List, [], ◌∷◌, ◌++◌, length, map, replicate, take, drop, sum_by}
 use Rattle.std.specs.Prelude.{Option, Some, None, if◌then◌else◌}
 use Rattle.std.specs.List.{AllByRecursion, filter}
-use Rattle.std.specs.Map.{values_of}
+use Rattle.std.specs.Map.{lookup, set_value, values_of}
+use Rattle.std.specs.BTreeMap.{is_at}
+use Rattle.std.specs.Ordering.{nat_cmp}
+use Rattle.std.specs.declared.cmp.Ordering.{Ordering}
+use Rattle.std.specs.declared.cmp.Reverse.{Reverse}
 use Rattle.jffs_node.specs.declared.node.Node.{Node}
 use Rattle.jffs_node.specs.Record.{dsize, file_max}
 use Rattle.jffs_tree.specs.Marks.{Counts, mark_of}
@@ -14,6 +18,23 @@ use Rattle.jffs_tree.specs.declared.fragment.Fragment.{Fragment}
 -- fragments, each under its first offset
 abbrev pub Fragments : Type 0
 Fragments = List (ℕ × Fragment)
+
+-- what is seen of a map of fragments
+pub record FragmentMap : Type 0 where
+  pub entries : Fragments
+
+-- the fragment that begins at an offset, by the order of the offsets
+abbrev pub get : (ℕ → ℕ → Ordering) → FragmentMap → ℕ → Option Fragment
+get cmp m first = lookup (is_at (cmp first)) m.entries
+
+-- the order of a map whose last fragment stands first
+abbrev pub late_cmp : Reverse ℕ → Reverse ℕ → Ordering
+late_cmp a b = nat_cmp b.0 a.0
+
+-- the entries of such a map, from the file's first fragment on
+abbrev pub ascending : List (Reverse ℕ × Fragment) → Fragments
+ascending [] = []
+ascending (e ∷ es) = ascending es ++ (e.0.0, e.1) ∷ []
 
 -- the byte at an offset and the version that wrote it; none where no node did
 abbrev pub Cell : Type 0
@@ -110,6 +131,14 @@ pub record FitsFile (n : Node) (size : ℕ) : Type 0 where
   pub small : size ≤ file_max
   pub node : IsSmall n
   pub offsets : dsize n ≢ n.rsize → size ≤ n.offset + n.rsize
+
+-- A node's fragment stands in the place of the one that had the range of its data.
+pub record Swaps (n : Node) (was now : FragmentMap) (gone : Fragment) : Type 0 where
+  pub there : get nat_cmp was n.offset ≡ Some gone
+  pub long : length gone.bytes ≡ dsize n
+  pub entries : now.entries
+      ≡ set_value (is_at (nat_cmp n.offset)) was.entries
+      (record { bytes = n.bytes; writer = n.version })
 
 -- The cells are those before, spliced and sized as the node says.
 pub record IsFileAfter (n : Node) (size : ℕ) (was : Fragments) (after : ℕ) (now : Fragments) :

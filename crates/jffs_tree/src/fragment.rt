@@ -2,7 +2,7 @@
 
 ghost use Rattle.std.specs.Prelude.{◌≡◌, ◌≤◌, ◌<◌, ◌+◌, ◌==◌, ℕ, length, [], true, Some};
 ghost use Rattle.std.specs.Prelude.{OnOk, OnErr, IfOk, IsSome, IfSome, IfNone, if◌then◌else◌};
-ghost use Rattle.std.specs.BTreeMap.{get, insert_entry, is_at};
+ghost use Rattle.std.specs.BTreeMap.{insert_entry, is_at};
 ghost use Rattle.std.specs.Map.{remove_entry};
 ghost use Rattle.std.specs.Option.{option_map_or};
 ghost use Rattle.std.specs.Ordering.{nat_cmp};
@@ -10,13 +10,12 @@ ghost use Rattle.jffs_node.specs.Record.{file_max};
 ghost use Rattle.jffs_tree.specs.Marks.{mark_of, brought_by};
 ghost use Rattle.jffs_tree.specs.Fragments.{AreLaid, AreCut, AreShort, FitsFile, IsFileAfter};
 ghost use Rattle.jffs_tree.specs.Fragments.{SameCells, HasAmounts, MovesAmounts, end_of, outside};
-ghost use Rattle.jffs_tree.specs.Fragments.{overwritten, amount_by, part_by};
+ghost use Rattle.jffs_tree.specs.Fragments.{get, overwritten, amount_by, part_by};
 
+use crate::fragment_map::Fragments;
 use crate::marks::Marks;
 use jffs_node::{Bytes, FILE_MAX, Node, shared};
 use std::alloc::AllocError;
-use std::collections::BTreeMap;
-use std::mem;
 
 /// Bytes that one node wrote and that no later one did, and the node's version. It shares the
 /// block of the node's bytes.
@@ -25,9 +24,6 @@ pub(crate) struct Fragment {
     pub(crate) bytes: Bytes,
     pub(crate) writer: u32,
 }
-
-/// The fragments of a file, each under its first offset.
-pub(crate) type Fragments = BTreeMap<u32, Fragment>;
 
 impl Clone for Fragment {
     ghost is_clone = { λ old new. new ≡ old };
@@ -62,12 +58,11 @@ fn across(fragments: &Fragments, size: u32, at: u32) -> Option<u32>
     if at == 0 || size <= at {
         return None;
     }
-    let mut earlier = fragments.range(..at);
-    let Some((first, fragment)) = earlier.next_back() else {
+    let Some((first, fragment)) = fragments.last_up_to(at - 1) else {
         return None;
     };
-    if at < *first + fragment.len() {
-        Some(*first)
+    if at < first + fragment.len() {
+        Some(first)
     } else {
         None
     }
@@ -97,7 +92,7 @@ fn cut(fragments: &mut Fragments, size: u32, first: u32, at: u32) -> Result<(), 
     ensures cut { OnOk result (AreCut at fragments.new.entries) }
     ensures err { OnErr result (fragments.new.entries ≡ fragments.old.entries) }
 {
-    let Some(whole) = fragments.get(&first) else {
+    let Some(whole) = fragments.get(first) else {
         return Ok(());
     };
     let writer = whole.writer;
@@ -110,12 +105,13 @@ fn cut(fragments: &mut Fragments, size: u32, first: u32, at: u32) -> Result<(), 
             writer,
         },
     )?;
-    if let Some(cut) = fragments.get_mut(&first) {
-        *cut = Fragment {
+    fragments.set(
+        first,
+        Fragment {
             bytes: front,
             writer,
-        };
-    }
+        },
+    );
     Ok(())
 }
 
@@ -204,18 +200,13 @@ fn replace(
     ensures err { OnErr result
         ((fragments.new.entries ≡ fragments.old.entries) × (marks.new ≡ marks.old)) }
 {
-    let amount = node.bytes.len();
     let after = node.size.unwrap_or(size);
-    if amount as u32 != node.rsize || after < size {
+    if node.bytes.len() as u32 != node.rsize || after < size {
         return Ok(None);
     }
-    let Some(there) = fragments.get_mut(&node.offset) else {
+    let Some(covered) = fragments.swap(node)? else {
         return Ok(None);
     };
-    if there.bytes.len() != amount {
-        return Ok(None);
-    }
-    let covered = mem::replace(there, fragment_of(node)?);
     marks.lower(covered.writer, node.inode, covered.len());
     Ok(Some(after))
 }
@@ -292,11 +283,10 @@ pub(crate) fn first_between(fragments: &Fragments, from: u32, to: u32) -> Option
         (λ first. outside from first fragments.now.entries ≡ fragments.now.entries) }
     ensures none { IfNone result (outside from to fragments.now.entries ≡ fragments.now.entries) }
 {
-    let mut later = fragments.range(from..);
-    let Some((first, _)) = later.next() else {
+    let Some((first, _)) = fragments.first_from(from) else {
         return None;
     };
-    if *first < to { Some(*first) } else { None }
+    if first < to { Some(first) } else { None }
 }
 
 /// Takes the fragments out that begin from an offset on and before another, and their marks.
@@ -323,13 +313,13 @@ fn take_one(fragments: &mut Fragments, first: u32, inode: u32, marks: &mut Marks
     ensures moved { MovesAmounts marks.old marks.new inode fragments.old.entries
         fragments.new.entries }
 {
-    if let Some(gone) = fragments.remove(&first) {
+    if let Some(gone) = fragments.remove(first) {
         marks.lower(gone.writer, inode, gone.len());
     }
 }
 
 /// The fragment of a node's data, which it shares. `AllocError` where no owner more can be counted.
-fn fragment_of(node: &Node) -> Result<Fragment, AllocError>
+pub(crate) fn fragment_of(node: &Node) -> Result<Fragment, AllocError>
     ensures { IfOk result
         (λ fragment. fragment ≡ record { bytes = node.now.bytes; writer = node.now.version }) }
 {
@@ -416,7 +406,7 @@ pub(crate) fn lower_all(fragments: &Fragments, inode: u32, marks: &mut Marks)
     requires marked { HasAmounts marks.old inode fragments.now.entries }
     ensures { MovesAmounts marks.old marks.new inode fragments.now.entries [] }
 {
-    for (_, fragment) in fragments.iter() {
+    for (_, fragment) in fragments.from_last() {
         marks.lower(fragment.writer, inode, fragment.len());
     }
 }

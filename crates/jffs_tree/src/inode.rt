@@ -11,12 +11,12 @@ ghost use Rattle.jffs_tree.specs.Marks.{LosesByteMarks};
 ghost use Rattle.jffs_tree.specs.Check.{bytes_are_written};
 ghost use Rattle.jffs_tree.specs.Decide.{is_current};
 
-use crate::fragment::{Fragments, lower_all, write_over};
+use crate::fragment::{lower_all, write_over};
+use crate::fragment_map::Fragments;
 use crate::marks::Marks;
 use crate::piece::{are_whole, copy_piece, writer_at};
 use jffs_node::{Kind, Name, Node};
 use std::alloc::{AllocError, Global};
-use std::collections::BTreeMap;
 use std::marker::Model;
 
 /// How many bytes are compared at a time.
@@ -64,7 +64,7 @@ impl Inode {
             parent: node.parent,
             name,
             size: 0,
-            fragments: BTreeMap::new(alloc),
+            fragments: Fragments::new(alloc),
             newest: node.version,
             states_size: false,
         }

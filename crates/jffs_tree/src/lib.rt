@@ -16,6 +16,7 @@ mod decide;
 mod deciding;
 mod fits;
 mod fragment;
+mod fragment_map;
 mod inode;
 mod inodes;
 mod laws;

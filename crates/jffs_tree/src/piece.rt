@@ -4,13 +4,14 @@
 ghost use Rattle.std.specs.Prelude.{◌≡◌, ◌≤◌, ◌<◌, ◌+◌, ℕ, length, map, take, drop, replicate};
 ghost use Rattle.std.specs.Prelude.{None, Some, IfSome, IfNone, slice_index_or, is_some};
 ghost use Rattle.std.specs.List.{list_all};
-ghost use Rattle.std.specs.BTreeMap.{get};
 ghost use Rattle.std.specs.Ordering.{nat_cmp};
 ghost use Rattle.jffs_node.specs.Record.{file_max};
 ghost use Rattle.jffs_tree.specs.declared.fragment.Fragment.{Fragment};
-ghost use Rattle.jffs_tree.specs.Fragments.{AreLaid, NoneHolds, Says, laid, end_of, writer_of};
+ghost use Rattle.jffs_tree.specs.Fragments.{AreLaid, NoneHolds, Says, get, laid, end_of};
+ghost use Rattle.jffs_tree.specs.Fragments.{writer_of};
 
-use crate::fragment::{Fragments, first_between};
+use crate::fragment::first_between;
+use crate::fragment_map::Fragments;
 
 /// Copies what stands from an offset on into the front of a slice, as far as one fragment or one
 /// hole goes, and returns how many bytes that are.
@@ -41,7 +42,7 @@ fn bytes_at(fragments: &Fragments, at: u32) -> Option<&[u8]>
     ensures none { IfNone result (NoneHolds at fragments.now.entries) }
 {
     let first = holding(fragments, at)?;
-    let fragment = fragments.get(&first)?;
+    let fragment = fragments.get(first)?;
     Some(&fragment.bytes.as_slice()[(at - first) as usize..])
 }
 
@@ -68,12 +69,11 @@ fn holding(fragments: &Fragments, at: u32) -> Option<u32>
         × (at < end_of (first, f))) }
     ensures none { IfNone result (NoneHolds at fragments.now.entries) }
 {
-    let mut earlier = fragments.range(..at + 1);
-    let Some((first, fragment)) = earlier.next_back() else {
+    let Some((first, fragment)) = fragments.last_up_to(at) else {
         return None;
     };
-    if at < *first + fragment.len() {
-        Some(*first)
+    if at < first + fragment.len() {
+        Some(first)
     } else {
         None
     }
@@ -89,7 +89,7 @@ pub(crate) fn writer_at(fragments: &Fragments, size: u32, at: u32) -> Option<u32
         return None;
     }
     let first = holding(fragments, at)?;
-    let fragment = fragments.get(&first)?;
+    let fragment = fragments.get(first)?;
     Some(fragment.writer)
 }
 
@@ -100,8 +100,9 @@ pub(crate) fn are_whole(fragments: &Fragments, size: u32) -> bool
     ensures { result ≡ list_all is_some (map writer_of (laid 0 size fragments.now.entries)) }
 {
     let mut end = 0;
-    for (first, fragment) in fragments.iter() {
-        if *first != end {
+    let mut rest = fragments.from_last();
+    while let Some((first, fragment)) = rest.next_back() {
+        if first.0 != end {
             return false;
         }
         end += fragment.len();

@@ -1,5 +1,5 @@
 use Rattle.std.proofs.Common.{◌∙◌, ⊎_elim, sym, arith}
-use Rattle.jffs_tree.proofs.Splitting.{last_before, last_fits, cut_by_last, cut_past, all_later, cut_if_all_from, none_begins_before}
+use Rattle.jffs_tree.proofs.Splitting.{at_or_before, last_before, last_fits, cut_by_last, cut_past, all_later, cut_if_all_from, none_begins_before}
 use Rattle.jffs_tree.proofs.fragment.across.Goals as goal
 
 pub returns-then-at-eq0-clause-none : goal.returns-then-at-eq0-clause-none
@@ -13,21 +13,21 @@ returns-then-at-eq0-clause-none c =
 pub returns-in_default-clause-none : goal.returns-in_default-clause-none
 returns-in_default-clause-none c =
     cut_if_all_from c.args.at c.args.fragments.now.entries
-    (none_begins_before c.args.at c.args.fragments.now.entries (sym (c.range-earlier.ensures.between tt) ∙ c.in_default.ensures.steps.0))
+    (none_begins_before c.args.at c.args.fragments.now.entries (sym (at_or_before c.args.at c.args.fragments.now.entries (omega arith)) ∙ c.in_default.ensures.none))
 
 pub len-requires : goal.len-requires
 len-requires c =
-    let l = last_before c.args.at c.args.fragments.now.entries _ c.in-Some.first.now c.in-Some.fragment.now (sym (c.range-earlier.ensures.between tt) ∙ c.in-Some.ensures.steps) in
-    let b = last_fits c.args.size c.args.at c.in-Some.first.now c.in-Some.fragment.now c.args.fragments.now.entries c.requires.laid.0 l in
+    let l = last_before c.args.at c.args.fragments.now.entries c.in-Some.ensures.last.0 c.in-Some.first c.in-Some.fragment.now (sym (at_or_before c.args.at c.args.fragments.now.entries (omega arith)) ∙ c.in-Some.ensures.last.1) in
+    let b = last_fits c.args.size c.args.at c.in-Some.first c.in-Some.fragment.now c.args.fragments.now.entries c.requires.laid.0 l in
     omega arith
 
 pub overflow_add-first : goal.overflow_add-first
 overflow_add-first c =
-    let l = last_before c.args.at c.args.fragments.now.entries _ c.in-Some.first.now c.in-Some.fragment.now (sym (c.range-earlier.ensures.between tt) ∙ c.in-Some.ensures.steps) in
-    let b = last_fits c.args.size c.args.at c.in-Some.first.now c.in-Some.fragment.now c.args.fragments.now.entries c.requires.laid.0 l in
+    let l = last_before c.args.at c.args.fragments.now.entries c.in-Some.ensures.last.0 c.in-Some.first c.in-Some.fragment.now (sym (at_or_before c.args.at c.args.fragments.now.entries (omega arith)) ∙ c.in-Some.ensures.last.1) in
+    let b = last_fits c.args.size c.args.at c.in-Some.first c.in-Some.fragment.now c.args.fragments.now.entries c.requires.laid.0 l in
     omega arith
 
 pub returns-else-at-first-clause-none : goal.returns-else-at-first-clause-none
 returns-else-at-first-clause-none c =
-    let l = last_before c.args.at c.args.fragments.now.entries _ c.in-Some.first.now c.in-Some.fragment.now (sym (c.range-earlier.ensures.between tt) ∙ c.in-Some.ensures.steps) in
-    cut_by_last c.args.size c.args.at c.in-Some.first.now c.in-Some.fragment.now c.args.fragments.now.entries c.requires.laid.0 l (omega arith)
+    let l = last_before c.args.at c.args.fragments.now.entries c.in-Some.ensures.last.0 c.in-Some.first c.in-Some.fragment.now (sym (at_or_before c.args.at c.args.fragments.now.entries (omega arith)) ∙ c.in-Some.ensures.last.1) in
+    cut_by_last c.args.size c.args.at c.in-Some.first c.in-Some.fragment.now c.args.fragments.now.entries c.requires.laid.0 l (omega arith)

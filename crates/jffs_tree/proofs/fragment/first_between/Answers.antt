@@ -1,12 +1,12 @@
-use Rattle.std.proofs.Common.{◌∙◌, sym, arith}
+use Rattle.std.proofs.Common.{arith}
 use Rattle.jffs_tree.proofs.Taking.{none_from_here, first_too_late}
 use Rattle.jffs_tree.proofs.fragment.first_between.Goals as goal
 
 pub returns-in_default-clause-none : goal.returns-in_default-clause-none
-returns-in_default-clause-none c = none_from_here c.args.from c.args.to c.args.fragments.now.entries (sym (c.range-later.ensures.between tt) ∙ c.in_default.ensures.steps.0)
+returns-in_default-clause-none c = none_from_here c.args.from c.args.to c.args.fragments.now.entries c.in_default.ensures.none
 
 pub returns-else-first-to-clause-none : goal.returns-else-first-to-clause-none
-returns-else-first-to-clause-none c = first_too_late c.args.from c.args.to c.args.fragments.now.entries _ _ _ c.range-later.ensures.ordered (sym (c.range-later.ensures.between tt) ∙ c.in-Some.ensures.steps) c.if-first-to.false
+returns-else-first-to-clause-none c = first_too_late c.args.from c.args.to c.args.fragments.now.entries c.in-Some.ensures.first.0 _ _ c.in-Some.ensures.ordered c.in-Some.ensures.first.1 c.if-first-to.false
 
 pub returns-then-first-to-clause-least : goal.returns-then-first-to-clause-least
-returns-then-first-to-clause-least c = first_too_late c.args.from c.in-Some.first.now c.args.fragments.now.entries _ c.in-Some.first.now _ c.range-later.ensures.ordered (sym (c.range-later.ensures.between tt) ∙ c.in-Some.ensures.steps) (omega arith)
+returns-then-first-to-clause-least c = first_too_late c.args.from c.in-Some.first c.args.fragments.now.entries c.in-Some.ensures.first.0 c.in-Some.first _ c.in-Some.ensures.ordered c.in-Some.ensures.first.1 (omega arith)

@@ -14,7 +14,7 @@ returns-clause-there c =
     let f = c.in_ok-fragment.fragment.now in
     let s = c.as_slice.result.now in
     let there = c.in_ok-first.ensures.there in
-    let this : there.0 ≡ f = same_Some there.0 f (sym there.1 ∙ sym c.in_ok-fragment.ensures.value) in
+    let this : there.0 ≡ f = same_Some there.0 f (sym there.1 ∙ sym c.in_ok-fragment.ensures) in
     let high : at < first + length f.bytes = subst (λ (x : Fragment). at < first + length x.bytes) this there.3 in
     let low = there.2 in
     let same : s ≡ f.bytes = c.as_slice.ensures in
@@ -26,5 +26,5 @@ returns-clause-there c =
     let some : 0 < length (drop (at - first) s) = omega arith in (
       subst (λ (x : List ℕ). 0 < length x) (sym part) some,
       λ k. subst (λ (x : List ℕ). Says es at (take k x)) (sym (part ∙ ap (λ (x : List ℕ). drop (at - first) x) same))
-          (says_fragment first at f es (sym c.in_ok-fragment.ensures.value) low high k),
+          (says_fragment first at f es (sym c.in_ok-fragment.ensures) low high k),
     )

@@ -19,6 +19,6 @@ pub returns : goal.returns
 returns c =
     let f = c.in_ok-fragment.fragment.now in
     let there = c.in_ok-first.ensures.there in
-    let this : there.0 ≡ f = same_Some there.0 f (sym there.1 ∙ sym c.in_ok-fragment.ensures.value) in
+    let this : there.0 ≡ f = same_Some there.0 f (sym there.1 ∙ sym c.in_ok-fragment.ensures) in
     let high : c.args.at < c.in_ok-first.first + length f.bytes = subst (λ (x : Fragment). c.args.at < c.in_ok-first.first + length x.bytes) this there.3 in
-    sym (writer_in_fragment c.args.size c.in_ok-first.first c.args.at f c.args.fragments.now.entries c.requires.laid (sym c.in_ok-fragment.ensures.value) there.2 high)
+    sym (writer_in_fragment c.args.size c.in_ok-first.first c.args.at f c.args.fragments.now.entries c.requires.laid (sym c.in_ok-fragment.ensures) there.2 high)

@@ -9,7 +9,7 @@ use crate::rule::{
     Telling,
 };
 use crate::sight::Sight;
-use crate::step::Step;
+use crate::step::{BoxedStep, Step};
 use crate::view::View;
 use core::mem::replace_with;
 use jffs_node::NoMemory;
@@ -24,6 +24,7 @@ type IndexWriter = Writer<Page, Change, Option<Index>, Published>;
 
 /// The one writer of an index. It is not `Drop`: it is ended by [`close`](Inner::close).
 pub struct Inner {
+    alloc: Global,
     writer: IndexWriter,
     head: Head,
     // The history, with the number of its steps. It lacks the last of those that were put.
@@ -83,6 +84,7 @@ impl Inner {
         let writer: IndexWriter = Writer::new(alloc, shown, spare, readers)?;
         match writer.publish_as::<Seeing, R>(rt) {
             (writer, Ok(())) => Ok(Inner {
+                alloc,
                 writer,
                 head,
                 seen,
@@ -128,12 +130,13 @@ impl Inner {
         let Some(put) = self.put.checked_add(1) else {
             return Err(step);
         };
-        match self.writer.append(Change::Put(step)) {
+        let boxed = BoxedStep::new(self.alloc, step)?;
+        match self.writer.append(Change::Put(boxed)) {
             Ok(()) => {
                 self.put = put;
                 Ok(())
             }
-            Err(Change::Put(step)) => Err(step),
+            Err(Change::Put(boxed)) => Err(boxed.into_step()),
             Err(Change::Reach(_)) => unreachable!(),
         }
     }
@@ -218,6 +221,7 @@ impl Inner {
     /// Ends the index, once no reader is inside: a look is `None` from now on.
     pub fn close<R: Wait>(self, rt: &R) {
         let Inner {
+            alloc: _,
             writer,
             head: _head,
             seen: _seen,

@@ -17,7 +17,7 @@ DATA = TOP / "crates/jffs_replay/data"
 SOON = 2
 # Tests that bear each refusal: they pass, or give up with an error that tells of memory. The one of jffs_line that is
 # left out compares errors, of which Memory is one.
-STEADFAST = re.compile(r"jffs_(tree_tests|flash|node) |jffs_line_tests (?!tests::a_line_refuses_)|jffs_core_tests tests::refusals::")
+STEADFAST = re.compile(r"jffs_(flash|node|tree)_tests |jffs_line_tests (?!tests::a_line_refuses_)|jffs_core_tests tests::refusals::")
 # Tests of threads that wait for one another: where no thread can be made, all run in one, and never end.
 NEED_THREADS = re.compile(r"jffs_line_tests tests::(a_taker_asleep|an_unmount_asleep|eight_writers_hand_in)_")
 # Where an assertion of a test's own has stopped it.

@@ -11,8 +11,6 @@
 mod flash;
 mod image;
 mod store;
-#[cfg(test)]
-mod tests;
 
 pub use flash::FileFlash;
 pub use image::{FileFault, FileImage, create_image, open_image};

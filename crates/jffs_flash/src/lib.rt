@@ -12,8 +12,6 @@ mod fuse;
 mod limited;
 mod memory;
 mod sizes;
-#[cfg(test)]
-mod tests;
 
 pub use flash::{ERASED_BYTE, Flash, FlashFault};
 pub use fuse::{Fail, FuseFlash, Fused};

@@ -54,6 +54,3 @@ pub fn records_are_found()
     ensures found { RecordsAreFound }
     ensures only { FoundAreRecords }
 {}
-
-#[cfg(test)]
-mod tests;

@@ -1,9 +1,8 @@
 //! The program `jffs`: a script in a file or on standard input, what became of it on standard
-//! output. With
-//! `--volume FILE` the volume stays in that file.
+//! output. With `--volume FILE` the volume stays in that file.
 #![tactic(auto)]
 
-use jffs_run::run_called;
+use jffs_program::run_called;
 use std::io::BufWriter;
 use std::process::ExitCode;
 use std::{env, io};

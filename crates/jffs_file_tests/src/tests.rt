@@ -71,7 +71,7 @@ fn part(bytes: &[u8], from: usize, to: usize) -> &[u8] {
     bytes.get(from..to).unwrap_or(&[])
 }
 
-/// A device of erased bytes over a store that passes so many writes.
+/// A device of erased bytes over a store that passes `passes` writes.
 fn failing_after(alloc: Global, passes: u32) -> Result<FileFlash<Failing>, Fail> {
     let held = MemoryFlash::new(alloc, 6, 1024)?;
     let bytes = held.bytes().to_vec(alloc)?;
@@ -134,12 +134,12 @@ fn fault_of_opening<R: Files + AllocGlobal>(rt: &R, path: &str) -> Option<FileFa
     open_image(rt, path).err()
 }
 
-/// Why no file of so many sectors is made there.
+/// Why no file of `sectors` sectors is made there.
 fn fault_of_making<R: Files + AllocGlobal>(rt: &R, path: &str, sectors: u32) -> Option<FileFault> {
     create_image(rt, path, sectors, 1024).err()
 }
 
-/// So many zeros.
+/// `count` zeros.
 fn zeros(alloc: Global, count: usize) -> Result<Vec<u8>, Fail> {
     Ok(vec![in alloc; 0u8; count]?)
 }

@@ -50,7 +50,7 @@ fn read(alloc: Global, bytes: &[u8]) -> Result<Read, NoMemory> {
     decode(alloc, bytes, RECORD_MAX)
 }
 
-/// The node of the closed record that begins these bytes, which has to be so long.
+/// The node of the closed record that begins these bytes, which has to be `wanted` bytes long.
 fn closed(rt: &impl Abort, alloc: Global, bytes: &[u8], wanted: u32) -> Result<Node, Fail> {
     match read(alloc, bytes)? {
         Read::Closed(node, len) => {
@@ -194,7 +194,7 @@ fn counts(alloc: Global, text: &str) -> Result<(usize, usize), PathFault> {
     Ok((path.names().len(), in_copy))
 }
 
-/// The text is a path of so many names.
+/// The text is a path of `count` names.
 fn is_path(rt: &impl Abort, alloc: Global, text: &str, count: usize) -> Result<(), Fail> {
     Path::check(text)?;
     let (names, in_copy) = counts(alloc, text)?;

@@ -1,26 +1,21 @@
-//! A run of a script in threads, from its text to the lines that tell what became of it.
+//! A run of a script in threads.
 //!
 //! `run_threads` starts a thread for the log, one for each writer and each reader, and one for the
-//! cleaner where the script asks for it, and joins them all; `run_program` does all that the
-//! program does with a script, whatever its input and output are, and `run_called` what its words
-//! ask for. `print_answers` and its neighbours write the lines of answers, readers and the end.
-//! It stands on `jffs_text` for texts, on `jffs_line` and `jffs_index` for what flows between the
-//! threads, and on `jffs_serve` for the log's side.
+//! cleaner where the script asks for it, and joins them all; its contract is the headline. The
+//! functions of `laws` say what follows from it. It stands on `jffs_text` for scripts, on
+//! `jffs_line` and `jffs_index` for what flows between the threads, and on `jffs_serve` for the
+//! log's side.
 #![tactic(auto)]
 
 mod cleaner;
 mod crew;
-mod ending;
 mod fault;
 mod joining;
 mod laws;
 mod log_thread;
 mod outcome;
-mod printing;
-mod program;
 mod promise;
 mod reader;
-mod reading;
 mod run;
 mod starting;
 mod threads;
@@ -35,8 +30,6 @@ pub use laws::{
     runs_without_faults, runs_work_little, sessions_are_done, space_is_sure,
 };
 pub use outcome::{AcceptedBy, Run};
-pub use printing::{print_answers, print_ending, print_readers};
-pub use program::{run_called, run_program, run_program_on_file};
 pub use reader::ReaderEnd;
 pub use run::run_threads;
 pub use writer::{Gate, NoGate};

@@ -1,4 +1,4 @@
-//! Tests of `jffs_run`: scripts from their text to the lines that a run prints.
+//! Tests of `jffs_run` and `jffs_program`: scripts from their text to the lines that are printed.
 #![tactic(auto)]
 
 #[cfg(test)]

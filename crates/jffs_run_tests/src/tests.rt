@@ -8,7 +8,8 @@ mod many;
 mod threads;
 
 use jffs_flash::MemoryFlash;
-use jffs_run::{NoGate, run_program, run_threads};
+use jffs_program::run_program;
+use jffs_run::{NoGate, run_threads};
 use jffs_text::Script;
 use std::alloc::Global;
 use std::io;

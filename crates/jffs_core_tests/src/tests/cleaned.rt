@@ -30,7 +30,7 @@ fn full_of_live_data(rt: HostRuntime) -> Result<(), Fail> {
     assert_eq!(rt; session.core.log().erases(), 3);
     assert!(rt; session.whole(2)? == vec![in rt.alloc(); b'a'; 1728]?);
     session.play(&rt, "remove /f : appended 2 20")?;
-    assert_eq!(rt; session.core.erase_dead(), Ok(2));
+    assert_eq!(rt; session.erase_dead(), Ok(2));
     let image = session.image()?;
     assert!(rt; is_blank(part(&image, 0, 5120)));
     Ok(())
@@ -70,7 +70,7 @@ fn cleaning_copies_current_names(rt: HostRuntime) -> Result<(), Fail> {
     assert_eq!(rt; session.oldest_dead(), Some(false));
     cleans(&rt, &mut session, 2);
     assert_eq!(rt; session.live_in(0), Some(0));
-    assert_eq!(rt; session.core.clean_oldest(), Ok(Cleaned::OneSector));
+    assert_eq!(rt; session.clean_oldest(), Ok(Cleaned::OneSector));
     let session = session.remounted()?;
     session.contents(&rt, 3, b"hello");
     let found = session.core.tree().resolve(&Path::parse(alloc, "/d/b")?);
@@ -83,7 +83,7 @@ fn cleaning_copies_current_names(rt: HostRuntime) -> Result<(), Fail> {
 /// Cleaning erases sector 0 after `copies` copies.
 fn cleans(rt: &impl Abort, session: &mut Session<MemoryFlash>, copies: u32) {
     let cleaned = Cleaned::Erased { sector: 0, copies };
-    assert_eq!(rt; session.core.clean_oldest(), Ok(cleaned));
+    assert_eq!(rt; session.clean_oldest(), Ok(cleaned));
 }
 
 #[test]

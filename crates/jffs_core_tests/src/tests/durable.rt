@@ -85,16 +85,26 @@ fn found(
 ) -> Result<(), Fail> {
     let after = Session::mounted(session.alloc, 6, session.image_now()?)?;
     for (name, file) in NAMES.iter().zip(files.iter()) {
-        let inode = after
-            .core
-            .tree()
-            .resolve(&Path::parse(session.alloc, name)?);
-        assert_eq!(rt; inode.is_some(), file.is_some(), "at {name}");
-        if let (Some(inode), Some(bytes)) = (inode, file.as_ref()) {
-            assert!(rt; after.whole(inode)? == *bytes, "at {name}");
-        }
+        assert!(rt; is_kept(&after, name, file)?, "at {name}");
     }
     Ok(())
+}
+
+/// Whether a file is as the test keeps it.
+fn is_kept(
+    session: &Session<MemoryFlash>,
+    name: &str,
+    file: &Option<Vec<u8>>,
+) -> Result<bool, Fail> {
+    match (inode_at(session, name)?, file) {
+        (Some(inode), Some(bytes)) => Ok(session.whole(inode)? == *bytes),
+        (inode, file) => Ok(inode.is_none() && file.is_none()),
+    }
+}
+
+fn inode_at(session: &Session<MemoryFlash>, name: &str) -> Result<Option<u32>, Fail> {
+    let path = Path::parse(session.alloc, name)?;
+    Ok(session.core.tree().resolve(&path))
 }
 
 #[test]

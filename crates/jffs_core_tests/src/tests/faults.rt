@@ -2,6 +2,7 @@
 
 use crate::tests::session::{SECTOR_SIZE, Session, holds};
 use jffs_flash::{Fail as FuseFail, FuseFlash, Fused, MemoryFlash};
+use jffs_node::ROOT_INODE;
 use jffs_tree::Cause;
 use std::alloc::Global;
 use std::process::Abort;
@@ -18,11 +19,21 @@ fn left_of(
     session: Session<FuseFlash>,
     names: usize,
 ) -> Result<Session<MemoryFlash>, Fail> {
-    let alloc = session.alloc;
-    let session = Session::over(alloc, session.into_flash().into_inner())?;
+    let session = without_fuse(session)?;
     assert!(rt; !session.core.clean());
-    assert_eq!(rt; session.core.tree().names(1)?.len(), names);
+    assert_eq!(rt; names_of(&session)?, names);
     Ok(session)
+}
+
+fn without_fuse(session: Session<FuseFlash>) -> Result<Session<MemoryFlash>, Fail> {
+    let alloc = session.alloc;
+    Session::over(alloc, session.into_flash().into_inner())
+}
+
+/// How many names the root has.
+fn names_of(session: &Session<MemoryFlash>) -> Result<usize, Fail> {
+    let names = session.core.tree().names(ROOT_INODE)?;
+    Ok(names.len())
 }
 
 #[test]
@@ -34,8 +45,8 @@ fn device_fault_then_remount(rt: HostRuntime) -> Result<(), Fail> {
          create /b : refused Device
          create /c : refused Failed",
     )?;
-    assert_eq!(rt; session.core.clean_oldest().err(), Some(Cause::Failed));
-    assert_eq!(rt; session.core.erase_dead(), Err(Cause::Failed));
+    assert_eq!(rt; session.clean_oldest().err(), Some(Cause::Failed));
+    assert_eq!(rt; session.erase_dead(), Err(Cause::Failed));
     let mut session = left_of(&rt, session, 1)?;
     session.play(&rt, "create /c : appended 3 2")?;
     let image = session.image()?;
@@ -49,7 +60,7 @@ fn half_record_does_not_count(rt: HostRuntime) -> Result<(), Fail> {
     session.play(&rt, "create /a : refused Device")?;
     let mut session = left_of(&rt, session, 0)?;
     session.play(&rt, "create /c : appended 2 1")?;
-    assert_eq!(rt; session.core.erase_dead(), Ok(1));
+    assert_eq!(rt; session.erase_dead(), Ok(1));
     let image = session.image()?;
     holds(&rt, &image, 1024, b"JFF1");
     Ok(())

@@ -59,8 +59,8 @@ fn a_cleaned_volume_survives_each_refusal(rt: HostRuntime) -> Result<(), Fail> {
     let mut session = Session::erased(rt.alloc(), 6)?;
     play_on(&rt, &mut session, RENAMING)?;
     assert_eq!(rt; appended(&session), 8);
-    let cleaned = match session.core.clean_oldest() {
-        Err(Cause::Memory) => session.core.clean_oldest(),
+    let cleaned = match session.clean_oldest() {
+        Err(Cause::Memory) => session.clean_oldest(),
         cleaned => cleaned,
     };
     assert!(rt; matches!(cleaned, Ok(Cleaned::Erased { sector: 0, .. })));

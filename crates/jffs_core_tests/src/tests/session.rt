@@ -1,7 +1,7 @@
 //! A core with the number of the next request.
 
 use crate::tests::wishes::wish_of;
-use jffs_core::Core;
+use jffs_core::{Cleaned, Core};
 use jffs_flash::{ERASED_BYTE, Flash, MemoryFlash};
 use jffs_line::Request;
 use jffs_log::ScanWhy;
@@ -72,6 +72,15 @@ impl<F: Flash + Drop> Session<F> {
                 wish,
             }),
         )
+    }
+
+    pub(super) fn clean_oldest(&mut self) -> Result<Cleaned, Cause> {
+        self.core.clean_oldest()
+    }
+
+    /// How many sectors were erased.
+    pub(super) fn erase_dead(&mut self) -> Result<u32, Cause> {
+        self.core.erase_dead()
     }
 
     /// The first bytes of a file are these, and there are no more.

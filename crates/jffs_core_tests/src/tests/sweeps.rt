@@ -84,7 +84,7 @@ fn trees_of<F: Flash + Drop>(session: &mut Session<F>, run: &str) -> Result<Vec<
         }
         trees.push(shown(alloc, session.core.tree())?)?;
     }
-    let _ = session.core.clean_oldest();
+    let _ = session.clean_oldest();
     Ok(trees)
 }
 

@@ -60,7 +60,7 @@ fn overwrite(
     for _ in 0..times {
         session.ask("write /f 0 192*a")?;
         wear.look(session)?;
-        session.core.erase_dead()?;
+        session.erase_dead()?;
         wear.look(session)?;
     }
     Ok(())
@@ -72,7 +72,7 @@ fn sectors_wear_evenly(rt: HostRuntime) -> Result<(), Fail> {
     session.play(&rt, "create /f : appended 2 1")?;
     for _ in 0..10_000 {
         session.ask("write /f 0 192*a")?;
-        session.core.erase_dead()?;
+        session.erase_dead()?;
     }
     are_even(&rt, calls_of(&session).erased, 550);
     Ok(())

@@ -42,6 +42,18 @@ impl<'a> Words<'a> {
         }
     }
 
+    fn take_create(&mut self) -> Result<Wish, Fail> {
+        Ok(Wish::Create(self.take_path()?))
+    }
+
+    fn take_make_dir(&mut self) -> Result<Wish, Fail> {
+        Ok(Wish::MakeDir(self.take_path()?))
+    }
+
+    fn take_remove(&mut self) -> Result<Wish, Fail> {
+        Ok(Wish::Remove(self.take_path()?))
+    }
+
     fn take_write(&mut self) -> Result<Wish, Fail> {
         Ok(Wish::Write {
             path: self.take_path()?,
@@ -83,9 +95,9 @@ pub(super) fn wish_of(alloc: Global, line: &str) -> Result<Wish, Fail> {
         rest: line.trim(),
     };
     match words.take() {
-        "create" => Ok(Wish::Create(words.take_path()?)),
-        "mkdir" => Ok(Wish::MakeDir(words.take_path()?)),
-        "remove" => Ok(Wish::Remove(words.take_path()?)),
+        "create" => words.take_create(),
+        "mkdir" => words.take_make_dir(),
+        "remove" => words.take_remove(),
         "rename" => words.take_rename(),
         "truncate" => words.take_truncate(),
         "write" => words.take_write(),

@@ -1,6 +1,6 @@
 //! Calls of the program, each with its status, what it prints and what people are told.
 
-use jffs_run::{run_called, run_program_on_file};
+use jffs_program::{run_called, run_program_on_file};
 use std::io::{ErrorKind, Read, Write};
 use std::process::Abort;
 use std::rt::Files;

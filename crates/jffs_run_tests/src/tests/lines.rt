@@ -2,7 +2,7 @@
 
 use jffs_core::Answer;
 use jffs_line::{CLEANER, CONTROL};
-use jffs_run::{print_answers, print_ending};
+use jffs_program::{print_answers, print_ending};
 use jffs_tree::{Cause, Outcome};
 use std::alloc::Global;
 use std::test::Fail;

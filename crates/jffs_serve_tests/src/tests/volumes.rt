@@ -36,6 +36,12 @@ pub(super) fn write(alloc: Global, path: &str, offset: u32, bytes: &[u8]) -> Res
     })
 }
 
+/// A write whose record takes a quarter of a sector.
+fn write_192(alloc: Global, path: &str, offset: u32) -> Result<Wish, Fail> {
+    let bytes = vec![in alloc; 0x61u8; 192]?;
+    write(alloc, path, offset, &bytes)
+}
+
 /// An erased volume, mounted.
 pub(super) fn erased(alloc: Global, sectors: u32) -> Result<Core<MemoryFlash>, Fail> {
     let flash = MemoryFlash::new(alloc, sectors, 1024)?;
@@ -64,7 +70,7 @@ fn answer_all(core: &mut Core<MemoryFlash>, wishes: Vec<Wish>) -> Result<(), Fai
 pub(super) fn filled(alloc: Global) -> Result<Core<MemoryFlash>, Fail> {
     let mut wishes = vec![in alloc; create(alloc, "/f")?]?;
     for turn in 0u32..9 {
-        wishes.push(write(alloc, "/f", turn * 192, &[0x61; 192])?)?;
+        wishes.push(write_192(alloc, "/f", turn * 192)?)?;
     }
     let mut core = erased(alloc, 6)?;
     answer_all(&mut core, wishes)?;
@@ -79,7 +85,7 @@ pub(super) fn moved(alloc: Global) -> Result<Core<MemoryFlash>, Fail> {
     wishes.push(rename(alloc, "/d/a", "/d/b")?)?;
     wishes.push(create(alloc, "/z")?)?;
     for _ in 0..3 {
-        wishes.push(write(alloc, "/z", 0, &[0x61; 192])?)?;
+        wishes.push(write_192(alloc, "/z", 0)?)?;
     }
     let mut core = erased(alloc, 6)?;
     answer_all(&mut core, wishes)?;
@@ -91,7 +97,7 @@ pub(super) fn moved(alloc: Global) -> Result<Core<MemoryFlash>, Fail> {
 pub(super) fn dead_below_tail(alloc: Global) -> Result<Core<MemoryFlash>, Fail> {
     let mut wishes = vec![in alloc; create(alloc, "/z")?]?;
     for _ in 0..8 {
-        wishes.push(write(alloc, "/z", 0, &[0x61; 192])?)?;
+        wishes.push(write_192(alloc, "/z", 0)?)?;
     }
     let mut core = erased(alloc, 6)?;
     answer_all(&mut core, wishes)?;

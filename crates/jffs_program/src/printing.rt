@@ -1,8 +1,8 @@
 //! The lines that tell what became of a run.
 
-use crate::reader::ReaderEnd;
 use jffs_core::Answer;
 use jffs_line::CONTROL;
+use jffs_run::ReaderEnd;
 use jffs_text::{WRITERS_MAX, cause_name, write_hex};
 use jffs_tree::Outcome;
 use std::io;

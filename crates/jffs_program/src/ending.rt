@@ -1,10 +1,10 @@
 //! What ends the program before its lines are whole: what is printed then, what people are told,
 //! and the status.
 
-use crate::fault::RunWhy;
 use crate::reading::{InputFault, Unread};
 use jffs_file::FileFault;
 use jffs_flash::FlashNew;
+use jffs_run::RunWhy;
 use jffs_text::{DumpFault, ScriptMistake};
 use std::io;
 use std::io::Write;

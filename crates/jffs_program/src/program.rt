@@ -1,17 +1,15 @@
 //! The program: a script in, lines out.
 
 use crate::ending::{Fault, Why, status_of};
-use crate::fault::{RunFault, RunWhy};
-use crate::outcome::Run;
 use crate::printing::{print_answers, print_ending, print_readers};
 use crate::reading::{read_file, read_whole};
-use crate::run::run_threads;
-use crate::writer::NoGate;
 use jffs_core::Answer;
 use jffs_file::{FileFault, FileFlash, FileStore, create_image, open_image};
 use jffs_flash::{Flash, MemoryFlash};
 use jffs_log::{Mounted, ScanFault, scan};
+use jffs_run::{NoGate, ReaderEnd, Run, RunFault, RunWhy, run_threads};
 use jffs_text::{Script, Usage, dump};
+use jffs_tree::Tree;
 use std::alloc::Global;
 use std::io::{Read, Write};
 use std::rt::Files;
@@ -170,6 +168,15 @@ fn flash_in<Rt: AllocGlobal + Files>(
     image?.into_flash(sectors, sector_size)
 }
 
+/// What a run came to, and what a scan finds after it.
+#[derive(Drop)]
+struct Ended {
+    answers: Vec<Answer>,
+    readers: Vec<ReaderEnd>,
+    tree: Tree,
+    clean: bool,
+}
+
 /// Runs a script on a device, which may hold a volume already, and writes what became of it.
 /// All is run and scanned before the first line is written.
 fn run_on<Rt: AllocGlobal + Threads + Wait + Sync, F: Flash + Send + Drop, W: Write>(
@@ -178,7 +185,16 @@ fn run_on<Rt: AllocGlobal + Threads + Wait + Sync, F: Flash + Send + Drop, W: Wr
     flash: F,
     out: &mut W,
 ) -> Result<(), Why> {
-    let alloc = rt.alloc();
+    let ended = run_and_scan(rt, script, flash)?;
+    print_ended(rt.alloc(), &ended, out)
+}
+
+/// Runs a script on a device, and scans the device then.
+fn run_and_scan<Rt: AllocGlobal + Threads + Wait + Sync, F: Flash + Send + Drop>(
+    rt: &Rt,
+    script: &Script<'_>,
+    flash: F,
+) -> Result<Ended, Why> {
     let Run {
         accepted: _,
         answers,
@@ -193,12 +209,23 @@ fn run_on<Rt: AllocGlobal + Threads + Wait + Sync, F: Flash + Send + Drop, W: Wr
         tree,
         clean,
         limits: _,
-    } = scan(alloc, flash).map_err(scan_fault)?;
-    print_answers(&answers, out)?;
-    print_readers(&readers, out)?;
-    print_ending(&answers, out)?;
-    writeln!(out, "{}", if clean { "scan clean" } else { "scan unclean" })?;
-    dump(alloc, &tree, out)?;
+    } = scan(rt.alloc(), flash).map_err(scan_fault)?;
+    Ok(Ended {
+        answers,
+        readers,
+        tree,
+        clean,
+    })
+}
+
+/// Writes what became of a run, and the tree that the scan found.
+fn print_ended<W: Write>(alloc: Global, ended: &Ended, out: &mut W) -> Result<(), Why> {
+    print_answers(&ended.answers, out)?;
+    print_readers(&ended.readers, out)?;
+    print_ending(&ended.answers, out)?;
+    let clean = if ended.clean { "clean" } else { "unclean" };
+    writeln!(out, "scan {clean}")?;
+    dump(alloc, &ended.tree, out)?;
     out.flush()?;
     Ok(())
 }

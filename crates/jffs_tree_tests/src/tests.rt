@@ -116,28 +116,34 @@ fn tell(alloc: Global, decided: &Result<Node, Cause>) -> Result<String, AllocErr
 
 /// The names in a directory; if allocation fails they are listed again.
 fn names(tree: &Tree, inode: u32) -> Result<Vec<(Name, u32)>, Fail> {
-    if let Ok(listed) = tree.names(inode) {
-        return Ok(listed);
-    }
-    Ok(tree.names(inode)?)
+    Ok(tree.names(inode).or_else(|_| tree.names(inode))?)
 }
 
 /// A copy of a tree; if allocation fails it is copied again.
 fn copied(tree: &Tree) -> Result<Tree, Fail> {
-    if let Ok(copied) = tree.copy_tree() {
-        return Ok(copied);
-    }
-    Ok(tree.copy_tree()?)
+    Ok(tree.copy_tree().or_else(|_| tree.copy_tree())?)
+}
+
+/// The inode that a path leads to.
+fn resolved(tree: &Tree, alloc: Global, text: &str) -> Result<Option<u32>, Fail> {
+    let path = path(alloc, text)?;
+    Ok(tree.resolve(&path))
 }
 
 /// `/f` holds `hello`: inode 2, versions 1 and 2.
-const HELLO: &str = "create /f
-     write /f 0 hello";
+fn with_hello(rt: &impl Abort, alloc: Global) -> Result<Session, Fail> {
+    let mut session = Session::new(alloc);
+    session.play(
+        rt,
+        "create /f
+         write /f 0 hello",
+    )?;
+    Ok(session)
+}
 
 #[test]
 fn overlapping_writes(rt: HostRuntime) -> Result<(), Fail> {
-    let mut session = Session::new(rt.alloc());
-    session.play(&rt, HELLO)?;
+    let mut session = with_hello(&rt, rt.alloc())?;
     session.play(
         &rt,
         "write /f 1 EY : at 1 over 2 size 5
@@ -145,7 +151,12 @@ fn overlapping_writes(rt: HostRuntime) -> Result<(), Fail> {
          write /f 6 abc : at 6 over 1 size 9",
     )?;
     session.contents(&rt, 2, b"hEYlo!abc");
-    let tree = &session.tree;
+    has_overlapped(&rt, &session.tree);
+    Ok(())
+}
+
+/// Who wrote last what stands in `hEYlo!abc`, and which versions are live.
+fn has_overlapped(rt: &impl Abort, tree: &Tree) {
     for (offset, writer) in [
         (0, Some(2)),
         (1, Some(3)),
@@ -155,15 +166,19 @@ fn overlapping_writes(rt: HostRuntime) -> Result<(), Fail> {
     ] {
         assert_eq!(rt; tree.last_writer(2, offset), writer, "at {offset}");
     }
+    has_live_ends(rt, tree);
+}
+
+/// Of the versions 1, 2 and 5 all but the first are live, and the last is the newest.
+fn has_live_ends(rt: &impl Abort, tree: &Tree) {
     assert_eq!(rt; tree.newest(2), Some(5));
-    assert!(rt; tree.live(2, 2) && tree.live(2, 5) && !tree.live(2, 1));
-    Ok(())
+    let live = [tree.live(2, 1), tree.live(2, 2), tree.live(2, 5)];
+    assert_eq!(rt; live, [false, true, true]);
 }
 
 #[test]
 fn holes_and_growth(rt: HostRuntime) -> Result<(), Fail> {
-    let mut session = Session::new(rt.alloc());
-    session.play(&rt, HELLO)?;
+    let mut session = with_hello(&rt, rt.alloc())?;
     session.play(
         &rt,
         "truncate /f 5 : at 5 over 0 size 5
@@ -187,8 +202,7 @@ fn holes_and_growth(rt: HostRuntime) -> Result<(), Fail> {
 
 #[test]
 fn stale_and_needless_copies(rt: HostRuntime) -> Result<(), Fail> {
-    let mut session = Session::new(rt.alloc());
-    session.play(&rt, HELLO)?;
+    let mut session = with_hello(&rt, rt.alloc())?;
     session.play(
         &rt,
         "write /f 0 J
@@ -220,10 +234,14 @@ fn cleaned(session: &Session, source: &Node) -> Result<Node, Fail> {
 
 /// A copy gives `/g` these bytes, instead of as many.
 fn is_copy(rt: &impl Abort, copied: &Node, bytes: &[u8]) {
-    assert!(rt; copied.copy && copied.name == Name::from_bytes(b"g"));
-    let written = (copied.offset, copied.rsize as usize, copied.size);
-    assert_eq!(rt; written, (0, bytes.len(), Some(copied.rsize)));
+    assert!(rt; copied.copy && is_g(copied.name));
+    assert!(rt; copied.offset == 0 && copied.size == Some(copied.rsize));
+    assert_eq!(rt; copied.rsize as usize, bytes.len());
     assert_eq!(rt; copied.bytes.as_slice(), bytes);
+}
+
+fn is_g(name: Option<Name>) -> bool {
+    name == Name::from_bytes(b"g")
 }
 
 #[test]
@@ -270,8 +288,7 @@ fn stands_moved(rt: &impl Abort, alloc: Global, tree: &Tree) -> Result<(), Fail>
         ("/c/f", Some(3)),
         ("/b", None),
     ] {
-        let path = path(alloc, text)?;
-        assert_eq!(rt; tree.resolve(&path), inode, "at {text}");
+        assert_eq!(rt; resolved(tree, alloc, text)?, inode, "at {text}");
     }
     assert!(rt; tree.kind(4) == Some(Kind::Directory) && tree.kind(2).is_none());
     assert_eq!(rt; tree.size(3), Some(0));
@@ -282,9 +299,15 @@ fn stands_moved(rt: &impl Abort, alloc: Global, tree: &Tree) -> Result<(), Fail>
 /// The root holds `/c`, and nothing else.
 fn lists_c(rt: &impl Abort, tree: &Tree) -> Result<(), Fail> {
     let listed = names(tree, 1)?;
-    assert_eq!(rt; listed.len(), 1);
-    assert!(rt; listed[0].0.bytes() == b"c".as_slice() && listed[0].1 == 4);
+    assert!(rt; is_c_alone(&listed));
     Ok(())
+}
+
+fn is_c_alone(listed: &[(Name, u32)]) -> bool {
+    match listed {
+        [(name, inode)] => *inode == 4 && name.bytes() == b"c".as_slice(),
+        _ => false,
+    }
 }
 
 #[test]
@@ -305,8 +328,7 @@ fn a_copied_tree_is_its_source(rt: HostRuntime) -> Result<(), Fail> {
 
 #[test]
 fn no_number_is_left(rt: HostRuntime) -> Result<(), Fail> {
-    let mut session = Session::new(rt.alloc());
-    session.play(&rt, HELLO)?;
+    let mut session = with_hello(&rt, rt.alloc())?;
     session.next_inode = None;
     session.play(&rt, "create /g : refused InodesSpent")?;
     session.next_version = None;

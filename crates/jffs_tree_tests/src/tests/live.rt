@@ -4,70 +4,88 @@ use super::*;
 
 /// Each of these versions has as many marks, all of them in the first file.
 fn has_marks(rt: &impl Abort, session: &Session, wanted: &[(u32, u32)]) {
+    let tree = &session.tree;
     for (version, marks) in wanted {
-        let tree = &session.tree;
-        assert_eq!(rt; tree.marks(*version), *marks, "of {version}");
-        assert_eq!(rt; tree.live(2, *version), *marks != 0, "of {version}");
-        assert_eq!(rt;
+        let told = (
+            tree.marks(*version),
+            tree.live(2, *version),
             tree.any_live(*version, *version),
-            *marks != 0,
-            "of {version}"
         );
+        let is_live = *marks != 0;
+        assert_eq!(rt; told, (*marks, is_live, is_live), "of {version}");
     }
+}
+
+/// What is played, and the marks that each of these versions has then.
+type Row<'a> = (&'a str, &'a [(u32, u32)]);
+
+/// Plays one row after the other in a new session.
+fn played(rt: &impl Abort, alloc: Global, rows: &[Row<'_>]) -> Result<Session, Fail> {
+    let mut session = Session::new(alloc);
+    for (script, wanted) in rows {
+        session.play(rt, script)?;
+        has_marks(rt, &session, wanted);
+    }
+    Ok(session)
 }
 
 #[test]
 fn later_writes_cut_a_record_in_three(rt: HostRuntime) -> Result<(), Fail> {
-    let mut session = Session::new(rt.alloc());
-    session.play(
+    let session = played(
         &rt,
-        "create /f
-         write /f 0 abcdefghi",
+        rt.alloc(),
+        &[
+            (
+                "create /f
+                 write /f 0 abcdefghi",
+                &[(1, 0), (2, 10)],
+            ),
+            ("write /f 2 X", &[(1, 0), (2, 8), (3, 2)]),
+            ("write /f 5 YZ", &[(1, 0), (2, 6), (3, 1), (4, 3)]),
+        ],
     )?;
-    has_marks(&rt, &session, &[(1, 0), (2, 10)]);
-    session.play(&rt, "write /f 2 X")?;
-    has_marks(&rt, &session, &[(1, 0), (2, 8), (3, 2)]);
-    session.play(&rt, "write /f 5 YZ")?;
-    has_marks(&rt, &session, &[(1, 0), (2, 6), (3, 1), (4, 3)]);
     session.contents(&rt, 2, b"abXdeYZhi");
     Ok(())
 }
 
 #[test]
 fn one_byte_keeps_a_record_live(rt: HostRuntime) -> Result<(), Fail> {
-    let mut session = Session::new(rt.alloc());
-    session.play(
+    played(
         &rt,
-        "create /f
-         write /f 0 hello
-         write /f 0 HELL",
+        rt.alloc(),
+        &[
+            (
+                "create /f
+                 write /f 0 hello
+                 write /f 0 HELL",
+                &[(1, 0), (2, 1), (3, 5)],
+            ),
+            ("write /f 4 O", &[(1, 0), (2, 0), (3, 4), (4, 2)]),
+        ],
     )?;
-    has_marks(&rt, &session, &[(1, 0), (2, 1), (3, 5)]);
-    session.play(&rt, "write /f 4 O")?;
-    has_marks(&rt, &session, &[(1, 0), (2, 0), (3, 4), (4, 2)]);
     Ok(())
 }
 
 #[test]
 fn marks_follow_a_truncate_a_hole_a_rename_and_a_remove(rt: HostRuntime) -> Result<(), Fail> {
-    let mut session = Session::new(rt.alloc());
-    session.play(
+    let session = played(
         &rt,
-        "create /f
-         write /f 0 hello
-         truncate /f 3",
+        rt.alloc(),
+        &[
+            (
+                "create /f
+                 write /f 0 hello
+                 truncate /f 3",
+                &[(1, 0), (2, 3), (3, 1)],
+            ),
+            ("write /f 6 xy", &[(1, 0), (2, 3), (3, 0), (4, 3)]),
+            ("rename /f /g", &[(1, 0), (2, 3), (3, 0), (4, 2), (5, 1)]),
+            (
+                "remove /g",
+                &[(1, 0), (2, 0), (3, 0), (4, 0), (5, 0), (6, 0)],
+            ),
+        ],
     )?;
-    has_marks(&rt, &session, &[(1, 0), (2, 3), (3, 1)]);
-    session.play(&rt, "write /f 6 xy")?;
-    has_marks(&rt, &session, &[(1, 0), (2, 3), (3, 0), (4, 3)]);
-    session.play(&rt, "rename /f /g")?;
-    has_marks(&rt, &session, &[(1, 0), (2, 3), (3, 0), (4, 2), (5, 1)]);
-    session.play(&rt, "remove /g")?;
-    has_marks(
-        &rt,
-        &session,
-        &[(1, 0), (2, 0), (3, 0), (4, 0), (5, 0), (6, 0)],
-    );
     assert!(rt; !session.tree.any_live(0, u32::MAX));
     Ok(())
 }

@@ -63,11 +63,7 @@ pub(super) fn are_the_same(rt: &impl Abort, tree: &Tree, other: &Tree) -> Result
 }
 
 fn have_the_same_bytes(rt: &impl Abort, tree: &Tree, other: &Tree, inode: u32) {
-    let mut read = [0xFFu8; PLACES];
-    let mut also_read = [0xFFu8; PLACES];
-    let count = tree.read(inode, 0, &mut read);
-    assert_eq!(rt; other.read(inode, 0, &mut also_read), count);
-    assert_eq!(rt; read.as_slice(), also_read.as_slice());
+    assert_eq!(rt; bytes_of(tree, inode), bytes_of(other, inode));
     for number in 0..PLACES as u32 {
         assert_eq!(rt;
             tree.last_writer(inode, number),
@@ -75,6 +71,13 @@ fn have_the_same_bytes(rt: &impl Abort, tree: &Tree, other: &Tree, inode: u32) {
         );
         assert_eq!(rt; tree.live(inode, number), other.live(inode, number));
     }
+}
+
+/// How many bytes of a file were read, and what stands then where they were read to.
+fn bytes_of(tree: &Tree, inode: u32) -> (usize, [u8; PLACES]) {
+    let mut read = [0xFFu8; PLACES];
+    let count = tree.read(inode, 0, &mut read);
+    (count, read)
 }
 
 fn have_the_same_names(rt: &impl Abort, tree: &Tree, other: &Tree, inode: u32) -> Result<(), Fail> {
@@ -104,11 +107,16 @@ fn a_deep_tree_is_copied_look_up_by_look_up(rt: HostRuntime) -> Result<(), Fail>
 
 /// Every path leads to the same inode, and the deepest to the ninth.
 fn resolve_the_same(rt: &impl Abort, session: &Session, copied: &Tree) -> Result<(), Fail> {
-    for text in &PATHS {
-        let path = path(session.alloc, text)?;
-        let found = session.tree.resolve(&path);
-        assert_eq!(rt; found, copied.resolve(&path), "at {text}");
-        assert!(rt; (found == Some(9)) == (*text == DEEP), "at {text}");
+    for text in PATHS {
+        let found = resolved(&session.tree, session.alloc, text)?;
+        let also_found = resolved(copied, session.alloc, text)?;
+        lead_to_one(rt, text, found, also_found);
     }
     Ok(())
+}
+
+/// Only the deepest path leads to the ninth inode.
+fn lead_to_one(rt: &impl Abort, text: &str, found: Option<u32>, also_found: Option<u32>) {
+    assert_eq!(rt; found, also_found, "at {text}");
+    assert_eq!(rt; found == Some(9), text == DEEP, "at {text}");
 }

@@ -15,7 +15,10 @@ struct Words<'a> {
 impl<'a> Words<'a> {
     /// The next word; an empty one where none is left.
     fn take(&mut self) -> &'a str {
-        let (word, rest) = self.rest.split_once(' ').unwrap_or((self.rest, ""));
+        let (word, rest) = match self.rest.split_once(' ') {
+            Some(parts) => parts,
+            None => (self.rest, ""),
+        };
         self.rest = rest;
         word
     }
@@ -106,10 +109,7 @@ pub(super) fn path(alloc: Global, text: &str) -> Result<Path, Fail> {
 
 /// Bytes; if allocation fails they are copied again.
 fn bytes(alloc: Global, bytes: &[u8]) -> Result<Bytes, Fail> {
-    if let Ok(bytes) = copied(alloc, bytes) {
-        return Ok(bytes);
-    }
-    Ok(copied(alloc, bytes)?)
+    Ok(copied(alloc, bytes).or_else(|_| copied(alloc, bytes))?)
 }
 
 /// The same byte `times` times, at most 256.

@@ -1,14 +1,16 @@
 //! Lines that are made, used and settled.
 
 ghost use Rattle.std.specs.Prelude.{◌≡◌, map, [], ◌∷◌, ◌++◌};
+ghost use Rattle.jffs_line.specs.Line.{End};
 
 mod sessions;
 mod waking;
 
 use crate::tests::sessions::{Session, run_session};
-use crate::tests::waking::{take_asleep, unmount_asleep};
+use crate::tests::waking::{Taken, take_asleep, unmount_asleep};
 use jffs_line::{
-    Ends, Hand, LineFault, NotTaken, Settle, Settled, Taker, Why, ring_line, shared_line,
+    Ends, Hand, Hands, LineFault, Request, RingHand, RingLine, Settle, SharedHand, SharedLine,
+    SharedTaker, Taker, Why, ring_line, shared_line,
 };
 use jffs_node::Path;
 use jffs_tree::Wish;
@@ -16,6 +18,7 @@ use std::alloc::Global;
 use std::process::Abort;
 use std::sync::Wait;
 use std::test::Fail;
+use std::thread::Threads;
 
 /// A wish that its size tells from others.
 pub(super) fn wish(alloc: Global, size: u32) -> Option<Wish> {
@@ -30,11 +33,18 @@ fn size_of(wish: &Wish) -> Option<u32> {
     }
 }
 
-/// What one writer was told of two wishes while nothing was taken, and what then waited.
+/// Writer, number and size of a request.
+fn told(request: &Request) -> (u16, u32, Option<u32>) {
+    (request.writer, request.seq, size_of(&request.wish))
+}
+
+/// What one writer was told of two wishes while nothing was taken, and the one request that then
+/// waited.
+#[derive(Clone, Copy)]
 struct Offered {
-    first: Result<u32, NotTaken>,
-    second: Result<u32, NotTaken>,
-    settled: Settled,
+    first: Option<u32>,
+    second: Option<(Why, Option<u32>)>,
+    waiting: Option<(u16, u32, Option<u32>)>,
 }
 
 fn offered_twice<T: Settle, R: Wait>(rt: &R, alloc: Global, line: Ends<T::Of, T>) -> Option<Offered>
@@ -44,48 +54,59 @@ fn offered_twice<T: Settle, R: Wait>(rt: &R, alloc: Global, line: Ends<T::Of, T>
 {
     let Ends { mut hands, taker } = line;
     let mut hand = hands.writers.pop()?;
-    let first = hand.offer(rt, wish(alloc, 2)?);
-    let second = hand.offer(rt, wish(alloc, 3)?);
+    let first = answer(rt, &mut hand, wish(alloc, 2)?).ok();
+    let second = answer(rt, &mut hand, wish(alloc, 3)?).err();
     hands.writers.push(hand).ok()?;
     let settled = taker.settle(rt, alloc, hands).ok()?;
     Some(Offered {
         first,
         second,
-        settled,
+        waiting: only(&settled.waiting),
     })
 }
 
-fn check_capacity_one(rt: &impl Abort, offered: Offered) {
-    let Offered {
-        first,
-        second,
-        settled,
-    } = offered;
-    assert_eq!(rt; first.ok(), Some(1));
-    assert_eq!(rt;
-        second.err().map(|e| (e.why, size_of(&e.wish))),
-        Some((Why::Full, Some(3)))
-    );
-    assert_eq!(rt; settled.waiting.len(), 1);
-    let left = &settled.waiting[0];
-    assert_eq!(rt;
-        (left.writer, left.seq, size_of(&left.wish)),
-        (1, 1, Some(2))
-    );
+/// The number of a wish that was offered; or why it was refused, and its size.
+fn answer<H: Hand, R: Wait>(rt: &R, hand: &mut H, wish: Wish) -> Result<u32, (Why, Option<u32>)>
+    ensures { ◌≡◌ {A = End} (H.sender hand.new, H.line hand.new)
+        (H.sender hand.old, H.line hand.old) }
+{
+    match hand.offer(rt, wish) {
+        Ok(number) => Ok(number),
+        Err(refused) => Err((refused.why, size_of(&refused.wish))),
+    }
+}
+
+/// What a list of one request tells.
+fn only(requests: &[Request]) -> Option<(u16, u32, Option<u32>)> {
+    match requests {
+        [request] => Some(told(request)),
+        _ => None,
+    }
+}
+
+fn check_capacity_one(rt: &impl Abort, offered: Option<Offered>) -> Result<(), Fail> {
+    let offered = offered.ok_or("memory")?;
+    assert_eq!(rt; offered.first, Some(1));
+    assert_eq!(rt; offered.second, Some((Why::Full, Some(3))));
+    assert_eq!(rt; offered.waiting, Some((1, 1, Some(2))));
+    Ok(())
 }
 
 #[test]
 fn line_of_capacity_one(rt: HostRuntime) -> Result<(), Fail> {
     let alloc = rt.alloc();
-    check_capacity_one(
-        &rt,
-        offered_twice(&rt, alloc, shared_line(&rt, alloc, 1, 1)?).ok_or("memory")?,
-    );
-    check_capacity_one(
-        &rt,
-        offered_twice(&rt, alloc, ring_line(alloc, 1, 1)?).ok_or("memory")?,
-    );
-    Ok(())
+    let line = shared_line(&rt, alloc, 1, 1)?;
+    check_capacity_one(&rt, offered_twice(&rt, alloc, line))?;
+    let line = ring_line(alloc, 1, 1)?;
+    check_capacity_one(&rt, offered_twice(&rt, alloc, line))
+}
+
+fn shared_fault<R>(rt: &R, alloc: Global, capacity: usize, writers: u16) -> Option<LineFault> {
+    shared_line(rt, alloc, capacity, writers).err()
+}
+
+fn ring_fault(alloc: Global, capacity: usize, writers: u16) -> Option<LineFault> {
+    ring_line(alloc, capacity, writers).err()
 }
 
 #[test]
@@ -98,96 +119,154 @@ fn a_line_refuses_its_capacity_before_its_senders(rt: HostRuntime) {
         (256, 8, None),
         (1, 0, None),
     ] {
-        assert_eq!(rt; shared_line(&rt, alloc, capacity, writers).err(), fault);
-        assert_eq!(rt; ring_line(alloc, capacity, writers).err(), fault);
+        assert_eq!(rt; shared_fault(&rt, alloc, capacity, writers), fault);
+        assert_eq!(rt; ring_fault(alloc, capacity, writers), fault);
     }
+}
+
+/// The line has hands for so many writers, and nothing waits in it.
+fn settles_unused<T: Settle, R: Wait + Abort>(
+    rt: &R,
+    alloc: Global,
+    line: Ends<T::Of, T>,
+    writers: u16,
+) -> Result<(), Fail>
+    requires { T.ends line.taker
+        ≡ map (λ h. (T.Of.sender h, T.Of.line h))
+        (line.hands.writers.items ++ line.hands.cleaner ∷ line.hands.control.hand ∷ []) }
+{
+    let Ends { hands, taker } = line;
+    assert_eq!(rt; hands.writers.len(), usize::from(writers));
+    assert!(rt; taker.settle(rt, alloc, hands)?.waiting.is_empty());
+    Ok(())
 }
 
 #[test]
 fn lines_that_nobody_used_are_settled(rt: HostRuntime) -> Result<(), Fail> {
     let alloc = rt.alloc();
     for writers in [0, 8] {
-        let Ends { hands, taker } = shared_line(&rt, alloc, 1, writers)?;
-        assert_eq!(rt; hands.writers.len(), usize::from(writers));
-        assert!(rt; taker.settle(&rt, alloc, hands)?.waiting.is_empty());
-        let Ends { hands, taker } = ring_line(alloc, 1, writers)?;
-        assert_eq!(rt; hands.writers.len(), usize::from(writers));
-        assert!(rt; taker.settle(&rt, alloc, hands)?.waiting.is_empty());
+        settles_unused(&rt, alloc, shared_line(&rt, alloc, 1, writers)?, writers)?;
+        settles_unused(&rt, alloc, ring_line(alloc, 1, writers)?, writers)?;
     }
     Ok(())
 }
 
+/// The taker gives the first request of each of these senders, one after the other.
+fn gives_first_of<T: Taker, R: Wait + Abort>(rt: &R, taker: &mut T, senders: &[u16]) {
+    for sender in senders {
+        let taken = taker.take(rt).map(|r| (r.writer, r.seq));
+        assert_eq!(rt; taken, Some((*sender, 1)));
+    }
+}
+
+fn gives_none<T: Taker, R: Wait + Abort>(rt: &R, taker: T) {
+    let mut taker = taker;
+    assert!(rt; taker.take(rt).is_none());
+}
+
+/// Hands in a wish of the size 2, and takes it.
+fn handed_in_and_taken<R: Wait + Abort>(
+    rt: &R,
+    alloc: Global,
+    hand: &mut SharedHand,
+    taker: &mut SharedTaker,
+) -> Result<Wish, Fail> {
+    let first = wish(alloc, 2).ok_or("memory")?;
+    assert_eq!(rt; hand.hand_in(rt, first).ok(), Some(1));
+    let taken = taker.take(rt).ok_or("one waits")?;
+    assert_eq!(rt; told(&taken), (1, 1, Some(2)));
+    Ok(taken.wish)
+}
+
 #[test]
 fn the_shared_taker_gives_none_once_no_hand_is_left(rt: HostRuntime) -> Result<(), Fail> {
-    let alloc = rt.alloc();
-    let Ends {
-        mut hands,
-        mut taker,
-    } = shared_line(&rt, alloc, 1, 1)?;
-    assert_eq!(rt; hands.writers.len(), 1);
-    let first = wish(alloc, 2).ok_or("memory")?;
-    assert_eq!(rt; hands.writers[0].hand_in(&rt, first).ok(), Some(1));
-    let taken = taker.take(&rt).ok_or("one waits")?;
-    assert_eq!(rt;
-        (taken.writer, taken.seq, size_of(&taken.wish)),
-        (1, 1, Some(2))
-    );
-    assert_eq!(rt; hands.cleaner.offer(&rt, taken.wish).ok(), Some(1));
+    let mut line = shared_line(&rt, rt.alloc(), 1, 1)?;
+    pass_on(&rt, rt.alloc(), &mut line)?;
+    let Ends { hands, mut taker } = line;
     drop(hands);
-    assert_eq!(rt; taker.take(&rt).map(|r| (r.writer, r.seq)), Some((9, 1)));
-    assert!(rt; taker.take(&rt).is_none());
+    gives_first_of(&rt, &mut taker, &[9]);
+    gives_none(&rt, taker);
+    Ok(())
+}
+
+/// The writer's wish is taken, and handed in again by the cleaner.
+fn pass_on<R: Wait + Abort>(rt: &R, alloc: Global, line: &mut SharedLine) -> Result<(), Fail> {
+    let Ends { hands, taker } = line;
+    assert_eq!(rt; hands.writers.len(), 1);
+    let taken = handed_in_and_taken(rt, alloc, &mut hands.writers[0], taker)?;
+    assert_eq!(rt; hands.cleaner.offer(rt, taken).ok(), Some(1));
+    Ok(())
+}
+
+/// What a shared line's hand is told of a wish.
+fn shared_answer<R: Wait>(
+    rt: &R,
+    alloc: Global,
+    hand: &mut SharedHand,
+) -> Result<Result<u32, Why>, Fail> {
+    let asked = wish(alloc, 2).ok_or("memory")?;
+    Ok(hand.try_hand_in(rt, asked).map_err(|refused| refused.why))
+}
+
+/// What a ring's hand is told of a wish.
+fn ring_answer(alloc: Global, hand: &mut RingHand) -> Result<Result<u32, Why>, Fail> {
+    let asked = wish(alloc, 2).ok_or("memory")?;
+    Ok(hand.try_hand_in(asked).map_err(|refused| refused.why))
+}
+
+/// All senders hand in, the second writer first and the cleaner last.
+fn all_hand_in<R: Wait + Abort>(
+    rt: &R,
+    alloc: Global,
+    hands: &mut Hands<RingHand>,
+) -> Result<(), Fail> {
+    assert_eq!(rt; hands.writers.len(), 2);
+    assert_eq!(rt; ring_answer(alloc, &mut hands.writers[1])?, Ok(1));
+    assert_eq!(rt; ring_answer(alloc, &mut hands.writers[0])?, Ok(1));
+    assert_eq!(rt; hands.control.unmount(rt).ok(), Some(1));
+    assert_eq!(rt; ring_answer(alloc, &mut hands.cleaner)?, Ok(1));
     Ok(())
 }
 
 #[test]
 fn the_control_is_served_last(rt: HostRuntime) -> Result<(), Fail> {
-    let alloc = rt.alloc();
     let Ends {
         mut hands,
         mut taker,
-    } = ring_line(alloc, 1, 2)?;
-    assert_eq!(rt; hands.writers.len(), 2);
-    let second = wish(alloc, 2).ok_or("memory")?;
-    assert_eq!(rt; hands.writers[1].try_hand_in(second).ok(), Some(1));
-    let first = wish(alloc, 4).ok_or("memory")?;
-    assert_eq!(rt; hands.writers[0].try_hand_in(first).ok(), Some(1));
-    assert_eq!(rt; hands.control.unmount(&rt).ok(), Some(1));
-    let copy = wish(alloc, 5).ok_or("memory")?;
-    assert_eq!(rt; hands.cleaner.try_hand_in(copy).ok(), Some(1));
+    } = ring_line(rt.alloc(), 1, 2)?;
+    all_hand_in(&rt, rt.alloc(), &mut hands)?;
     // The control's request waited before the cleaner's, and is taken after it.
-    for sender in [1, 2, 9, 10] {
-        assert_eq!(rt;
-            taker.take(&rt).map(|r| (r.writer, r.seq)),
-            Some((sender, 1))
-        );
-    }
+    gives_first_of(&rt, &mut taker, &[1, 2, 9, 10]);
     drop(hands);
-    assert!(rt; taker.take(&rt).is_none());
+    gives_none(&rt, taker);
+    Ok(())
+}
+
+/// The cleaner's hand is refused once one request waits.
+fn fills_shared<R: Wait + Abort>(rt: &R, alloc: Global, line: SharedLine) -> Result<(), Fail> {
+    let Ends { mut hands, taker } = line;
+    drop(taker);
+    for wanted in [None, Some(Why::Full)] {
+        assert_eq!(rt; shared_answer(rt, alloc, &mut hands.cleaner)?.err(), wanted);
+    }
+    Ok(())
+}
+
+/// The cleaner's hand is refused once one request waits in its ring.
+fn fills_ring(rt: &impl Abort, alloc: Global, line: RingLine) -> Result<(), Fail> {
+    let Ends { mut hands, taker } = line;
+    drop(taker);
+    for wanted in [None, Some(Why::Full)] {
+        assert_eq!(rt; ring_answer(alloc, &mut hands.cleaner)?.err(), wanted);
+    }
     Ok(())
 }
 
 #[test]
 fn a_line_without_its_taker_fills(rt: HostRuntime) -> Result<(), Fail> {
     let alloc = rt.alloc();
-    let Ends { mut hands, taker } = shared_line(&rt, alloc, 1, 0)?;
-    drop(taker);
-    for wanted in [None, Some(Why::Full)] {
-        let asked = wish(alloc, 2).ok_or("memory")?;
-        assert_eq!(rt;
-            hands.cleaner.try_hand_in(&rt, asked).err().map(|e| e.why),
-            wanted
-        );
-    }
-    let Ends { mut hands, taker } = ring_line(alloc, 1, 0)?;
-    drop(taker);
-    for wanted in [None, Some(Why::Full)] {
-        let asked = wish(alloc, 2).ok_or("memory")?;
-        assert_eq!(rt;
-            hands.cleaner.try_hand_in(asked).err().map(|e| e.why),
-            wanted
-        );
-    }
-    Ok(())
+    fills_shared(&rt, alloc, shared_line(&rt, alloc, 1, 0)?)?;
+    fills_ring(&rt, alloc, ring_line(alloc, 1, 0)?)
 }
 
 /// The sender's requests are numbered 1, 2, 3, .. in what was taken and then in what waited.
@@ -217,40 +296,56 @@ fn check_session(rt: &impl Abort, session: Option<Session>, taken: usize, waitin
 /// The wishes of each writer.
 const WISHES: u32 = 50;
 
+fn shared_session<R: Threads + Wait + Sync>(
+    rt: &R,
+    alloc: Global,
+    capacity: usize,
+    takes: usize,
+) -> Result<Option<Session>, Fail> {
+    let line = shared_line(rt, alloc, capacity, 8)?;
+    Ok(run_session(rt, alloc, line, WISHES, takes))
+}
+
+fn ring_session<R: Threads + Wait + Sync>(
+    rt: &R,
+    alloc: Global,
+    capacity: usize,
+    takes: usize,
+) -> Result<Option<Session>, Fail> {
+    let line = ring_line(alloc, capacity, 8)?;
+    Ok(run_session(rt, alloc, line, WISHES, takes))
+}
+
 #[test]
 fn eight_writers_hand_in_beside_a_taker(rt: HostRuntime) -> Result<(), Fail> {
     let alloc = rt.alloc();
     for (capacity, taken, waiting) in [(1, 400, 0), (3, 400, 0), (256, 200, 200)] {
-        let line = shared_line(&rt, alloc, capacity, 8)?;
-        let session = run_session(&rt, alloc, line, WISHES, taken);
+        let session = shared_session(&rt, alloc, capacity, taken)?;
         check_session(&rt, session, taken, waiting);
-        let line = ring_line(alloc, capacity, 8)?;
-        let session = run_session(&rt, alloc, line, WISHES, taken);
+        let session = ring_session(&rt, alloc, capacity, taken)?;
         check_session(&rt, session, taken, waiting);
     }
     Ok(())
 }
 
+fn was_woken_twice(rt: &impl Abort, taken: Taken) {
+    assert_eq!(rt; (taken.writer, taken.is_none), (Some(10), true));
+}
+
 #[test]
 fn a_taker_asleep_is_woken_by_a_request_and_by_the_last_hand(rt: HostRuntime) -> Result<(), Fail> {
     let alloc = rt.alloc();
-    for taken in [
-        take_asleep(&rt, shared_line(&rt, alloc, 1, 1)?),
-        take_asleep(&rt, ring_line(alloc, 1, 1)?),
-    ] {
-        assert_eq!(rt; (taken.writer, taken.is_none), (Some(10), true));
-    }
+    was_woken_twice(&rt, take_asleep(&rt, shared_line(&rt, alloc, 1, 1)?));
+    was_woken_twice(&rt, take_asleep(&rt, ring_line(alloc, 1, 1)?));
     Ok(())
 }
 
 #[test]
 fn an_unmount_asleep_at_a_full_line_is_woken(rt: HostRuntime) -> Result<(), Fail> {
     let alloc = rt.alloc();
-    for numbers in [
-        unmount_asleep(&rt, shared_line(&rt, alloc, 1, 1)?),
-        unmount_asleep(&rt, ring_line(alloc, 1, 1)?),
-    ] {
-        assert_eq!(rt; numbers, [Some(1), Some(2)]);
-    }
+    let numbers = unmount_asleep(&rt, shared_line(&rt, alloc, 1, 1)?);
+    assert_eq!(rt; numbers, [Some(1), Some(2)]);
+    let numbers = unmount_asleep(&rt, ring_line(alloc, 1, 1)?);
+    assert_eq!(rt; numbers, [Some(1), Some(2)]);
     Ok(())
 }

@@ -23,6 +23,7 @@ fn hand_in_all<H: Hand, R: Wait>(rt: &R, alloc: Global, hand: H, count: u32) -> 
     hand
 }
 
+/// Offers a wish until the line has room for it.
 fn insist<H: Hand, R: Wait>(rt: &R, hand: &mut H, wish: Wish)
     ensures { ◌≡◌ {A = End} (H.sender hand.new, H.line hand.new)
         (H.sender hand.old, H.line hand.old) }
@@ -30,16 +31,27 @@ fn insist<H: Hand, R: Wait>(rt: &R, hand: &mut H, wish: Wish)
     let backoff = Backoff::new();
     let mut wish = wish;
     for _ in rt.forever() {
-        match hand.offer(rt, wish) {
-            Err(
-                NotTaken {
-                    wish: back,
-                    why: Why::Full,
-                },
-            ) => wish = back,
-            _ => return,
+        match offer_once(rt, hand, wish) {
+            Some(back) => wish = back,
+            None => return,
         }
         backoff.snooze();
+    }
+}
+
+/// Offers a wish, which comes back where the line is full.
+fn offer_once<H: Hand, R: Wait>(rt: &R, hand: &mut H, wish: Wish) -> Option<Wish>
+    ensures { ◌≡◌ {A = End} (H.sender hand.new, H.line hand.new)
+        (H.sender hand.old, H.line hand.old) }
+{
+    match hand.offer(rt, wish) {
+        Err(
+            NotTaken {
+                wish: back,
+                why: Why::Full,
+            },
+        ) => Some(back),
+        _ => None,
     }
 }
 

@@ -33,7 +33,7 @@ const UNMOUNTED: [u8; 45] = [
 ];
 
 /// What a scan answered.
-#[derive(Debug, PartialEq, Eq, Drop)]
+#[derive(Clone, Copy, Debug, PartialEq, Eq)]
 enum Seen {
     Mounted {
         clean: bool,
@@ -111,20 +111,27 @@ fn mounted(found: &Mounted<MemoryFlash>) -> Seen {
 fn look_at(rt: &(impl Abort + AllocGlobal), image: Vec<u8>) -> Seen {
     assert!(rt; image.len() == LEN);
     let flash = MemoryFlash::from_bytes(SECTORS, SECTOR_SIZE, image);
-    let flash = match scan(rt.alloc(), flash) {
-        Ok(found) => return mounted(&found),
-        Err(ScanFault { why, flash }) => {
-            assert_eq!(rt; flash.bytes().len(), LEN);
-            if why != ScanWhy::Memory {
-                return Seen::Refused(why);
-            }
-            flash
-        }
-    };
+    match scan(rt.alloc(), flash) {
+        Ok(found) => mounted(&found),
+        Err(fault) => look_again(rt, fault),
+    }
+}
+
+/// What is seen after a scan that found no volume.
+fn look_again(rt: &(impl Abort + AllocGlobal), fault: ScanFault<MemoryFlash>) -> Seen {
+    let ScanFault { why, flash } = fault;
+    assert_eq!(rt; flash.bytes().len(), LEN);
+    if why != ScanWhy::Memory {
+        return Seen::Refused(why);
+    }
     match scan(rt.alloc(), flash) {
         Ok(found) => mounted(&found),
         Err(fault) => Seen::Refused(fault.why),
     }
+}
+
+fn sees(rt: &(impl Abort + AllocGlobal), image: Vec<u8>, wanted: Seen) {
+    assert_eq!(rt; look_at(rt, image), wanted);
 }
 
 fn bad(place: u32, why: Why) -> Seen {
@@ -135,63 +142,89 @@ fn bad(place: u32, why: Why) -> Seen {
     })
 }
 
+/// An image of files without data: the offset of each, its version and its inode.
+fn with_files(
+    rt: &(impl Abort + AllocGlobal),
+    files: &[(usize, u32, u32)],
+) -> Result<Vec<u8>, AllocError> {
+    let mut image = erased(rt.alloc())?;
+    for (at, version, inode) in files {
+        put(rt, &mut image, *at, &file(rt.alloc(), *version, *inode));
+    }
+    Ok(image)
+}
+
+/// An image that begins with a node.
+fn with_node(rt: &(impl Abort + AllocGlobal), node: Node) -> Result<Vec<u8>, AllocError> {
+    let mut image = erased(rt.alloc())?;
+    put(rt, &mut image, 0, &node);
+    Ok(image)
+}
+
+/// The image with another byte at an offset.
+fn changed(rt: &impl Abort, image: Vec<u8>, at: usize, byte: u8) -> Vec<u8> {
+    let mut image = image;
+    put_bytes(rt, &mut image, at, &[byte]);
+    image
+}
+
+/// An image of which no sector is erased.
+fn full_image(rt: &(impl Abort + AllocGlobal)) -> Result<Vec<u8>, AllocError> {
+    let mut full = erased(rt.alloc())?;
+    for sector in 0..8usize {
+        put_bytes(rt, &mut full, sector * 1024, &[0]);
+    }
+    Ok(full)
+}
+
 #[test]
 fn a_log_out_of_order_is_refused(rt: HostRuntime) -> Result<(), TestFail> {
-    let alloc = rt.alloc();
-    let mut scattered = erased(alloc)?;
-    put(&rt, &mut scattered, 0, &file(alloc, 1, 2));
-    put(&rt, &mut scattered, 2048, &file(alloc, 2, 2));
-    assert_eq!(rt; look_at(&rt, scattered), Seen::Refused(ScanWhy::Scattered));
-
-    let mut full = erased(alloc)?;
-    for sector in 0..8usize {
-        put_bytes(&rt, &mut full, sector * 1024, &[0]);
-    }
-    assert_eq!(rt; look_at(&rt, full), Seen::Refused(ScanWhy::NoErased));
-
-    let mut order = erased(alloc)?;
-    put(&rt, &mut order, 0, &file(alloc, 2, 2));
-    put(&rt, &mut order, 64, &file(alloc, 1, 2));
-    assert_eq!(rt; look_at(&rt, order), Seen::Refused(ScanWhy::BadOrder));
+    let scattered = with_files(&rt, &[(0, 1, 2), (2048, 2, 2)])?;
+    sees(&rt, scattered, Seen::Refused(ScanWhy::Scattered));
+    sees(&rt, full_image(&rt)?, Seen::Refused(ScanWhy::NoErased));
+    let order = with_files(&rt, &[(0, 2, 2), (64, 1, 2)])?;
+    sees(&rt, order, Seen::Refused(ScanWhy::BadOrder));
     Ok(())
+}
+
+/// A file in a directory that is not there.
+fn orphan(alloc: Global) -> Node {
+    let mut node = file(alloc, 1, 2);
+    node.parent = 9;
+    node
+}
+
+/// A file's first node, with one byte at offset 4.
+fn late_byte(alloc: Global, size: Option<u32>) -> Result<Node, TestFail> {
+    let bytes = copied(alloc, b"a")?;
+    let mut node = file(alloc, 1, 2);
+    node.offset = 4;
+    node.size = size;
+    node.bytes = bytes;
+    Ok(node)
 }
 
 #[test]
 fn nodes_that_make_no_tree_are_refused(rt: HostRuntime) -> Result<(), TestFail> {
-    let alloc = rt.alloc();
-    let mut orphan = erased(alloc)?;
-    let mut node = file(alloc, 1, 2);
-    node.parent = 9;
-    put(&rt, &mut orphan, 0, &node);
-    assert_eq!(rt; look_at(&rt, orphan), Seen::Refused(ScanWhy::BadTree));
-
-    let mut hole = erased(alloc)?;
-    let mut node = file(alloc, 1, 2);
-    node.offset = 4;
-    node.bytes = copied(alloc, b"a")?;
-    put(&rt, &mut hole, 0, &node);
-    assert_eq!(rt; look_at(&rt, hole), Seen::Refused(ScanWhy::BadTree));
+    let alone = with_node(&rt, orphan(rt.alloc()))?;
+    sees(&rt, alone, Seen::Refused(ScanWhy::BadTree));
+    let hole = with_node(&rt, late_byte(rt.alloc(), None)?)?;
+    sees(&rt, hole, Seen::Refused(ScanWhy::BadTree));
     Ok(())
 }
 
 #[test]
 fn a_bad_record_is_refused_and_half_a_record_is_skipped(rt: HostRuntime) -> Result<(), TestFail> {
-    let alloc = rt.alloc();
-    let mut flags = erased(alloc)?;
-    put(&rt, &mut flags, 0, &file(alloc, 1, 2));
-    put_bytes(&rt, &mut flags, 5, &[4]);
-    assert_eq!(rt; look_at(&rt, flags), bad(0, Why::Flags));
-
-    let mut half = erased(alloc)?;
-    put(&rt, &mut half, 0, &file(alloc, 1, 2));
-    put_bytes(&rt, &mut half, 7, &[0x0F]);
+    let flags = changed(&rt, with_files(&rt, &[(0, 1, 2)])?, 5, 4);
+    sees(&rt, flags, bad(0, Why::Flags));
+    let half = changed(&rt, with_files(&rt, &[(0, 1, 2)])?, 7, 0x0F);
     let empty = Seen::Mounted {
         clean: false,
         records: 0,
         size: None,
         limits: (192, Some(2), Some(1)),
     };
-    assert_eq!(rt; look_at(&rt, half), empty);
+    sees(&rt, half, empty);
     Ok(())
 }
 
@@ -203,122 +236,143 @@ fn one_byte_changed(rt: HostRuntime) -> Result<(), TestFail> {
         size: Some(5),
         limits: (192, Some(3), Some(4)),
     };
-    assert_eq!(rt; look_at(&rt, old_image(&rt)?), whole);
-    let rows = [
-        (4, 0x09, bad(0, Why::Kind)),
-        (106, 0x01, bad(64, Why::Spare)),
-        (133, 0x00, bad(64, Why::Pad)),
-    ];
-    for (at, byte, expected) in rows {
-        let mut image = old_image(&rt)?;
-        put_bytes(&rt, &mut image, at, &[byte]);
-        assert_eq!(rt; look_at(&rt, image), expected, "byte {at}");
-    }
-    let mut cut = old_image(&rt)?;
-    put_bytes(&rt, &mut cut, 100, &[0xFF; 100]);
-    assert_eq!(rt; look_at(&rt, cut), bad(64, Why::Name));
-    let mut open = old_image(&rt)?;
-    put_bytes(&rt, &mut open, 71, &[0xFF]);
+    sees(&rt, old_image(&rt)?, whole);
     let created = Seen::Mounted {
         clean: false,
         records: 1,
         size: Some(0),
         limits: (192, Some(3), Some(2)),
     };
-    assert_eq!(rt; look_at(&rt, open), created);
+    for (at, byte, wanted) in [
+        (4, 0x09, bad(0, Why::Kind)),
+        (106, 0x01, bad(64, Why::Spare)),
+        (133, 0x00, bad(64, Why::Pad)),
+        (71, 0xFF, created),
+    ] {
+        let image = changed(&rt, old_image(&rt)?, at, byte);
+        assert_eq!(rt; look_at(&rt, image), wanted, "byte {at}");
+    }
+    sees(&rt, cut_image(&rt)?, bad(64, Why::Name));
     Ok(())
+}
+
+/// The old volume with a hundred bytes that are erased.
+fn cut_image(rt: &(impl Abort + AllocGlobal)) -> Result<Vec<u8>, AllocError> {
+    let mut cut = old_image(rt)?;
+    put_bytes(rt, &mut cut, 100, &[0xFF; 100]);
+    Ok(cut)
 }
 
 #[test]
 fn forms_are_not_mixed(rt: HostRuntime) -> Result<(), TestFail> {
-    let alloc = rt.alloc();
-    let mut node = file(alloc, 1, 2);
-    node.offset = 4;
-    node.size = Some(5);
-    node.bytes = copied(alloc, b"a")?;
-    let mut hole = erased(alloc)?;
-    put(&rt, &mut hole, 0, &node);
     let sized = Seen::Mounted {
         clean: false,
         records: 1,
         size: Some(5),
         limits: (192, Some(3), Some(2)),
     };
-    assert_eq!(rt; look_at(&rt, hole), sized);
-
-    let mut short = erased(alloc)?;
-    put(&rt, &mut short, 0, &node);
-    put_bytes(&rt, &mut short, 43, &[4]);
-    assert_eq!(rt; look_at(&rt, short), bad(0, Why::Size));
-
-    let mut mixed = erased(alloc)?;
-    put(&rt, &mut mixed, 0, &node);
-    let mut first = file(alloc, 2, 3);
-    first.name = Name::from_bytes(b"g");
-    put(&rt, &mut mixed, 68, &first);
-    assert_eq!(rt; look_at(&rt, mixed), Seen::Refused(ScanWhy::BadTree));
+    sees(&rt, sized_image(&rt)?, sized);
+    let short = changed(&rt, sized_image(&rt)?, 43, 4);
+    sees(&rt, short, bad(0, Why::Size));
+    sees(&rt, mixed_image(&rt)?, Seen::Refused(ScanWhy::BadTree));
     Ok(())
+}
+
+/// A file of the second form.
+fn sized_image(rt: &(impl Abort + AllocGlobal)) -> Result<Vec<u8>, TestFail> {
+    Ok(with_node(rt, late_byte(rt.alloc(), Some(5))?)?)
+}
+
+/// A file of the second form, and then another one of the first.
+fn mixed_image(rt: &(impl Abort + AllocGlobal)) -> Result<Vec<u8>, TestFail> {
+    let mut mixed = sized_image(rt)?;
+    let mut first = file(rt.alloc(), 2, 3);
+    first.name = Name::from_bytes(b"g");
+    put(rt, &mut mixed, 68, &first);
+    Ok(mixed)
 }
 
 #[test]
 fn a_log_goes_on_behind_the_last_sector(rt: HostRuntime) -> Result<(), TestFail> {
-    let alloc = rt.alloc();
-    let mut image = erased(alloc)?;
-    let mut copy = file(alloc, 3, 2);
-    copy.copy = true;
-    put(&rt, &mut image, 7168, &file(alloc, 1, 2));
-    put(&rt, &mut image, 0, &file(alloc, 2, 2));
-    put(&rt, &mut image, 64, &copy);
     let round = Seen::Mounted {
         clean: false,
         records: 3,
         size: Some(0),
         limits: (192, Some(3), Some(4)),
     };
-    assert_eq!(rt; look_at(&rt, image), round);
+    let mut image = with_files(&rt, &[(7168, 1, 2), (0, 2, 2)])?;
+    let mut copy = file(rt.alloc(), 3, 2);
+    copy.copy = true;
+    put(&rt, &mut image, 64, &copy);
+    sees(&rt, image, round);
     Ok(())
+}
+
+/// The old volume, with a byte after its end that is not erased.
+fn torn(rt: &(impl Abort + AllocGlobal)) -> Result<MemoryFlash, AllocError> {
+    let image = changed(rt, old_image(rt)?, 300, 0);
+    assert!(rt; image.len() == LEN);
+    Ok(MemoryFlash::from_bytes(SECTORS, SECTOR_SIZE, image))
 }
 
 #[test]
 fn a_torn_tail_is_not_clean_and_has_no_room(rt: HostRuntime) -> Result<(), TestFail> {
-    let mut image = old_image(&rt)?;
-    put_bytes(&rt, &mut image, 300, &[0]);
-    assert!(rt; image.len() == LEN);
-    let flash = MemoryFlash::from_bytes(SECTORS, SECTOR_SIZE, image);
+    let node = written(rt.alloc(), 4, 5)?;
     let Mounted {
         mut log,
         tree,
         clean,
         ..
-    } = mount(&rt, flash);
+    } = mount(&rt, torn(&rt)?);
     assert!(rt; !clean);
-    assert_eq!(rt; (log.held(), newest(&log)), (1, Some((0, 136, 64))));
-    append(&rt, &mut log, &tree, &written(rt.alloc(), 4, 5)?)?;
-    assert_eq!(rt; (log.held(), newest(&log)), (2, Some((1, 0, 72))));
+    ends_with(&rt, &log, 1, (0, 136, 64));
+    append(&rt, &mut log, &tree, &node)?;
+    ends_with(&rt, &log, 2, (1, 0, 72));
     Ok(())
 }
 
-/// Sector, offset and length of the newest record.
-fn newest(log: &Log<MemoryFlash>) -> Option<(u32, u32, u32)> {
-    let last = log.records().back()?;
-    Some((last.sector, last.offset, last.length))
+/// How many sectors the log holds, and sector, offset and length of its newest record.
+fn ends_with(rt: &impl Abort, log: &Log<MemoryFlash>, held: u32, newest: (u32, u32, u32)) {
+    assert_eq!(rt; log.held(), held);
+    let last = log
+        .records()
+        .back()
+        .map(|last| (last.sector, last.offset, last.length));
+    assert_eq!(rt; last, Some(newest));
+}
+
+/// Of an old volume on a device that fails after so many calls: why the scan fails. The image comes
+/// back as it was.
+fn failed_scan(
+    rt: &(impl Abort + AllocGlobal),
+    calls: u32,
+    fail: Fail,
+) -> Result<ScanWhy, AllocError> {
+    let image = old_image(rt)?;
+    assert!(rt; image.len() == LEN);
+    let inner = MemoryFlash::from_bytes(SECTORS, SECTOR_SIZE, image);
+    let fused = FuseFlash::new(inner, u64::from(calls), Fused::All, fail);
+    match scan(rt.alloc(), fused) {
+        Ok(_) => panic!(rt; "mounted after {calls} reads"),
+        Err(ScanFault { why, flash }) => {
+            is_old(rt, &flash.into_inner())?;
+            Ok(why)
+        }
+    }
+}
+
+/// The device holds the old volume.
+fn is_old(rt: &(impl Abort + AllocGlobal), flash: &MemoryFlash) -> Result<(), AllocError> {
+    let image = old_image(rt)?;
+    assert_eq!(rt; flash.bytes(), image.as_slice());
+    Ok(())
 }
 
 #[test]
 fn a_failed_read_hands_the_device_back(rt: HostRuntime) -> Result<(), TestFail> {
     for calls in 0..SECTORS {
         for fail in [Fail::Nothing, Fail::Half] {
-            let image = old_image(&rt)?;
-            assert!(rt; image.len() == LEN);
-            let inner = MemoryFlash::from_bytes(SECTORS, SECTOR_SIZE, image);
-            let fused = FuseFlash::new(inner, u64::from(calls), Fused::All, fail);
-            match scan(rt.alloc(), fused) {
-                Ok(_) => panic!(rt; "mounted after {calls} reads"),
-                Err(ScanFault { why, flash }) => {
-                    assert_eq!(rt; why, ScanWhy::Device);
-                    assert_eq!(rt; flash.into_inner().bytes(), old_image(&rt)?.as_slice());
-                }
-            }
+            assert_eq!(rt; failed_scan(&rt, calls, fail)?, ScanWhy::Device);
         }
     }
     Ok(())

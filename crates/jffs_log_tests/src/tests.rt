@@ -105,8 +105,15 @@ fn comes_back(rt: &(impl Abort + AllocGlobal), log: Log<MemoryFlash>, image: &[u
     let flash = log.into_flash();
     assert_eq!(rt; flash.bytes().get(..1024).unwrap_or(&[]), image);
     let again = mount(rt, flash);
-    assert_eq!(rt; versions(&again.log), 12);
-    assert_eq!(rt; again.log.live_weight(&again.tree), 72);
+    let told = (versions(&again.log), again.log.live_weight(&again.tree));
+    assert_eq!(rt; told, (12, 72));
+}
+
+/// The log and the tree after both versions.
+fn holds_two(rt: &impl Abort, log: &Log<MemoryFlash>, tree: &Tree) {
+    assert_eq!(rt; (log.erased(), log.erases()), (5, 0));
+    assert_eq!(rt; (versions(log), log.live_weight(tree)), (12, 72));
+    assert!(rt; !is_oldest_dead(rt, log, tree));
 }
 
 #[test]
@@ -119,11 +126,7 @@ fn each_call_on_its_happy_path(rt: HostRuntime) -> Result<(), TestFail> {
     assert_eq!(rt; log.erased(), 6);
     assert!(rt; !is_oldest_dead(&rt, &log, &tree));
     append_two(&rt, &mut log, &mut tree)?;
-    assert_eq!(rt; versions(&log), 12);
-    assert_eq!(rt; log.erased(), 5);
-    assert_eq!(rt; log.erases(), 0);
-    assert_eq!(rt; log.live_weight(&tree), 72);
-    assert!(rt; !is_oldest_dead(&rt, &log, &tree));
+    holds_two(&rt, &log, &tree);
     let image = oldest_image(&rt, &mut log)?;
     comes_back(&rt, log, image.as_slice());
     Ok(())
@@ -131,8 +134,8 @@ fn each_call_on_its_happy_path(rt: HostRuntime) -> Result<(), TestFail> {
 
 /// A volume with version 1 of the file.
 fn with_first(rt: &(impl Abort + AllocGlobal)) -> Result<MemoryFlash, Cause> {
-    let Mounted { mut log, tree, .. } = mount(rt, blank(rt));
     let first = written(rt.alloc(), 1, 5)?;
+    let Mounted { mut log, tree, .. } = mount(rt, blank(rt));
     append(rt, &mut log, &tree, &first)?;
     Ok(log.into_flash())
 }
@@ -146,9 +149,9 @@ fn cut_append(
     calls: u64,
     fail: Fail,
 ) -> Result<(bool, MemoryFlash), AllocError> {
+    let node = written(rt.alloc(), version, 5)?;
     let fuse = FuseFlash::new(flash, calls, Fused::Writes, fail);
     let Mounted { mut log, tree, .. } = mount(rt, fuse);
-    let node = written(rt.alloc(), version, 5)?;
     let cut = append(rt, &mut log, &tree, &node).is_err();
     Ok((cut, log.into_flash().into_inner()))
 }
@@ -158,13 +161,21 @@ fn found(rt: &(impl Abort + AllocGlobal), flash: MemoryFlash) -> u32 {
     versions(&mount(rt, flash).log)
 }
 
+/// Whether the append of version 2 was refused, and the versions that a scan finds then.
+fn cut_and_found(
+    rt: &(impl Abort + AllocGlobal),
+    calls: u64,
+    fail: Fail,
+) -> Result<(bool, u32), TestFail> {
+    let (cut, flash) = cut_append(rt, with_first(rt)?, 2, calls, fail)?;
+    Ok((cut, found(rt, flash)))
+}
+
 #[test]
 fn a_cut_append_leaves_the_record_or_nothing(rt: HostRuntime) -> Result<(), TestFail> {
     for fail in [Fail::Nothing, Fail::Half] {
-        for calls in 0..3 {
-            let (cut, flash) = cut_append(&rt, with_first(&rt)?, 2, calls, fail)?;
-            assert_eq!(rt; cut, calls < 2);
-            assert_eq!(rt; found(&rt, flash), if calls < 2 { 1 } else { 12 });
+        for (calls, wanted) in [(0, (true, 1)), (1, (true, 1)), (2, (false, 12))] {
+            assert_eq!(rt; cut_and_found(&rt, calls, fail)?, wanted);
         }
     }
     Ok(())
@@ -174,14 +185,22 @@ fn a_cut_append_leaves_the_record_or_nothing(rt: HostRuntime) -> Result<(), Test
 fn half_record_does_not_count(rt: HostRuntime) -> Result<(), TestFail> {
     let (cut, flash) = cut_append(&rt, blank(&rt), 1, 0, Fail::Half)?;
     assert!(rt; cut);
-    let Mounted { mut log, tree, .. } = mount(&rt, flash);
-    assert_eq!(rt; log.records().len(), 0);
-    assert_eq!(rt; log.erased(), 5);
-    let node = written(rt.alloc(), 1, 5)?;
-    append(&rt, &mut log, &tree, &node)?;
-    assert_eq!(rt; log.erased(), 4);
-    assert_eq!(rt; found(&rt, log.into_flash()), 1);
+    let flash = append_behind_half(&rt, flash)?;
+    assert_eq!(rt; found(&rt, flash), 1);
     Ok(())
+}
+
+/// Appends version 1 to a log of no record, of which one sector is not erased.
+fn append_behind_half(
+    rt: &(impl Abort + AllocGlobal),
+    flash: MemoryFlash,
+) -> Result<MemoryFlash, Cause> {
+    let node = written(rt.alloc(), 1, 5)?;
+    let Mounted { mut log, tree, .. } = mount(rt, flash);
+    assert_eq!(rt; (log.records().len(), log.erased()), (0, 5));
+    append(rt, &mut log, &tree, &node)?;
+    assert_eq!(rt; log.erased(), 4);
+    Ok(log.into_flash())
 }
 
 /// Erases the oldest sector once all conditions are tested.

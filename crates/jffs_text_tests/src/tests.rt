@@ -5,8 +5,9 @@ mod calls;
 mod told;
 mod writers;
 
-use jffs_text::{Mistake, Quote, Script, Words, dump};
-use jffs_tree::{Limits, Tree};
+use jffs_node::Node;
+use jffs_text::{Command, Mistake, Quote, Script, Words, dump};
+use jffs_tree::{Limits, Tree, Wish};
 use std::alloc::Global;
 use std::process::Abort;
 use std::test::Fail;
@@ -19,19 +20,40 @@ fn grown(rt: &impl Abort, alloc: Global, script: &str) -> Result<Tree, Fail> {
     let mut next_inode = 2u32;
     let mut version = 1u32;
     for command in &writer.commands {
-        let limits = Limits {
-            data_max: 192,
-            next_inode: Some(next_inode),
-            next_version: Some(version),
-        };
-        let wish = command.wish(alloc)?;
-        let node = tree.decide(limits, &wish)?.with(version, 1, version);
-        assert!(rt; tree.can_apply(&node));
-        tree.apply(&node)?;
-        next_inode = next_inode.max(node.inode.saturating_add(1));
+        let wish = wished(alloc, command)?;
+        let inode = grow(rt, &mut tree, &wish, next_inode, version)?;
+        next_inode = next_inode.max(inode.saturating_add(1));
         version = version.saturating_add(1);
     }
     Ok(tree)
+}
+
+/// What a command wishes for; apart, so that no proof of what is done carries how it was said.
+fn wished(alloc: Global, command: &Command<'_>) -> Result<Wish, Fail> {
+    Ok(command.wish(alloc)?)
+}
+
+/// Does what is wished for, and returns the inode that it is about.
+fn grow(
+    rt: &impl Abort,
+    tree: &mut Tree,
+    wish: &Wish,
+    next_inode: u32,
+    version: u32,
+) -> Result<u32, Fail> {
+    let node = decided(tree, wish, next_inode, version)?;
+    assert!(rt; tree.can_apply(&node));
+    tree.apply(&node)?;
+    Ok(node.inode)
+}
+
+fn decided(tree: &Tree, wish: &Wish, next_inode: u32, version: u32) -> Result<Node, Fail> {
+    let limits = Limits {
+        data_max: 192,
+        next_inode: Some(next_inode),
+        next_version: Some(version),
+    };
+    Ok(tree.decide(limits, wish)?.with(version, 1, version))
 }
 
 fn dumped(alloc: Global, tree: &Tree) -> Result<Vec<u8>, Fail> {
@@ -66,19 +88,33 @@ fn a_copied_tree_is_dumped_to_the_same_text(rt: HostRuntime) -> Result<(), Fail>
     Ok(())
 }
 
+/// So many words are left, and this is the next one.
+fn takes(rt: &impl Abort, words: &mut Words<'_>, count: usize, word: &str) {
+    assert_eq!(rt; words.count(), count);
+    assert_eq!(rt; words.take(), word);
+}
+
 #[test]
 fn words_are_taken_from_left_to_right(rt: HostRuntime) -> Result<(), Fail> {
     let mut words = Words::of("fill  7 ");
-    assert_eq!(rt; words.count(), 4);
-    assert_eq!(rt; words.take(), "fill");
-    assert_eq!(rt; words.take(), "");
+    takes(&rt, &mut words, 4, "fill");
+    takes(&rt, &mut words, 3, "");
     assert_eq!(rt; words.take_number(0, 9), Ok(7));
-    assert_eq!(rt; words.count(), 1);
-    assert_eq!(rt; words.take(), "");
-    assert_eq!(rt; words.count(), 0);
-    assert_eq!(rt; words.take(), "");
+    takes(&rt, &mut words, 1, "");
+    takes(&rt, &mut words, 0, "");
     assert_eq!(rt; Words::of("").count(), 1);
     Ok(())
+}
+
+/// The next word is no bytes.
+fn refuses_bytes(rt: &impl Abort, alloc: Global, words: &mut Words<'_>, mistake: Mistake) {
+    assert_eq!(rt; words.take_bytes(alloc).err(), Some(mistake));
+}
+
+/// This is the next word, and it is no byte.
+fn refuses_byte(rt: &impl Abort, words: &mut Words<'_>, word: &str) {
+    let mistake = Mistake::OneByte(Quote::of(word));
+    assert_eq!(rt; words.take_byte(), Err(mistake));
 }
 
 #[test]
@@ -90,15 +126,9 @@ fn bytes_are_lower_case_hex(rt: HostRuntime) -> Result<(), Fail> {
         [0u8, 255, 26].as_slice()
     );
     assert_eq!(rt; words.take_bytes(alloc)?.len(), 0);
-    assert_eq!(rt;
-        words.take_bytes(alloc).err(),
-        Some(Mistake::OddHex(Quote::of("0")))
-    );
-    assert_eq!(rt;
-        words.take_bytes(alloc).err(),
-        Some(Mistake::Hex(Quote::of("0g")))
-    );
-    assert_eq!(rt; words.take_byte(), Err(Mistake::OneByte(Quote::of("1A"))));
-    assert_eq!(rt; words.take_byte(), Err(Mistake::OneByte(Quote::of(""))));
+    refuses_bytes(&rt, alloc, &mut words, Mistake::OddHex(Quote::of("0")));
+    refuses_bytes(&rt, alloc, &mut words, Mistake::Hex(Quote::of("0g")));
+    refuses_byte(&rt, &mut words, "1A");
+    refuses_byte(&rt, &mut words, "");
     Ok(())
 }

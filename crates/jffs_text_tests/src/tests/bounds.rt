@@ -14,11 +14,9 @@ fn bounds(
 ) -> Result<(), Fail> {
     let line = begin.split('\n').count();
     for (accepted, refused, why) in rows {
-        let script = format!(in alloc; "{begin}{accepted}\n")?;
-        let fault = Script::parse(alloc, script.as_bytes()).err();
+        let fault = fault_of(alloc, begin, accepted)?;
         assert_eq!(rt; fault, None, "of {accepted}");
-        let script = format!(in alloc; "{begin}{refused}\n")?;
-        let fault = Script::parse(alloc, script.as_bytes()).err();
+        let fault = fault_of(alloc, begin, refused)?;
         assert_eq!(rt;
             fault,
             Some(ScriptFault { line, why: *why }),
@@ -26,6 +24,12 @@ fn bounds(
         );
     }
     Ok(())
+}
+
+/// Why a script with this line at its end is refused.
+fn fault_of(alloc: Global, begin: &str, last: &str) -> Result<Option<ScriptFault>, Fail> {
+    let script = format!(in alloc; "{begin}{last}\n")?;
+    Ok(Script::parse(alloc, script.as_bytes()).err())
 }
 
 #[test]
@@ -123,6 +127,15 @@ fn commands_of(script: &Script<'_>, writer: usize) -> Option<usize> {
 #[test]
 fn as_many_are_accepted_as_a_script_may_have(rt: HostRuntime) -> Result<(), Fail> {
     let alloc = rt.alloc();
+    accepts_readers(&rt, alloc)?;
+    accepts_writers(&rt, alloc)?;
+    accepts_commands(&rt, alloc)?;
+    let text = repeated(alloc, "#", "a", 16_383, "\nvolume 8 1024")?;
+    assert!(rt; Script::parse(alloc, text.as_bytes()).is_ok());
+    Ok(())
+}
+
+fn accepts_readers(rt: &impl Abort, alloc: Global) -> Result<(), Fail> {
     let text = repeated(alloc, "volume 8 1024\n", "reader 2 3 /f\n", 16, "writer\n")?;
     let script = Script::parse(alloc, text.as_bytes())?;
     assert_eq!(rt; (script.readers.len(), script.writers.len()), (16, 1));
@@ -132,10 +145,18 @@ fn as_many_are_accepted_as_a_script_may_have(rt: HostRuntime) -> Result<(), Fail
             .iter()
             .all(|reader| (reader.writer, reader.seq) == (2, 3))
     );
+    Ok(())
+}
+
+fn accepts_writers(rt: &impl Abort, alloc: Global) -> Result<(), Fail> {
     let text = repeated(alloc, "volume 8 1024\n", "writer\n", 8, "mkdir /\n")?;
     let script = Script::parse(alloc, text.as_bytes())?;
     assert_eq!(rt; script.writers.len(), 8);
     assert_eq!(rt; commands_of(&script, 7), Some(1));
+    Ok(())
+}
+
+fn accepts_commands(rt: &impl Abort, alloc: Global) -> Result<(), Fail> {
     let text = repeated(
         alloc,
         "volume 8 1024\nwriter\n",
@@ -145,8 +166,6 @@ fn as_many_are_accepted_as_a_script_may_have(rt: HostRuntime) -> Result<(), Fail
     )?;
     let script = Script::parse(alloc, text.as_bytes())?;
     assert_eq!(rt; commands_of(&script, 0), Some(4096));
-    let text = repeated(alloc, "#", "a", 16_383, "\nvolume 8 1024")?;
-    assert!(rt; Script::parse(alloc, text.as_bytes()).is_ok());
     Ok(())
 }
 
@@ -163,22 +182,33 @@ fn a_reader_too_many_after_a_writer_is_late(rt: HostRuntime) -> Result<(), Fail>
     Ok(())
 }
 
+/// What a script says of its volume's sizes, its line and its cleaner.
+type Part = (u32, u32, LineChoice, Option<u32>);
+
+fn part_of(alloc: Global, text: &[u8]) -> Result<Part, Fail> {
+    let script = Script::parse(alloc, text)?;
+    Ok((
+        script.sectors,
+        script.sector_size,
+        script.line,
+        script.cleaner,
+    ))
+}
+
 #[test]
 fn a_script_says_who_takes_part(rt: HostRuntime) -> Result<(), Fail> {
     let alloc = rt.alloc();
-    let script = Script::parse(alloc, b"volume 8 1024")?;
     let usual = LineChoice {
         form: LineForm::Shared,
         capacity: 16,
     };
-    assert_eq!(rt; (script.sectors, script.sector_size), (8, 1024));
-    assert_eq!(rt; (script.line, script.cleaner), (usual, None));
-    let script = Script::parse(alloc, b"volume 6 4096\nline rings 3\ncleaner 7")?;
+    let part = part_of(alloc, b"volume 8 1024")?;
+    assert_eq!(rt; part, (8, 1024, usual, None));
     let rings = LineChoice {
         form: LineForm::Rings,
         capacity: 3,
     };
-    assert_eq!(rt; (script.sectors, script.sector_size), (6, 4096));
-    assert_eq!(rt; (script.line, script.cleaner), (rings, Some(7)));
+    let part = part_of(alloc, b"volume 6 4096\nline rings 3\ncleaner 7")?;
+    assert_eq!(rt; part, (6, 4096, rings, Some(7)));
     Ok(())
 }

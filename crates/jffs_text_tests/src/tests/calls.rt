@@ -4,31 +4,50 @@ use jffs_text::{Usage, Work};
 use std::alloc::Global;
 use std::test::Fail;
 
-/// What a program with the option `--on` and two plain words does of a call: the status of one that
-/// is over with what it wrote, or the words of one for its work.
+/// A program with the option `--on` and two plain words.
+const USAGE: Usage = Usage {
+    program: "tool",
+    help: "tool [WORD] [WORD]",
+    option: Some("--on"),
+    options: "--on WORD, --help and --version",
+    most: 2,
+};
+
+/// What the program does of a call: the status of one that is over with what it wrote, or the words
+/// of one for its work.
 fn called(alloc: Global, words: &[&str]) -> Result<String, Fail> {
-    let usage = Usage {
-        program: "tool",
-        help: "tool [WORD] [WORD]",
-        option: Some("--on"),
-        options: "--on WORD, --help and --version",
-        most: 2,
-    };
-    let mut call = vec![in alloc; String::from_str(alloc, "tool")?]?;
-    for word in words {
-        call.push(String::from_str(alloc, word)?)?;
-    }
+    let call = call_of(alloc, words)?;
     let mut out = Vec::new(alloc);
     let mut errors = Vec::new(alloc);
-    Ok(match usage.work(alloc, &call, &mut out, &mut errors) {
+    match USAGE.work(alloc, &call, &mut out, &mut errors) {
         Ok(Work { value, words }) => {
-            format!(in alloc; "{} words, on {}", words.len(), value.unwrap_or("none"))?
+            let value = value.unwrap_or("none");
+            Ok(format!(in alloc; "{} words, on {value}", words.len())?)
         }
-        Err(status) => {
-            let told = if status == 0 { &out } else { &errors };
-            format!(in alloc; "{status} {}", str::from_utf8(told)?)?
-        }
-    })
+        Err(0) => status_told(alloc, 0, &out),
+        Err(status) => status_told(alloc, status, &errors),
+    }
+}
+
+/// The program's name, and then these words.
+pub(super) fn call_of(alloc: Global, words: &[&str]) -> Result<Vec<String>, Fail> {
+    let mut call = Vec::new(alloc);
+    add_word(alloc, &mut call, "tool")?;
+    for word in words {
+        add_word(alloc, &mut call, word)?;
+    }
+    Ok(call)
+}
+
+fn add_word(alloc: Global, call: &mut Vec<String>, word: &str) -> Result<(), Fail> {
+    let word = String::from_str(alloc, word)?;
+    call.push(word)?;
+    Ok(())
+}
+
+fn status_told(alloc: Global, status: u8, written: &[u8]) -> Result<String, Fail> {
+    let written = str::from_utf8(written)?;
+    Ok(format!(in alloc; "{status} {written}")?)
 }
 
 #[test]

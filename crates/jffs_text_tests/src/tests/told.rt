@@ -1,6 +1,6 @@
 //! What people are told of a script that is refused.
 
-use jffs_text::{Script, ScriptWhy};
+use jffs_text::{Script, ScriptMistake, ScriptWhy};
 use std::alloc::Global;
 use std::process::Abort;
 use std::test::Fail;
@@ -13,15 +13,25 @@ fn tells(
     why: ScriptWhy,
     wanted: &str,
 ) -> Result<(), Fail> {
-    match Script::read(alloc, script) {
-        Ok(_) => assert!(rt; false, "accepted, and not refused as {wanted}"),
-        Err(mistake) => {
-            let told = format!(in alloc; "{mistake}")?;
-            assert_eq!(rt; told.as_str(), wanted);
+    match Script::read(alloc, script).err() {
+        None => assert!(rt; false, "accepted, and not refused as {wanted}"),
+        Some(mistake) => {
+            is_told(rt, alloc, &mistake, wanted)?;
             assert_eq!(rt; mistake.fault.why, why, "of {wanted}");
             assert_eq!(rt; Script::parse(alloc, script).err(), Some(mistake.fault));
         }
     }
+    Ok(())
+}
+
+fn is_told(
+    rt: &impl Abort,
+    alloc: Global,
+    mistake: &ScriptMistake,
+    wanted: &str,
+) -> Result<(), Fail> {
+    let told = format!(in alloc; "{mistake}")?;
+    assert_eq!(rt; told.as_str(), wanted);
     Ok(())
 }
 

@@ -1,9 +1,11 @@
 //! Writers that fail and memory that is refused, and what is told of them.
 
+use super::calls::call_of;
 use super::{dumped, grown};
 use jffs_node::NoMemory;
 use jffs_text::{DumpFault, Mistake, ScriptWhy, Usage, dump};
-use std::alloc::{AllocError, AllocFailed};
+use jffs_tree::Tree;
+use std::alloc::{AllocError, AllocFailed, Global};
 use std::io;
 use std::io::{ErrorKind, Write};
 use std::test::Fail;
@@ -30,6 +32,18 @@ impl Write for Ending {
     }
 }
 
+/// What is told of a dump that has so much room, and the room that is left.
+fn dumped_into(
+    alloc: Global,
+    tree: &Tree,
+    room: usize,
+    kind: ErrorKind,
+) -> (Result<(), DumpFault>, usize) {
+    let mut out = Ending { room, kind };
+    let told = dump(alloc, tree, &mut out);
+    (told, out.room)
+}
+
 #[test]
 fn a_dump_tells_how_its_writer_failed(rt: HostRuntime) -> Result<(), Fail> {
     let alloc = rt.alloc();
@@ -42,29 +56,27 @@ fn a_dump_tells_how_its_writer_failed(rt: HostRuntime) -> Result<(), Fail> {
         (ErrorKind::OutOfMemory, DumpFault::Memory),
     ] {
         for room in 0..whole {
-            let mut out = Ending { room, kind };
-            let told = dump(alloc, &tree, &mut out);
-            assert_eq!(rt; (told, out.room), (Err(fault), 0), "with room for {room}");
+            let told = dumped_into(alloc, &tree, room, kind);
+            assert_eq!(rt; told, (Err(fault), 0), "with room for {room}");
         }
-        let mut out = Ending { room: whole, kind };
-        assert_eq!(rt; dump(alloc, &tree, &mut out), Ok(()));
-        assert_eq!(rt; out.room, 0);
+        assert_eq!(rt; dumped_into(alloc, &tree, whole, kind), (Ok(()), 0));
     }
     Ok(())
 }
 
+/// A program with one plain word.
+const USAGE: Usage = Usage {
+    program: "tool",
+    help: "tool [WORD]",
+    option: None,
+    options: "--help and --version",
+    most: 1,
+};
+
 #[test]
 fn help_that_is_not_written_is_told_of(rt: HostRuntime) -> Result<(), Fail> {
     let alloc = rt.alloc();
-    let usage = Usage {
-        program: "tool",
-        help: "tool [WORD]",
-        option: None,
-        options: "--help and --version",
-        most: 1,
-    };
-    let mut words = vec![in alloc; String::from_str(alloc, "tool")?]?;
-    words.push(String::from_str(alloc, "--help")?)?;
+    let words = call_of(alloc, &["--help"])?;
     for (kind, wanted) in [
         (
             ErrorKind::BrokenPipe,
@@ -74,7 +86,7 @@ fn help_that_is_not_written_is_told_of(rt: HostRuntime) -> Result<(), Fail> {
     ] {
         let mut out = Ending { room: 4, kind };
         let mut errors = Vec::new(alloc);
-        let work = usage.work(alloc, &words, &mut out, &mut errors);
+        let work = USAGE.work(alloc, &words, &mut out, &mut errors);
         assert_eq!(rt; work.err(), Some(1));
         assert_eq!(rt; errors.as_slice(), wanted.as_bytes());
     }

@@ -10,6 +10,9 @@ pub mod Grown
 pub mod Maps
 pub mod InOrder
 pub mod Marking
+pub mod Places
+pub mod Searched
+pub mod Walks
 pub mod Marked
 pub mod Totals
 pub mod Finding

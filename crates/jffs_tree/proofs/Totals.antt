@@ -1,23 +1,23 @@
 -- All marks of a version: a walk over its entries, and a count over the tree.
-use Rattle.std.proofs.Common.{◌≡◌, ◌≢◌, ℕ, ◌+◌, ◌<◌, ◌≤◌, min, Bool, true, false, cond, ◌&&◌, not, eqb, T, [], ◌∷◌, map, flat_map, count_by, Option, Some, None, refl, sym, ap, subst, ◌∙◌, arith, ⊎_elim, nat_cmp}
+use Rattle.std.proofs.Common.{◌≡◌, ◌≢◌, ℕ, zero, suc, drop, slice_get, ◌+◌, ◌<◌, ◌≤◌, min, Bool, true, false, cond, ◌&&◌, not, eqb, T, [], ◌∷◌, map, flat_map, count_by, Option, Some, None, refl, sym, ap, subst, ◌∙◌, arith, ⊎_elim, nat_cmp}
 use Rattle.std.specs.List.{AllByRecursion, filter, sum_by}
 use Rattle.std.specs.List.Sorted.{IsStrictlySortedBy}
 use Rattle.std.specs.Option.{unwrap_or, option_map_or}
-use Rattle.std.specs.Ordering.{is_eq, is_lt, is_gt, is_le, eq_by_cmp}
+use Rattle.std.specs.Ordering.{is_eq, is_lt, is_gt, eq_by_cmp}
 use Rattle.std.specs.declared.cmp.Ordering.{Ordering}
 use Rattle.std.specs.declared.cmp.Ordering.TheVariants.{Less, Equal, Greater}
-use Rattle.std.specs.declared.ops.Bound.TheVariants.{Included, Unbounded}
 use Rattle.std.specs.Cmp.{unsigned_tied}
 use Rattle.std.specs.FinMap.Entries as entries
-use Rattle.std.specs.BTreeMap.Range.{range_contains}
-use Rattle.std.proofs.lemmas.Bool.{cases_Bool, cases_eq, and_parts, and_from, eqb-true, eq-eqb, ne_eqb}
+use Rattle.std.proofs.lemmas.Bool.{cases_Bool, cases_eq, and_parts, eqb-true, eq-eqb, ne_eqb}
 use Rattle.std.proofs.lemmas.List.Sums.{sum_by-append, sum_by-cons}
 use Rattle.jffs_tree.specs.Origin.{Held, Tree, versions_held}
 use Rattle.jffs_tree.specs.After.{held_in}
 use Rattle.jffs_tree.specs.Look.{marks_in}
-use Rattle.jffs_tree.specs.Marks.{MarkKey, Counts, mark_key, mark_cmp, marks_of, held_marks, AreMarksOf}
+use Rattle.jffs_tree.specs.Marks.{MarkKey, Counts, mark_key, mark_cmp, marks_of, held_marks, AreMarksOf, SplitsAt}
 use Rattle.jffs_tree.proofs.Maps.{found_by, sorted_by, t_true, tail_sorted, at_first, behind}
-use Rattle.jffs_tree.proofs.Marking.{mark_tied, mark_low, mark_from}
+use Rattle.jffs_tree.proofs.Marking.{mark_tied, mark_low}
+use Rattle.jffs_tree.proofs.Places.{one_key, own_key}
+use Rattle.jffs_tree.proofs.Walks.{new_at, old_at}
 use Rattle.jffs_tree.proofs.KeyOrder.{then_tied, nat_tied}
 
 -- Keys that the order doesn't tell apart are one.
@@ -27,16 +27,6 @@ same_key a b h =
     let x = nat_tied b.0.0 a.0.0 parts.0 in
     let y = nat_tied a.1 b.1 parts.1 in
     λ j. (record { 0 = sym x j }, y j)
-
-one_key : (a b : MarkKey) → eq_by_cmp mark_cmp a b ≡ true → a ≡ b
-one_key a b h =
-    let parts = and_parts (eqb b.0.0 a.0.0) (eqb b.1 a.1) (sym (mark_tied a b) ∙ h) in
-    let x = eqb-true b.0.0 a.0.0 parts.0 in
-    let y = eqb-true b.1 a.1 parts.1 in
-    λ j. (record { 0 = sym x j }, sym y j)
-
-own_key : (a : MarkKey) → eq_by_cmp mark_cmp a a ≡ true
-own_key a = mark_tied a a ∙ and_from (eqb a.0.0 a.0.0) (eqb a.1 a.1) (eq-eqb a.0.0 a.0.0 refl) (eq-eqb a.1 a.1 refl)
 
 not_above : (o : Ordering) → is_lt o ≡ true → is_gt o ≡ false
 not_above Less h = refl
@@ -92,45 +82,34 @@ module _ (v : ℕ) where
       ap (λ (xs : Counts). marks_of xs v) is ∙ other_first e es (ne_eqb e.0.0.0 v other)
       ∙ later e.0 es (⊎_elim (λ same. absurd (other (sym same))) (λ apart. omega (arith, low, apart)) (cases_eq v e.0.0.0)) (rest_above e es f.sorted)
 
-  -- what the range of the version has
-  abbrev pub in_range : MarkKey → Bool
-  in_range k = range_contains mark_cmp (Included (mark_key v 0)) Unbounded k
+  -- The entries from an index on, where those before it are of newer versions.
+  drop_sorted : (i : ℕ) (es : Counts) → Sorted es → Sorted (drop i es)
+  drop_sorted zero es h = h
+  drop_sorted (suc i) [] h = h
+  drop_sorted (suc i) (e ∷ es) h = drop_sorted i es (rest_sorted e es h)
 
-  low : (k : MarkKey) → in_range k ≡ true → k.0.0 ≤ v
-  low k h = mark_low (mark_key v 0) k (by_order (mark_cmp (mark_key v 0) k) h)
-    where
-      by_order : (o : Ordering) → (is_le o && true) ≡ true → is_gt o ≡ false
-      by_order Less e = refl
-      by_order Equal e = refl
-      by_order Greater e = cc
+  drop_low : (i : ℕ) (es : Counts) → ((j : ℕ) (e : MarkKey × ℕ) → slice_get es j ≡ Some e → i ≤ j → e.0.0.0 ≤ v) → AllByRecursion (λ e. e.0.0.0 ≤ v) (drop i es)
+  drop_low zero [] h = tt
+  drop_low zero (e ∷ es) h = (h 0 e refl (omega arith), drop_low zero es (λ j x is l. h (suc j) x is (omega arith)))
+  drop_low (suc i) [] h = tt
+  drop_low (suc i) (e ∷ es) h = drop_low i es (λ j x is l. h (suc j) x is (omega arith))
 
-  in_other : (k : MarkKey) → in_range k ≡ false → eqb k.0.0 v ≡ false
-  in_other k h = ne_eqb k.0.0 v (λ same. by_order (mark_cmp (mark_key v 0) k) h (mark_from v k (omega (arith, same))))
-    where
-      by_order : (o : Ordering) → (is_le o && true) ≡ false → is_gt o ≡ false → ⊥
-      by_order Less e g = cc
-      by_order Equal e g = cc
-      by_order Greater e g = cc
+  drop_same : (i : ℕ) (es : Counts) → ((j : ℕ) (e : MarkKey × ℕ) → slice_get es j ≡ Some e → j < i → v < e.0.0.0) → marks_of (drop i es) v ≡ marks_of es v
+  drop_same zero es h = refl
+  drop_same (suc i) [] h = refl
+  drop_same (suc i) (e ∷ es) h =
+      drop_same i es (λ j x is l. h (suc j) x is (omega arith))
+      ∙ sym (other_first e es (ne_eqb e.0.0.0 v (λ same. let l = h 0 e refl (omega arith) in omega (arith, l, same))))
 
-  all_from : (es : Counts) → AllByRecursion (λ e. e.0.0.0 ≤ v) (filter (λ e. in_range e.0) es)
-  all_from [] = tt
-  all_from (e ∷ es) = ⊎_elim
-      (λ inside. subst (λ b. AllByRecursion (λ x. x.0.0.0 ≤ v) (cond b (e ∷ filter (λ x. in_range x.0) es) (filter (λ x. in_range x.0) es))) (sym inside) (low e.0 inside, all_from es))
-      (λ outside. subst (λ b. AllByRecursion (λ x. x.0.0.0 ≤ v) (cond b (e ∷ filter (λ x. in_range x.0) es) (filter (λ x. in_range x.0) es))) (sym outside) (all_from es))
-      (cases_Bool (in_range e.0))
+  module _ (counts : Counts) (i : ℕ) (split : SplitsAt counts (v + 1) i) where
+    pub split_from : IsStrictlySortedBy mark_cmp (map (λ e. e.0) counts) → AreFrom v (drop i counts)
+    split_from ordered = record {
+      sorted = drop_sorted i counts (sorted_by mark_cmp counts ordered);
+      from = drop_low i counts (λ j e is l. let h = old_at counts (v + 1) i split j e is l in omega (arith, h));
+    }
 
-  pub range_from : (es : Counts) → IsStrictlySortedBy mark_cmp (map (λ e. e.0) es) → AreFrom v (filter (λ e. in_range e.0) es)
-  range_from es rising = record { sorted = entries.is_sorted-where_key mark_cmp in_range es (sorted_by mark_cmp es rising); from = all_from es }
-
-  pub same_marks : (es : Counts) → marks_of (filter (λ e. in_range e.0) es) v ≡ marks_of es v
-  same_marks [] = refl
-  same_marks (e ∷ es) = ⊎_elim
-      (λ inside. ap (λ (b : Bool). marks_of (cond b (e ∷ filter (λ x. in_range x.0) es) (filter (λ x. in_range x.0) es)) v) inside ∙ ⊎_elim
-      (λ own. let rest = same_marks es in let a = own_first e (filter (λ x. in_range x.0) es) own in let b = own_first e es own in omega (arith, rest, a, b))
-      (λ other. other_first e (filter (λ x. in_range x.0) es) other ∙ same_marks es ∙ sym (other_first e es other))
-      (cases_Bool (eqb e.0.0.0 v)))
-      (λ outside. ap (λ (b : Bool). marks_of (cond b (e ∷ filter (λ x. in_range x.0) es) (filter (λ x. in_range x.0) es)) v) outside ∙ same_marks es ∙ sym (other_first e es (in_other e.0 outside)))
-      (cases_Bool (in_range e.0))
+    pub same_marks : marks_of (drop i counts) v ≡ marks_of counts v
+    same_marks = drop_same i counts (λ j e is l. let h = new_at counts (v + 1) i split j e is l in omega (arith, h))
 
 -- Sums of entries in order.
 abbrev summed : Counts → ℕ

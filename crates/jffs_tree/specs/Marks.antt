@@ -1,11 +1,12 @@
 -- How often each version is live, kept besides the inodes.
-use Rattle.std.specs.Prelude.{◌≡◌, ◌≢◌, ◌≤◌, ◌+◌, ℕ, ◌==◌, ◌&&◌, List, Option, Some}
+use Rattle.std.specs.Prelude.{◌≡◌, ◌<◌, ◌≤◌, ◌+◌, ℕ, ◌==◌, ◌&&◌, List, length, slice_get, Option, Some}
 use Rattle.std.specs.Prelude.{count_by, sum_by, flat_map, option_map, unwrap_or, if◌then◌else◌}
 use Rattle.std.specs.List.{filter}
-use Rattle.std.specs.List.Sorted.{IsStrictlySortedBy}
+use Rattle.std.specs.List.Sorted.{IsStrictlySortedBy, IsPartitionPoint}
 use Rattle.std.specs.Option.{option_map_or, option_to_list}
 use Rattle.std.specs.Ordering.{nat_cmp, ordering_then}
 use Rattle.std.specs.declared.cmp.Ordering.{Ordering}
+use Rattle.std.specs.declared.cmp.Ordering.TheVariants.{Less, Greater}
 use Rattle.std.specs.declared.cmp.Reverse.{Reverse}
 use Rattle.std.specs.Map.{lookup, keys_of}
 use Rattle.std.specs.BTreeMap.{is_at}
@@ -37,10 +38,23 @@ mark_of counts v i = unwrap_or (lookup (is_at (mark_cmp (mark_key v i))) counts)
 abbrev pub marks_of : Counts → ℕ → ℕ
 marks_of counts v = sum_by (λ e. e.1) (filter (λ e. e.0.0.0 == v) counts)
 
--- They stand in order, and only what is above zero is kept.
+-- They stand in order. What is kept may be zero.
 pub record AreKept (counts : Counts) : Type 0 where
   pub ordered : IsStrictlySortedBy mark_cmp (keys_of counts)
-  pub some : (v i : ℕ) → lookup (is_at (mark_cmp (mark_key v i))) counts ≢ Some 0
+
+-- The entry at the index is that of the key.
+abbrev pub IsKeyAt : Counts → MarkKey → ℕ → Type 0
+IsKeyAt counts key i = slice_get (keys_of counts) i ≡ Some key
+
+-- The key has no entry, and belongs at the index: it is after those before it alone.
+pub record BelongsAt (counts : Counts) (key : MarkKey) (i : ℕ) : Type 0 where
+  pub within : i ≤ length counts
+  pub between : IsPartitionPoint (λ e. mark_cmp e.0 key ≡ Less) (λ e. mark_cmp e.0 key ≡ Greater) counts i
+
+-- The entries before the index, and no others, are of versions from `first` on.
+pub record SplitsAt (counts : Counts) (first i : ℕ) : Type 0 where
+  pub within : i ≤ length counts
+  pub parts : IsPartitionPoint (λ e. first ≤ e.0.0.0) (λ e. e.0.0.0 < first) counts i
 
 -- the same marks everywhere
 abbrev pub SameMarks : Counts → Counts → Type 0

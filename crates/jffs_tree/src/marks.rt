@@ -1,23 +1,28 @@
 //! How often each version is live, kept under the changes of a tree and never counted anew.
 
 ghost use Rattle.std.specs.Prelude.{◌≡◌, ◌+◌, ◌-◌, ◌<◌, ◌≤◌, ◌^◌, ℕ, [], true, false, min, IfSome};
-ghost use Rattle.std.specs.Prelude.{IfNone, OnOk, OnErr, Some, length, slice_get};
-ghost use Rattle.jffs_tree.specs.Marks.{AreKept, HaveMore, mark_key, mark_of, marks_of};
+ghost use Rattle.std.specs.Prelude.{IfNone, IfOk, IfErr, OnOk, OnErr};
+ghost use Rattle.jffs_tree.specs.Marks.{AreKept, HaveMore, SameMarks, mark_key, mark_of, marks_of};
+ghost use Rattle.jffs_tree.specs.Marks.{IsKeyAt, BelongsAt, SplitsAt};
 
 use std::alloc::{AllocError, Global};
 use std::cmp::Reverse;
-use std::collections::BTreeMap;
+use std::collections::VecDeque;
 use std::marker::Model;
 
-/// A version and an inode. The newest version stands first, since each node brings one and the map
-/// is searched from its first key on.
+/// A version and an inode.
 type MarkKey = (Reverse<u32>, u32);
 
 /// For a version and an inode how many bytes of the inode the version wrote, and one more where
-/// it is the inode's newest. Only what is above zero is kept.
+/// it is the inode's newest.
+///
+/// The entries stand by version, the newest first, and then by inode: each node brings the newest
+/// version, and what is asked for first is the oldest. An entry whose count became zero is *spent*:
+/// it stays where it is, so that nothing is taken out of the middle, until it is the last one or
+/// the deque is full.
 #[derive(Drop)]
 pub(crate) struct Marks {
-    counts: BTreeMap<MarkKey, u32>,
+    counts: VecDeque<(MarkKey, u32)>,
 }
 
 impl Model for Marks {
@@ -25,9 +30,9 @@ impl Model for Marks {
 
     ghost Value = { Counts };
 
-    ghost view = { λ m. m.counts.entries };
+    ghost view = { λ m. m.counts.items };
 
-    ghost invariant = { λ m. AreKept m.counts.entries };
+    ghost invariant = { λ m. AreKept m.counts.items };
 }
 
 impl Marks {
@@ -36,7 +41,7 @@ impl Marks {
         ensures { result ≡ [] }
     {
         Marks {
-            counts: BTreeMap::new(alloc),
+            counts: VecDeque::new(alloc),
         }
     }
 
@@ -44,29 +49,84 @@ impl Marks {
     pub(crate) fn at(&self, version: u32, inode: u32) -> u32
         ensures { result ≡ mark_of self.now version inode }
     {
-        match self.counts.get(&(Reverse(version), inode)) {
-            Some(count) => *count,
-            None => 0,
+        match self.place(version, inode) {
+            Ok(index) => self.counts[index].1,
+            Err(_) => 0,
         }
     }
 
-    /// Adds marks of a version in an inode. Where the allocation failed, nothing is changed.
+    /// The index of the entry of a version in an inode, or the one where it belongs.
+    fn place(&self, version: u32, inode: u32) -> Result<usize, usize>
+        ensures there { IfOk result (IsKeyAt self.now (mark_key version inode)) }
+        ensures absent { IfErr result (BelongsAt self.now (mark_key version inode)) }
+        ensures kept { AreKept self.now }
+    {
+        let Some((front, _)) = self.counts.front() else {
+            return Err(0);
+        };
+        let newest = front.0.0;
+        if newest < version {
+            return Err(0);
+        }
+        // Versions mostly follow one another and have one entry each: then it stands here.
+        let key = (Reverse(version), inode);
+        let guess = ((newest - version) as usize).min(self.counts.len() - 1);
+        if self.counts[guess].0 == key {
+            return Ok(guess);
+        }
+        self.counts.binary_search_by_key(&key, |entry| entry.0)
+    }
+
+    /// How many entries are of versions above this one. So its first one, if any, stands there.
+    fn start(&self, version: u32) -> usize
+        ensures { SplitsAt self.now (version + 1) result }
+    {
+        match self.place(version, 0) {
+            Ok(index) => index,
+            Err(index) => index,
+        }
+    }
+
+    /// Adds marks of a version in an inode. Where the allocation failed, the marks are the same.
     pub(crate) fn raise(&mut self, version: u32, inode: u32, count: u32) -> Result<(), AllocError>
         requires { mark_of self.old version inode + count < 2 ^ 32 }
         ensures ok { OnOk result (HaveMore self.old self.new version inode count) }
-        ensures err { OnErr result (self.new ≡ self.old) }
+        ensures err { OnErr result (SameMarks self.old self.new) }
     {
-        if count == 0 {
+        self.make_room()?;
+        match self.place(version, inode) {
+            Ok(index) => self.counts[index].1 += count,
+            Err(0) => self.counts.push_front(((Reverse(version), inode), count))?,
+            Err(index) => self
+                .counts
+                .insert(index, ((Reverse(version), inode), count))?,
+        }
+        Ok(())
+    }
+
+    /// Makes room for one more entry. A full deque loses its spent entries, and only if more than
+    /// half of it is still taken, it grows to twice that. So a call costs little on the average,
+    /// and the deque has room for about twice the entries that were live at once. Where the
+    /// allocation failed, the marks are the same too.
+    fn make_room(&mut self) -> Result<(), AllocError>
+        ensures { SameMarks self.old self.new }
+    {
+        if self.counts.len() < self.counts.capacity() {
             return Ok(());
         }
-        let Some(before) = self.counts.insert((Reverse(version), inode), count)? else {
-            return Ok(());
-        };
-        let Some(kept) = self.counts.get_mut(&(Reverse(version), inode)) else {
-            unreachable!()
-        };
-        *kept += before;
+        self.drop_spent();
+        let live = self.counts.len();
+        if self.counts.capacity() / 2 < live {
+            self.counts.reserve(live)?;
+        }
         Ok(())
+    }
+
+    /// Drops all spent entries.
+    fn drop_spent(&mut self)
+        ensures { SameMarks self.old self.new }
+    {
+        self.counts.retain(|entry| entry.1 > 0);
     }
 
     /// Takes marks of a version in an inode away. Takes no memory.
@@ -74,41 +134,22 @@ impl Marks {
         requires { count ≤ mark_of self.old version inode }
         ensures { HaveMore self.new self.old version inode count }
     {
-        // Often it is the oldest version, whose key a search reaches last.
-        if let Some(kept) = self.at_last(version, inode) {
-            if kept <= count {
-                self.counts.pop_last();
-                return;
-            }
-            let Some(last) = self.counts.last_entry() else {
-                unreachable!()
-            };
-            *last.into_mut() -= count;
-            return;
+        match self.place(version, inode) {
+            Ok(index) => self.counts[index].1 -= count,
+            Err(_) => return,
         }
-        let Some(kept) = self.counts.get_mut(&(Reverse(version), inode)) else {
-            return;
-        };
-        if count < *kept {
-            *kept -= count;
-            return;
-        }
-        self.counts.remove(&(Reverse(version), inode));
+        self.drop_last_spent();
     }
 
-    /// The marks of a version in an inode where these are the last key.
-    fn at_last(&self, version: u32, inode: u32) -> Option<u32>
-        ensures last { IfSome result (λ c. slice_get self.now (length self.now - 1)
-            ≡ Some (mark_key version inode, c)) }
-        ensures value { IfSome result (λ c. mark_of self.now version inode ≡ c) }
+    /// Drops the spent entries at the back, so that `next` finds the oldest live one at once.
+    fn drop_last_spent(&mut self)
+        ensures { SameMarks self.old self.new }
     {
-        let Some((key, count)) = self.counts.last_key_value() else {
-            return None;
-        };
-        if key.0.0 == version && key.1 == inode {
-            Some(*count)
-        } else {
-            None
+        while let Some((_, count)) = self.counts.back() {
+            if *count > 0 {
+                return;
+            }
+            self.counts.pop_back();
         }
     }
 
@@ -125,15 +166,16 @@ impl Marks {
         if version < oldest {
             return None;
         }
-        let mut rest = self.counts.range((Reverse(version), 0)..);
-        let Some((key, _)) = rest.next() else {
-            return None;
-        };
-        if key.0.0 == version {
-            Some(key.1)
-        } else {
-            None
+        for index in self.start(version)..self.counts.len() {
+            let (key, count) = self.counts[index];
+            if key.0.0 != version {
+                return None;
+            }
+            if count > 0 {
+                return Some(key.1);
+            }
         }
+        None
     }
 
     /// The least version from `first` on that has marks, and an inode where it has them.
@@ -143,18 +185,30 @@ impl Marks {
             (λ p. (w i : ℕ) → first ≤ w → w < p.0 → mark_of self.now w i ≡ 0) }
         ensures none { IfNone result ((v i : ℕ) → first ≤ v → mark_of self.now v i ≡ 0) }
     {
-        // A log asks from its oldest record on, and there the last key answers without a search.
-        let Some((key, _)) = self.counts.last_key_value() else {
-            return None;
-        };
-        if first <= key.0.0 {
-            return Some((key.0.0, key.1));
+        let mut index = self.end(first);
+        while index > 0 {
+            index -= 1;
+            let (key, count) = self.counts[index];
+            if count > 0 {
+                return Some((key.0.0, key.1));
+            }
         }
-        let mut rest = self.counts.range(..(Reverse(first - 1), 0));
-        let Some((key, _)) = rest.next_back() else {
-            return None;
+        None
+    }
+
+    /// How many entries are of versions from `first` on.
+    fn end(&self, first: u32) -> usize
+        ensures { SplitsAt self.now first result }
+    {
+        // A log asks from its oldest record on, and there the last entry answers without a search.
+        let Some((oldest, _)) = self.counts.back() else {
+            return 0;
         };
-        Some((key.0.0, key.1))
+        if oldest.0.0 < first {
+            self.start(first - 1)
+        } else {
+            self.counts.len()
+        }
     }
 
     /// The least version from `first` to `last`, both included, that has marks.
@@ -187,11 +241,12 @@ impl Marks {
         ensures kept { AreKept self.now }
     {
         let mut total = 0u32;
-        for (key, count) in self.counts.range((Reverse(version), 0)..) {
+        for index in self.start(version)..self.counts.len() {
+            let (key, count) = self.counts[index];
             if key.0.0 != version {
-                break;
+                return total;
             }
-            total = total.saturating_add(*count);
+            total = total.saturating_add(count);
         }
         total
     }

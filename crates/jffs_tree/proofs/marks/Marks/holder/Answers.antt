@@ -1,29 +1,60 @@
-use Rattle.std.proofs.Common.{◌≡◌, ◌<◌, subst, sym, ap, arith}
-use Rattle.std.specs.Option.{unwrap_or}
-use Rattle.jffs_tree.specs.Marks.{Counts, mark_key, mark_of}
-use Rattle.jffs_tree.proofs.Marking.{first_least, none_first, mark_from}
+use Rattle.std.proofs.Common.{◌≡◌, ◌<◌, ◌∙◌, ℕ, length, get_or, subst, ap, arith}
+use Rattle.jffs_tree.specs.Marks.{MarkKey, Counts, mark_of}
+use Rattle.jffs_tree.proofs.Places.{InOrder, mark_at}
+use Rattle.jffs_tree.proofs.Walks.{read_at, to_split, none_there, is_least, spent_too, none_to}
 use Rattle.jffs_tree.proofs.marks.Marks.holder.Goals as goal
 
-pub returns-in_default-next-clause-none : goal.returns-in_default-next-clause-none
-returns-in_default-next-clause-none c =
-    let v = c.args.version in
-    λ j. subst (λ (t : Counts). mark_of t v j ≡ 0) c.self.view_is
-    (ap (λ o. unwrap_or o 0) ((c.range-rest.ensures.in_range tt).5 c.in_default-next.ensures.steps.0 (mark_key v j) (mark_from v (mark_key v j) (omega arith), tt)))
+pub loop-index-init : goal.loop-index-init
+loop-index-init c = to_split c.args.self.now c.args.version c.start-index.result c.start-index.ensures
 
-pub returns-then-key-version-clause-least : goal.returns-then-key-version-clause-least
-returns-then-key-version-clause-least c =
-    let v = c.args.version in
-    let k = c.in-Some-next.key.now in
-    let part = c.range-rest.ensures.in_range tt in
-    λ j some.
-    let there : 0 < mark_of c.self.inside.counts.entries v j = subst (λ (t : Counts). 0 < mark_of t v j) (sym c.self.view_is) some in
-    (first_least c.self.inside.counts.entries c.range-rest.result v c.self.invariant part.1 part.2 k c.in-Some-next.field-0-1.now c.next-2.new.self c.in-Some-next.ensures.steps j there).1
-    c.if-key-version.true
+pub returns-then-key-version-clause-none : goal.returns-then-key-version-clause-none
+returns-then-key-version-clause-none c =
+    let all = c.args.self.now in
+    let ordered = subst (λ (t : Counts). InOrder t) c.self.view_is c.self.invariant.ordered in
+    let entry : MarkKey × ℕ = c.index.result.now in
+    let i = c.loop-index.index in
+    let long : c.len-index-end.result ≡ length all = c.len-index-end.ensures ∙ c.self.inside.counts.ok.0 ∙ ap (λ (t : Counts). length t) c.self.view_is in
+    let within : i < length all = omega (arith, c.loop-index-test.true, long) in
+    let at = read_at all i entry within (subst (λ (t : Counts). entry ≡ get_or t i entry) c.self.view_is c.index.ensures) in
+    none_there all ordered c.args.version i entry at c.loop-index.invariant c.if-key-version.true
 
-pub returns-else-key-version-clause-none : goal.returns-else-key-version-clause-none
-returns-else-key-version-clause-none c =
-    let v = c.args.version in
-    let k = c.in-Some-next.key.now in
-    let part = c.range-rest.ensures.in_range tt in
-    λ j. subst (λ (t : Counts). mark_of t v j ≡ 0) c.self.view_is
-    (none_first c.self.inside.counts.entries c.range-rest.result v c.self.invariant part.1 part.2 k c.in-Some-next.field-0-1.now c.next-2.new.self c.in-Some-next.ensures.steps c.if-key-version.false j)
+pub returns-then-count-gt0-clause-there : goal.returns-then-count-gt0-clause-there
+returns-then-count-gt0-clause-there c =
+    let all = c.args.self.now in
+    let ordered = subst (λ (t : Counts). InOrder t) c.self.view_is c.self.invariant.ordered in
+    let entry : MarkKey × ℕ = c.index.result.now in
+    let i = c.loop-index.index in
+    let long : c.len-index-end.result ≡ length all = c.len-index-end.ensures ∙ c.self.inside.counts.ok.0 ∙ ap (λ (t : Counts). length t) c.self.view_is in
+    let within : i < length all = omega (arith, c.loop-index-test.true, long) in
+    let at = read_at all i entry within (subst (λ (t : Counts). entry ≡ get_or t i entry) c.self.view_is c.index.ensures) in
+    let marks = mark_at all ordered i entry.0 entry.1 at in
+    subst (λ v. 0 < mark_of all v entry.0.1) c.if-key-version.false (omega (arith, marks, c.if-count-gt0.true))
+
+pub returns-then-count-gt0-clause-least : goal.returns-then-count-gt0-clause-least
+returns-then-count-gt0-clause-least c =
+    let all = c.args.self.now in
+    let ordered = subst (λ (t : Counts). InOrder t) c.self.view_is c.self.invariant.ordered in
+    let entry : MarkKey × ℕ = c.index.result.now in
+    let i = c.loop-index.index in
+    let long : c.len-index-end.result ≡ length all = c.len-index-end.ensures ∙ c.self.inside.counts.ok.0 ∙ ap (λ (t : Counts). length t) c.self.view_is in
+    let within : i < length all = omega (arith, c.loop-index-test.true, long) in
+    let at = read_at all i entry within (subst (λ (t : Counts). entry ≡ get_or t i entry) c.self.view_is c.index.ensures) in
+    is_least all ordered c.args.version i entry at c.loop-index.invariant c.if-key-version.false
+
+pub loop-index-preserved : goal.loop-index-preserved
+loop-index-preserved c =
+    let all = c.args.self.now in
+    let ordered = subst (λ (t : Counts). InOrder t) c.self.view_is c.self.invariant.ordered in
+    let entry : MarkKey × ℕ = c.index.result.now in
+    let i = c.loop-index.index in
+    let long : c.len-index-end.result ≡ length all = c.len-index-end.ensures ∙ c.self.inside.counts.ok.0 ∙ ap (λ (t : Counts). length t) c.self.view_is in
+    let within : i < length all = omega (arith, c.loop-index-test.true, long) in
+    let at = read_at all i entry within (subst (λ (t : Counts). entry ≡ get_or t i entry) c.self.view_is c.index.ensures) in
+    spent_too all ordered c.args.version i entry at c.loop-index.invariant (omega (arith, c.if-count-gt0.false))
+
+pub returns-clause-none : goal.returns-clause-none
+returns-clause-none c =
+    let all = c.args.self.now in
+    let ordered = subst (λ (t : Counts). InOrder t) c.self.view_is c.self.invariant.ordered in
+    let long : c.len-index-end.result ≡ length all = c.len-index-end.ensures ∙ c.self.inside.counts.ok.0 ∙ ap (λ (t : Counts). length t) c.self.view_is in
+    none_to all ordered c.args.version c.loop-index.index (omega (arith, c.loop-index-test.false, long)) c.loop-index.invariant

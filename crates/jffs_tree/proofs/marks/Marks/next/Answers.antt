@@ -1,27 +1,46 @@
-use Rattle.std.proofs.Common.{◌≡◌, ◌-◌, subst, ap, arith}
-use Rattle.std.specs.Option.{unwrap_or}
-use Rattle.jffs_tree.specs.Marks.{Counts, mark_key, mark_of}
-use Rattle.jffs_tree.proofs.Marking.{mark_newer, none_older}
+use Rattle.std.proofs.Common.{◌≡◌, ◌+◌, ◌-◌, ◌<◌, ℕ, length, get_or, subst, arith}
+use Rattle.jffs_tree.specs.Marks.{MarkKey, Counts}
+use Rattle.jffs_tree.proofs.Places.{InOrder, mark_at}
+use Rattle.jffs_tree.proofs.Walks.{AreSpentFrom, read_at, is_new, none_older, one_spent, none_from}
 use Rattle.jffs_tree.proofs.marks.Marks.next.Goals as goal
 
-pub returns-then-first-key-clause-least : goal.returns-then-first-key-clause-least
-returns-then-first-key-clause-least c =
-    λ w i low before.
-    subst (λ (t : Counts). mark_of t w i ≡ 0) c.self.view_is
-    (none_older c.self.inside.counts.entries c.in-Some.key.now w i (λ has. c.in-Some.ensures.greatest (mark_key w i) has) before)
+pub returns-then-count-gt0-clause-some : goal.returns-then-count-gt0-clause-some
+returns-then-count-gt0-clause-some c =
+    let all = c.args.self.now in
+    let ordered = subst (λ (t : Counts). InOrder t) c.self.view_is c.self.invariant.ordered in
+    let entry : MarkKey × ℕ = c.index.result.now in
+    let last = c.loop-index.index - 1 in
+    let next : last + 1 ≡ c.loop-index.index = omega (arith, c.loop-index-test.true) in
+    let within : last < length all = omega (arith, c.loop-index.invariant.within, next) in
+    let at = read_at all last entry within (subst (λ (t : Counts). entry ≡ get_or t last entry) c.self.view_is c.index.ensures) in
+    let marks = mark_at all ordered last entry.0 entry.1 at in
+    (is_new all ordered c.args.first c.loop-index.index last next entry at c.loop-index.invariant, omega (arith, marks, c.if-count-gt0.true))
 
-pub returns-in_default-next_back-clause-none : goal.returns-in_default-next_back-clause-none
-returns-in_default-next_back-clause-none c =
-    let older = c.if-first-key.false in
-    λ v i low.
-    subst (λ (t : Counts). mark_of t v i ≡ 0) c.self.view_is
-    (ap (λ o. unwrap_or o 0) ((c.range-rest.ensures.in_range tt).5 c.in_default-next_back.ensures.steps.0 (mark_key v i) (tt, mark_newer (mark_key v i) (mark_key (c.args.first - 1) 0) (omega (arith, low, older)))))
+pub returns-then-count-gt0-clause-least : goal.returns-then-count-gt0-clause-least
+returns-then-count-gt0-clause-least c =
+    let all = c.args.self.now in
+    let ordered = subst (λ (t : Counts). InOrder t) c.self.view_is c.self.invariant.ordered in
+    let entry : MarkKey × ℕ = c.index.result.now in
+    let last = c.loop-index.index - 1 in
+    let next : last + 1 ≡ c.loop-index.index = omega (arith, c.loop-index-test.true) in
+    let within : last < length all = omega (arith, c.loop-index.invariant.within, next) in
+    let at = read_at all last entry within (subst (λ (t : Counts). entry ≡ get_or t last entry) c.self.view_is c.index.ensures) in
+    none_older all ordered c.args.first c.loop-index.index last next entry at c.loop-index.invariant
 
-pub returns-clause-least : goal.returns-clause-least
-returns-clause-least c =
-    let older = c.if-first-key.false in
-    let k = c.in-Some-next_back.key.now in
-    let last = (c.range-rest.ensures.in_range tt).4 (k, c.in-Some-next_back.field-0-1.now) c.next_back.new.self c.in-Some-next_back.ensures.steps in
-    λ w i low before.
-    subst (λ (t : Counts). mark_of t w i ≡ 0) c.self.view_is
-    (none_older c.self.inside.counts.entries k w i (λ has. last (mark_key w i) (tt, mark_newer (mark_key w i) (mark_key (c.args.first - 1) 0) (omega (arith, low, older))) has) before)
+pub loop-index-preserved : goal.loop-index-preserved
+loop-index-preserved c =
+    let all = c.args.self.now in
+    let ordered = subst (λ (t : Counts). InOrder t) c.self.view_is c.self.invariant.ordered in
+    let entry : MarkKey × ℕ = c.index.result.now in
+    let last = c.loop-index.index - 1 in
+    let next : last + 1 ≡ c.loop-index.index = omega (arith, c.loop-index-test.true) in
+    let within : last < length all = omega (arith, c.loop-index.invariant.within, next) in
+    let at = read_at all last entry within (subst (λ (t : Counts). entry ≡ get_or t last entry) c.self.view_is c.index.ensures) in
+    one_spent all ordered c.args.first c.loop-index.index last next entry at c.loop-index.invariant (omega (arith, c.if-count-gt0.false))
+
+pub returns-clause-none : goal.returns-clause-none
+returns-clause-none c =
+    let all = c.args.self.now in
+    let ordered = subst (λ (t : Counts). InOrder t) c.self.view_is c.self.invariant.ordered in
+    let none : c.loop-index.index ≡ 0 = omega (arith, c.loop-index-test.false) in
+    none_from all ordered c.args.first (subst (λ n. AreSpentFrom all c.args.first n) none c.loop-index.invariant)

@@ -61,7 +61,8 @@ impl<F: Flash> Core<F> {
     /// same state, and makes the state of the tree that it has then.
     pub fn answer_with_node(&mut self, request: &Request) -> Answered
         requires reserved { length self.old.answers < self.old.capacity }
-        ensures kept { AddsAnswer request.now.writer request.now.seq result.outcome self.old self.new }
+        ensures kept { AddsAnswer request.now.writer request.now.seq result.outcome
+            self.old self.new }
         ensures step { (mounted past : List Node) → Represents mounted past self.old
             → AnswersWith mounted past self.old self.new request.now result.outcome result.node }
         ensures node { HasNode result.outcome result.node }

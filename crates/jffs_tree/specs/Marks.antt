@@ -1,6 +1,7 @@
 -- How often each version is live, kept besides the inodes.
-use Rattle.std.specs.Prelude.{◌≡◌, ◌<◌, ◌≤◌, ◌+◌, ℕ, ◌==◌, ◌&&◌, List, length, slice_get, Option, Some}
-use Rattle.std.specs.Prelude.{count_by, sum_by, flat_map, option_map, unwrap_or, if◌then◌else◌}
+use Rattle.std.specs.Prelude.{◌≡◌, ◌<◌, ◌≤◌, ◌+◌, ℕ, ◌==◌, ◌&&◌, List, length, slice_get, Option}
+use Rattle.std.specs.Prelude.{Some, count_by, sum_by, flat_map, option_map, unwrap_or}
+use Rattle.std.specs.Prelude.{if◌then◌else◌}
 use Rattle.std.specs.List.{filter}
 use Rattle.std.specs.List.Sorted.{IsStrictlySortedBy, IsPartitionPoint}
 use Rattle.std.specs.Option.{option_map_or, option_to_list}
@@ -49,7 +50,8 @@ IsKeyAt counts key i = slice_get (keys_of counts) i ≡ Some key
 -- The key has no entry, and belongs at the index: it is after those before it alone.
 pub record BelongsAt (counts : Counts) (key : MarkKey) (i : ℕ) : Type 0 where
   pub within : i ≤ length counts
-  pub between : IsPartitionPoint (λ e. mark_cmp e.0 key ≡ Less) (λ e. mark_cmp e.0 key ≡ Greater) counts i
+  pub between : IsPartitionPoint (λ e. mark_cmp e.0 key ≡ Less)
+      (λ e. mark_cmp e.0 key ≡ Greater) counts i
 
 -- The entries before the index, and no others, are of versions from `first` on.
 pub record SplitsAt (counts : Counts) (first i : ℕ) : Type 0 where

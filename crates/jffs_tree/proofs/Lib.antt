@@ -7,6 +7,7 @@ pub mod Copies
 pub mod Rules
 mod Offsets
 pub mod Grown
+pub mod Halving
 pub mod Maps
 pub mod InOrder
 pub mod Marking

@@ -34,22 +34,6 @@ module _ (counts : Counts) (ordered : InOrder counts) (key : MarkKey) where
       low zero d h = let same = get_or_from_slice_get counts 0 e d is in subst (λ (x : MarkKey × ℕ). x.0.0.0 < key.0.0) (sym same) older
       low (suc k) d h = let l = no_newer counts ordered 0 (suc k) e (get_or counts (suc k) d) is (element (suc k) d h) (omega arith) in omega (arith, l, older)
 
-  rises : IsSortedBy (λ a b. is_lt (mark_cmp a.0 b.0)) counts
-  rises k d l h =
-      let up = before counts ordered k (k + 1) (get_or counts k d) (get_or counts (k + 1) d) (element k d (omega (arith, h))) (element (k + 1) d h) (omega arith) in
-      ap is_lt (turned_round (get_or counts (k + 1) d).0 (get_or counts k d).0 Less up)
-
-  pub searched_there : (r : Result ℕ ℕ) → IsBinarySearchResult (λ e. mark_cmp e.0 key) counts r → IsSearchInRange r (length counts) → IfOk r (IsKeyAt counts key)
-  searched_there (Ok i) h within =
-      let d : MarkKey × ℕ = (key, 0) in
-      key_at counts i (get_or counts i d) (element i d within)
-      ∙ ap (λ (k : MarkKey). Some k) (one_key (get_or counts i d).0 key (ap is_eq (h d)))
-  searched_there (Err i) h within = tt
-
-  pub searched_absent : (r : Result ℕ ℕ) → IsBinarySearchResult (λ e. mark_cmp e.0 key) counts r → IsSearchInRange r (length counts) → IfErr r (BelongsAt counts key)
-  searched_absent (Ok i) h within = tt
-  searched_absent (Err i) h within = record { within = within; between = h (searchable_from_sorted mark_total (λ (e : MarkKey × ℕ). e.0) counts key rises) }
-
   pub before_place : (i : ℕ) → BelongsAt counts key i → (j : ℕ) (e : MarkKey × ℕ) → j < i → slice_get counts j ≡ Some e → mark_cmp e.0 key ≡ Less
   before_place i b j e l is = subst (λ (x : MarkKey × ℕ). mark_cmp x.0 key ≡ Less) (get_or_from_slice_get counts j e e is) (b.between.0 j e (omega arith) l)
 

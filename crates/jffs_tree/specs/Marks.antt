@@ -1,11 +1,12 @@
 -- How often each version is live, kept besides the inodes.
 use Rattle.std.specs.Prelude.{◌≡◌, ◌<◌, ◌≤◌, ◌+◌, ℕ, ◌==◌, ◌&&◌, List, length, slice_get, Option}
-use Rattle.std.specs.Prelude.{Some, count_by, sum_by, flat_map, option_map, unwrap_or}
+use Rattle.std.specs.Prelude.{true, false, Some, count_by, sum_by, flat_map, option_map, unwrap_or}
 use Rattle.std.specs.Prelude.{if◌then◌else◌}
 use Rattle.std.specs.List.{filter}
 use Rattle.std.specs.List.Sorted.{IsStrictlySortedBy, IsPartitionPoint}
+use Rattle.std.specs.List.{AllWithin}
 use Rattle.std.specs.Option.{option_map_or, option_to_list}
-use Rattle.std.specs.Ordering.{nat_cmp, ordering_then}
+use Rattle.std.specs.Ordering.{nat_cmp, ordering_then, is_lt}
 use Rattle.std.specs.declared.cmp.Ordering.{Ordering}
 use Rattle.std.specs.declared.cmp.Ordering.TheVariants.{Less, Greater}
 use Rattle.std.specs.declared.cmp.Reverse.{Reverse}
@@ -52,6 +53,12 @@ pub record BelongsAt (counts : Counts) (key : MarkKey) (i : ℕ) : Type 0 where
   pub within : i ≤ length counts
   pub between : IsPartitionPoint (λ e. mark_cmp e.0 key ≡ Less)
       (λ e. mark_cmp e.0 key ≡ Greater) counts i
+
+-- The entries before the first index stand before the key, and none from the second on does.
+pub record IsPlaceWithin (counts : Counts) (key : MarkKey) (from to : ℕ) : Type 0 where
+  pub ends : (from ≤ to) × (to ≤ length counts)
+  pub low : AllWithin (λ e. is_lt (mark_cmp e.0 key) ≡ true) counts 0 from
+  pub high : AllWithin (λ e. is_lt (mark_cmp e.0 key) ≡ false) counts to (length counts)
 
 -- The entries before the index, and no others, are of versions from `first` on.
 pub record SplitsAt (counts : Counts) (first i : ℕ) : Type 0 where

@@ -3,7 +3,8 @@
 ghost use Rattle.std.specs.Prelude.{◌≡◌, ◌+◌, ◌-◌, ◌<◌, ◌≤◌, ◌^◌, ℕ, [], true, false, min, IfSome};
 ghost use Rattle.std.specs.Prelude.{IfNone, IfOk, IfErr, OnOk, OnErr};
 ghost use Rattle.jffs_tree.specs.Marks.{AreKept, HaveMore, SameMarks, mark_key, mark_of, marks_of};
-ghost use Rattle.jffs_tree.specs.Marks.{IsKeyAt, BelongsAt, SplitsAt};
+ghost use Rattle.jffs_tree.specs.Marks.{IsKeyAt, BelongsAt, SplitsAt, IsPlaceWithin, mark_cmp};
+ghost use Rattle.std.specs.Ordering.{is_lt};
 
 use std::alloc::{AllocError, Global};
 use std::cmp::Reverse;
@@ -68,13 +69,43 @@ impl Marks {
         if newest < version {
             return Err(0);
         }
-        // Versions mostly follow one another and have one entry each: then it stands here.
+        // Versions mostly follow one another and have one entry each: then it stands here. Where
+        // spent ones were dropped it stands before that, or all entries are newer.
         let key = (Reverse(version), inode);
-        let guess = ((newest - version) as usize).min(self.counts.len() - 1);
-        if self.counts[guess].0 == key {
+        let len = self.counts.len();
+        let guess = ((newest - version) as usize).min(len - 1);
+        let found = self.counts[guess].0;
+        if found == key {
             return Ok(guess);
         }
-        self.counts.binary_search_by_key(&key, |entry| entry.0)
+        if is_before(found, key) {
+            self.search(key, guess + 1, len)
+        } else {
+            self.search(key, 0, guess)
+        }
+    }
+
+    /// As `place`, of a key whose place is known to lie between two indices.
+    fn search(&self, key: MarkKey, first: usize, end: usize) -> Result<usize, usize>
+        requires { IsPlaceWithin self.now key first end }
+        ensures there { IfOk result (IsKeyAt self.now key) }
+        ensures absent { IfErr result (BelongsAt self.now key) }
+        ensures kept { AreKept self.now }
+    {
+        let mut from = first;
+        let mut to = end;
+        'halves: while from < to {
+            let mid = from + (to - from) / 2;
+            if is_before(self.counts[mid].0, key) {
+                from = mid + 1;
+            } else {
+                to = mid;
+            }
+        }
+        let Some(entry) = self.counts.get(from) else {
+            return Err(from);
+        };
+        if entry.0 == key { Ok(from) } else { Err(from) }
     }
 
     /// How many entries are of versions above this one. So its first one, if any, stands there.
@@ -250,6 +281,16 @@ impl Marks {
         }
         total
     }
+}
+
+/// Whether a key stands before another one. Both parts are compared, so that no branch is taken
+/// that a processor would have to foresee.
+fn is_before(key: MarkKey, other: MarkKey) -> bool
+    ensures { result ≡ is_lt (mark_cmp key other) }
+{
+    let version = key.0.0;
+    let pivot = other.0.0;
+    (pivot < version) | ((pivot == version) & (key.1 < other.1))
 }
 
 impl Clone for Marks {

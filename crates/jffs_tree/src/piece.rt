@@ -6,11 +6,10 @@ ghost use Rattle.std.specs.Prelude.{None, Some, IfSome, IfNone, slice_index_or, 
 ghost use Rattle.std.specs.List.{list_all};
 ghost use Rattle.std.specs.Ordering.{nat_cmp};
 ghost use Rattle.jffs_node.specs.Record.{file_max};
-ghost use Rattle.jffs_tree.specs.declared.fragment.Fragment.{Fragment};
 ghost use Rattle.jffs_tree.specs.Fragments.{AreLaid, NoneHolds, Says, get, laid, end_of};
 ghost use Rattle.jffs_tree.specs.Fragments.{writer_of};
 
-use crate::fragment::first_between;
+use crate::fragment::{Fragment, first_between};
 use crate::fragment_map::Fragments;
 
 /// Copies what stands from an offset on into the front of a slice, as far as one fragment or one
@@ -41,8 +40,7 @@ fn bytes_at(fragments: &Fragments, at: u32) -> Option<&[u8]>
         × ((n : ℕ) → Says fragments.now.entries at (take n bytes.now))) }
     ensures none { IfNone result (NoneHolds at fragments.now.entries) }
 {
-    let first = holding(fragments, at)?;
-    let fragment = fragments.get(first)?;
+    let (first, fragment) = holding(fragments, at)?;
     Some(&fragment.bytes.as_slice()[(at - first) as usize..])
 }
 
@@ -60,20 +58,20 @@ fn hole_at(fragments: &Fragments, at: u32, most: usize) -> usize
     }
 }
 
-/// The first offset of the fragment that holds an offset.
-fn holding(fragments: &Fragments, at: u32) -> Option<u32>
+/// The fragment that holds an offset, with its first one.
+fn holding(fragments: &Fragments, at: u32) -> Option<(u32, &Fragment)>
     requires laid { AreLaid 0 file_max fragments.now.entries }
     requires inside { at < file_max }
     ensures there { IfSome result
-        (λ first. (f : Fragment) × (get nat_cmp fragments.now first ≡ Some f) × (first ≤ at)
-        × (at < end_of (first, f))) }
+        (λ p. (get nat_cmp fragments.now p.0 ≡ Some p.1.now) × (p.0 ≤ at)
+        × (at < end_of (p.0, p.1.now))) }
     ensures none { IfNone result (NoneHolds at fragments.now.entries) }
 {
     let Some((first, fragment)) = fragments.last_up_to(at) else {
         return None;
     };
     if at < first + fragment.len() {
-        Some(first)
+        Some((first, fragment))
     } else {
         None
     }
@@ -88,8 +86,7 @@ pub(crate) fn writer_at(fragments: &Fragments, size: u32, at: u32) -> Option<u32
     if size <= at {
         return None;
     }
-    let first = holding(fragments, at)?;
-    let fragment = fragments.get(first)?;
+    let (_, fragment) = holding(fragments, at)?;
     Some(fragment.writer)
 }
 

@@ -1,7 +1,5 @@
 use Rattle.std.proofs.Common.{◌≡◌, ◌∙◌, ◌<◌, ◌+◌, ◌-◌, ℕ, List, length, take, drop, sym, ap, subst, arith, length-drop}
 use Rattle.std.proofs.Math.Seq.{take-length}
-use Rattle.std.proofs.lemmas.Option.{same_Some}
-use Rattle.jffs_tree.specs.declared.fragment.Fragment.{Fragment}
 use Rattle.jffs_tree.specs.Fragments.{Says}
 use Rattle.jffs_tree.proofs.Reading.{says_fragment}
 use Rattle.jffs_tree.proofs.piece.bytes_at.Goals as goal
@@ -11,12 +9,11 @@ returns-clause-there c =
     let es = c.args.fragments.now.entries in
     let at = c.args.at in
     let first = c.in_ok-first.first in
-    let f = c.in_ok-fragment.fragment.now in
+    let f = c.in_ok-first.fragment.now in
     let s = c.as_slice.result.now in
     let there = c.in_ok-first.ensures.there in
-    let this : there.0 ≡ f = same_Some there.0 f (sym there.1 ∙ sym c.in_ok-fragment.ensures) in
-    let high : at < first + length f.bytes = subst (λ (x : Fragment). at < first + length x.bytes) this there.3 in
-    let low = there.2 in
+    let high : at < first + length f.bytes = there.2 in
+    let low = there.1 in
     let same : s ≡ f.bytes = c.as_slice.ensures in
     let n = length-drop (at - first) s in
     let m : length s ≡ length f.bytes = ap (λ (x : List ℕ). length x) same in
@@ -26,5 +23,5 @@ returns-clause-there c =
     let some : 0 < length (drop (at - first) s) = omega arith in (
       subst (λ (x : List ℕ). 0 < length x) (sym part) some,
       λ k. subst (λ (x : List ℕ). Says es at (take k x)) (sym (part ∙ ap (λ (x : List ℕ). drop (at - first) x) same))
-          (says_fragment first at f es (sym c.in_ok-fragment.ensures) low high k),
+          (says_fragment first at f es there.0 low high k),
     )

@@ -55,11 +55,22 @@ fn weight_of(records: &VecDeque<RecordRef>, tree: &Tree) -> u64
         (map (λ k. k.length)
         (filter (λ k. holds_version tree.now k.inode k.version) records.now.items)) }
 {
-    records
-        .iter()
-        .filter(|entry| tree.live(entry.inode, entry.version))
-        .map(|entry| u64::from(entry.length))
-        .sum()
+    let mut near = 0;
+    let mut weight = 0u64;
+    'records: for record in records.iter() {
+        if tree.live_near(record.inode, record.version, &mut near) {
+            weight += length_of(record);
+        }
+    }
+    weight
+}
+
+/// How many bytes a record takes.
+fn length_of(entry: &RecordRef) -> u64
+    ensures length { result ≡ entry.now.length }
+    ensures short { result < 2 ^ 32 }
+{
+    u64::from(entry.length)
 }
 
 /// How many of the records stand in the sector and live in the tree.

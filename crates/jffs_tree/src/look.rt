@@ -103,6 +103,17 @@ impl Tree {
         0 < self.marks.at(version, inode)
     }
 
+    /// As [`live`](Tree::live), and the same whatever number `near` is, which is changed. Where one
+    /// `near`, 0 at first, is passed on from call to call and the versions rise, as along a log,
+    /// most answers are found without a search. Takes no memory.
+    pub fn live_near(&self, inode: u32, version: u32, near: &mut usize) -> bool
+        ensures held { result ≡ holds_version self.now inode version }
+        ensures whole { (past : List Node) → self.now ≡ tree_of past
+            → IsVersionOf past version inode → result ≡ is_live past version }
+    {
+        0 < self.marks.at_near(version, inode, near)
+    }
+
     /// How often a version is live: once for each byte of a present inode that it wrote last, and
     /// once as the newest of a present inode; the greatest `u32` if that is more. `apply` keeps
     /// the count, and nothing is counted anew. Takes no memory.

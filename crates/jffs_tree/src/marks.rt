@@ -14,6 +14,9 @@ use std::marker::Model;
 /// A version and an inode.
 type MarkKey = (Reverse<u32>, u32);
 
+/// How many entries are looked at round an index before a search.
+const NEAR: u32 = 4;
+
 /// For a version and an inode how many bytes of the inode the version wrote, and one more where
 /// it is the inode's newest.
 ///
@@ -54,6 +57,49 @@ impl Marks {
             Ok(index) => self.counts[index].1,
             Err(_) => 0,
         }
+    }
+
+    /// The marks of a version in an inode, which are looked for round an index. That is then the
+    /// one where they stand, or belong.
+    pub(crate) fn at_near(&self, version: u32, inode: u32, near: &mut usize) -> u32
+        ensures { result ≡ mark_of self.now version inode }
+    {
+        match self.place_near(version, inode, *near) {
+            Ok(index) => {
+                *near = index;
+                self.counts[index].1
+            }
+            Err(index) => {
+                *near = index;
+                0
+            }
+        }
+    }
+
+    /// As `place`, and looks at some entries before an index first. Who asks for one version after
+    /// another, as they rise, finds each there without a search.
+    fn place_near(&self, version: u32, inode: u32, near: usize) -> Result<usize, usize>
+        ensures there { IfOk result (IsKeyAt self.now (mark_key version inode)) }
+        ensures absent { IfErr result (BelongsAt self.now (mark_key version inode)) }
+        ensures kept { AreKept self.now }
+    {
+        let key = (Reverse(version), inode);
+        let mut index = near.min(self.counts.len());
+        if let Some(entry) = self.counts.get(index) {
+            if is_before(entry.0, key) {
+                return self.place(version, inode);
+            }
+        }
+        'steps: for _ in 0..NEAR {
+            if index == 0 {
+                return self.search(key, 0, 0);
+            }
+            if is_before(self.counts[index - 1].0, key) {
+                return self.search(key, index, index);
+            }
+            index -= 1;
+        }
+        self.search(key, 0, index)
     }
 
     /// The index of the entry of a version in an inode, or the one where it belongs.

@@ -117,3 +117,63 @@ fn both_ends_of_a_range_count(rt: HostRuntime) -> Result<(), Fail> {
     }
     Ok(())
 }
+
+/// Two files in turn, with dead versions between live ones.
+fn with_gaps(rt: &impl Abort, alloc: Global) -> Result<Session, Fail> {
+    let mut session = Session::new(alloc);
+    session.play(
+        rt,
+        "create /f
+         create /g
+         write /f 0 abcdefgh
+         write /g 0 abcdefgh
+         write /f 1 X
+         write /g 2 Y
+         write /f 3 XY
+         write /f 3 YX
+         write /g 2 Z
+         write /f 6 XYZ
+         rename /g /h
+         write /f 9 X
+         write /h 0 abcdefghi
+         write /f 9 Y",
+    )?;
+    Ok(session)
+}
+
+/// Whichever number is given, the answer is that of `live`.
+#[test]
+fn near_any_entry_the_answer_is_the_same(rt: HostRuntime) -> Result<(), Fail> {
+    let session = with_gaps(&rt, rt.alloc())?;
+    let tree = &session.tree;
+    for version in 0..17 {
+        for inode in 1..5 {
+            let wanted = tree.live(inode, version);
+            for start in 0..20 {
+                let mut near = start;
+                let told = tree.live_near(inode, version, &mut near);
+                assert_eq!(rt; told, wanted, "of {version} in {inode} from {start}");
+            }
+        }
+    }
+    Ok(())
+}
+
+/// One number is passed on, while the versions rise and while they fall.
+#[test]
+fn near_the_last_answer_the_next_is_the_same(rt: HostRuntime) -> Result<(), Fail> {
+    let session = with_gaps(&rt, rt.alloc())?;
+    let tree = &session.tree;
+    let mut rising = 0;
+    let mut falling = 0;
+    for step in 0..17 {
+        let version = 16 - step;
+        for inode in 2..4 {
+            let up = tree.live_near(inode, step, &mut rising);
+            assert_eq!(rt; up, tree.live(inode, step), "of {step} in {inode}");
+            let down = tree.live_near(inode, version, &mut falling);
+            assert_eq!(rt; down, tree.live(inode, version), "of {version} in {inode}");
+        }
+    }
+    Ok(())
+}

@@ -1,20 +1,18 @@
 -- Where a search for a key ends, and what the entries on both sides of a place are.
-use Rattle.std.proofs.Common.{◌≡◌, ℕ, zero, suc, ◌+◌, ◌-◌, ◌<◌, ◌≤◌, Bool, true, false, ⊎_elim, cond, length, get_or, set, slice_get, Option, Result, Ok, Err, Some, None, IfOk, IfErr, refl, sym, ap, subst, ◌∙◌, arith}
+use Rattle.std.proofs.Common.{◌≡◌, ℕ, zero, suc, ◌+◌, ◌-◌, ◌<◌, ◌≤◌, Bool, true, false, ⊎_elim, cond, length, get_or, set, slice_get, Option, Some, None, refl, sym, ap, subst, ◌∙◌, arith}
 use Rattle.std.specs.List.{insert}
 use Rattle.std.specs.Option.{unwrap_or}
-use Rattle.std.specs.List.Sorted.{IsBinarySearchResult, IsSearchInRange, IsSortedBy}
-use Rattle.std.specs.Ordering.{is_eq, is_gt, is_lt, ordering_reverse}
+use Rattle.std.specs.Ordering.{is_gt, ordering_reverse}
 use Rattle.std.specs.declared.cmp.Ordering.{Ordering}
 use Rattle.std.specs.declared.cmp.Ordering.TheVariants.{Less, Greater}
 use Rattle.std.specs.Map.{lookup, keys_of}
 use Rattle.std.specs.BTreeMap.{is_at}
 use Rattle.std.proofs.lemmas.Bool.{cases_lt}
 use Rattle.std.proofs.lemmas.Option.{same_Some, slice_get_within, slice_get_read, slice_get-get_or, get_or_from_slice_get}
-use Rattle.std.proofs.lemmas.List.Sorted.{searchable_from_sorted}
 use Rattle.std.proofs.lemmas.Map.Entries.{length-keys_of, lookup_at_gap}
 use Rattle.jffs_tree.specs.Marks.{MarkKey, Counts, mark_key, mark_cmp, mark_of, IsKeyAt, BelongsAt, SplitsAt}
 use Rattle.jffs_tree.proofs.Marking.{mark_newer, mark_low, mark_from}
-use Rattle.jffs_tree.proofs.Places.{InOrder, mark_total, one_key, key_at, mark_at, before, no_newer, written, still_in_order, inserted, inserted_in_order}
+use Rattle.jffs_tree.proofs.Places.{InOrder, mark_total, key_at, mark_at, before, no_newer, written, still_in_order, inserted, inserted_in_order}
 
 turned_round : (a b : MarkKey) (o : Ordering) → mark_cmp b a ≡ o → mark_cmp a b ≡ ordering_reverse o
 turned_round a b o is = mark_total.antisymm a b ∙ ap ordering_reverse is

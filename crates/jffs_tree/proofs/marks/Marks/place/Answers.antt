@@ -1,4 +1,4 @@
-use Rattle.std.proofs.Common.{◌≡◌, ◌<◌, ◌≤◌, ◌+◌, ℕ, Some, length, slice_get, ap, subst, sym, ◌∙◌, arith}
+use Rattle.std.proofs.Common.{◌<◌, ◌+◌, ℕ, Some, length, ap, subst, sym, ◌∙◌, arith}
 use Rattle.std.proofs.lemmas.Option.{slice_get-get_or, slice_get_read}
 use Rattle.jffs_tree.specs.Marks.{MarkKey, Counts, mark_key, IsKeyAt, BelongsAt, IsPlaceWithin}
 use Rattle.jffs_tree.proofs.Marking.{mark_tied}

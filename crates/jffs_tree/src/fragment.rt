@@ -297,9 +297,24 @@ pub(crate) fn take_out(fragments: &mut Fragments, from: u32, to: u32, inode: u32
     ensures moved { MovesAmounts marks.old marks.new inode fragments.old.entries
         fragments.new.entries }
 {
+    if from == 0 && fragments.first_from(to).is_none() {
+        take_all(fragments, inode, marks);
+        return;
+    }
     while let Some(first) = first_between(fragments, from, to) {
         take_one(fragments, first, inode, marks);
     }
+}
+
+/// Takes all fragments out, and their marks: one walk does, and no fragment is searched for.
+fn take_all(fragments: &mut Fragments, inode: u32, marks: &mut Marks)
+    requires short { AreShort fragments.old.entries }
+    requires marked { HasAmounts marks.old inode fragments.old.entries }
+    ensures left { fragments.new.entries ≡ [] }
+    ensures moved { MovesAmounts marks.old marks.new inode fragments.old.entries [] }
+{
+    lower_all(fragments, inode, marks);
+    fragments.clear();
 }
 
 /// Takes the fragment out that begins at an offset, and its marks.

@@ -110,6 +110,13 @@ impl Fragments {
         self.map.remove(&Reverse(first))
     }
 
+    /// Takes all fragments out.
+    pub(crate) fn clear(&mut self)
+        ensures { self.new.entries ≡ [] }
+    {
+        self.map.clear();
+    }
+
     /// The last fragment that begins at an offset or before it.
     pub(crate) fn last_up_to(&self, at: u32) -> Option<(u32, &Fragment)>
         ensures last { IfSome result (λ p. (es : Entries)

@@ -27,6 +27,8 @@ const NEAR: u32 = 4;
 #[derive(Drop)]
 pub(crate) struct Marks {
     counts: VecDeque<(MarkKey, u32)>,
+    /// Where a count was last lowered, as far as entries didn't move since.
+    lowered: usize,
 }
 
 impl Model for Marks {
@@ -46,6 +48,7 @@ impl Marks {
     {
         Marks {
             counts: VecDeque::new(alloc),
+            lowered: 0,
         }
     }
 
@@ -211,11 +214,29 @@ impl Marks {
         requires { count ≤ mark_of self.old version inode }
         ensures { HaveMore self.new self.old version inode count }
     {
-        match self.place(version, inode) {
-            Ok(index) => self.counts[index].1 -= count,
+        match self.place_again(version, inode) {
+            Ok(index) => {
+                self.counts[index].1 -= count;
+                self.lowered = index;
+            }
             Err(_) => return,
         }
         self.drop_last_spent();
+    }
+
+    /// As `place`, and looks first at the entry that was lowered last: a record that is written
+    /// over has the marks of its bytes taken away, and then the one that it has as the newest.
+    fn place_again(&self, version: u32, inode: u32) -> Result<usize, usize>
+        ensures there { IfOk result (IsKeyAt self.now (mark_key version inode)) }
+        ensures absent { IfErr result (BelongsAt self.now (mark_key version inode)) }
+        ensures kept { AreKept self.now }
+    {
+        if let Some(entry) = self.counts.get(self.lowered) {
+            if entry.0 == (Reverse(version), inode) {
+                return Ok(self.lowered);
+            }
+        }
+        self.place(version, inode)
     }
 
     /// Drops the spent entries at the back, so that `next` finds the oldest live one at once.
@@ -345,6 +366,7 @@ impl Clone for Marks {
     fn clone(&self) -> Result<Marks, AllocError> {
         Ok(Marks {
             counts: self.counts.clone()?,
+            lowered: self.lowered,
         })
     }
 }

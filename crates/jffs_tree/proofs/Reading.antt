@@ -201,6 +201,25 @@ says_fragment k at f es is low high n = λ size h fits.
     ∙ sym (append_assoc front early (take n late ++ (drop n late ++ back))) in
     part_stands (map byte_of (laid 0 size es)) (front ++ early) (take n late) (drop n late ++ back) at whole (omega arith)
 
+-- All bytes of a fragment stand in the file from its first offset on.
+pub whole_fragment : (size k : ℕ) (f : Fragment) (es : Fragments) → AreLaid 0 size es → lookup (is_at (nat_cmp k)) es ≡ Some f
+    → (k + length f.bytes ≤ size) × (take (length f.bytes) (drop k (map byte_of (laid 0 size es))) ≡ f.bytes)
+whole_fragment size k f es h is =
+    let b = beside_fragment size k f es h is in
+    let front = map byte_of b.front in
+    let back = map byte_of b.back in
+    let there = b.before in
+    let whole : map byte_of (laid 0 size es) ≡ front ++ (f.bytes ++ back) =
+    bytes_parts b.front (cells_of f) b.back (laid 0 size es) b.parts
+    ∙ ap (λ (x : List ℕ). front ++ (x ++ back)) (bytes_of_cells f.writer f.bytes) in
+    let all = length-laid 0 size es h in
+    let l = length-map (laid 0 size es) byte_of in
+    let m = length-map b.front byte_of in
+    let n : length (map byte_of (laid 0 size es)) ≡ length (front ++ (f.bytes ++ back)) = ap (λ (x : List ℕ). length x) whole in
+    let o = length-append front (f.bytes ++ back) in
+    let p = length-append f.bytes back in
+    (omega arith, part_stands (map byte_of (laid 0 size es)) front f.bytes back k whole (omega arith))
+
 -- zeros in a hole
 pub says_hole : (at n : ℕ) (es : Fragments) → IsClear at (at + n) es → Says es at (replicate n 0)
 says_hole at n es clear = λ size h fits.

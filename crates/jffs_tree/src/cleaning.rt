@@ -7,7 +7,7 @@ ghost use Rattle.jffs_tree.specs.Decide.{cleaning_copy};
 
 use crate::tree::Tree;
 use crate::wish::NewNode;
-use jffs_node::{Bytes, NoMemory, Node};
+use jffs_node::{Bytes, NoMemory, Node, copied};
 
 impl Tree {
     /// The copy that replaces a live node: its inode's parent and name as they are now, and the
@@ -19,6 +19,16 @@ impl Tree {
         ensures { IfOk result (λ n. n ≡ cleaning_copy (state_in self.now) source.now) }
     {
         let found = self.present(source.inode);
+        let mut node = found.plain(source.inode);
+        node.copy = true;
+        // They are not shared: who handed them in may have cut them out of a larger block, which
+        // a copy lets go of.
+        if let Some(bytes) = found.whole_data(source) {
+            node.offset = source.offset;
+            node.rsize = bytes.len() as u32;
+            node.bytes = copied(self.alloc, bytes.as_slice())?;
+            return Ok(node);
+        }
         let offset = source.offset.min(found.size());
         let len = source
             .bytes
@@ -27,8 +37,6 @@ impl Tree {
             .min((found.size() - offset) as usize);
         let mut bytes = vec![in self.alloc; 0u8; len]?;
         found.read(offset as usize, &mut bytes);
-        let mut node = found.plain(source.inode);
-        node.copy = true;
         node.offset = offset;
         node.rsize = len as u32;
         node.bytes = Bytes::from_vec(bytes)?;

@@ -1,10 +1,10 @@
 //! One inode: its parent and name, and a file's bytes as the fragments that nodes wrote.
 
 ghost use Rattle.std.specs.Prelude.{◌≡◌, ◌≢◌, ◌==◌, ◌&&◌, ◌+◌, ◌-◌, ◌≤◌, ◌++◌, [], Some, None};
-ghost use Rattle.std.specs.Prelude.{false, is_some, min, length, take, drop, OnOk, OnErr, bytes_eq};
+ghost use Rattle.std.specs.Prelude.{false, is_some, min, length, take, drop, OnOk, OnErr, bytes_eq, IfSome};
 ghost use Rattle.std.specs.Prelude.{slice_index_or};
 ghost use Rattle.std.specs.List.{list_all};
-ghost use Rattle.jffs_node.specs.Record.{dsize};
+ghost use Rattle.jffs_node.specs.Record.{dsize, file_max};
 ghost use Rattle.jffs_tree.specs.After.{held_after, IsWritableOver};
 ghost use Rattle.jffs_tree.specs.Marks.{HasMarks, MovesMarks, SameMarks, HasByteMarks};
 ghost use Rattle.jffs_tree.specs.Marks.{LosesByteMarks};
@@ -15,7 +15,7 @@ use crate::fragment::{lower_all, write_over};
 use crate::fragment_map::Fragments;
 use crate::marks::Marks;
 use crate::piece::{are_whole, copy_piece, writer_at};
-use jffs_node::{Kind, Name, Node};
+use jffs_node::{Bytes, Kind, Name, Node};
 use std::alloc::{AllocError, Global};
 use std::marker::Model;
 
@@ -126,6 +126,24 @@ impl Inode {
             );
         }
         count
+    }
+
+    /// The data of a record, where a fragment has all of them still.
+    pub(crate) fn whole_data(&self, node: &Node) -> Option<&Bytes>
+        ensures long { IfSome result
+            (λ bytes. (length bytes.now ≡ dsize node.now) × (length bytes.now ≤ file_max)) }
+        ensures inside { IfSome result
+            (λ bytes. node.now.offset + length bytes.now ≤ length self.now.entry.bytes) }
+        ensures stands { IfSome result
+            (λ bytes. take (length bytes.now) (drop node.now.offset self.now.entry.bytes)
+            ≡ bytes.now) }
+    {
+        let fragment = self.fragments.get(node.offset)?;
+        if fragment.writer == node.version && fragment.bytes.len() == node.bytes.len() {
+            Some(&fragment.bytes)
+        } else {
+            None
+        }
     }
 
     /// The version that wrote the byte at an offset, if one did.

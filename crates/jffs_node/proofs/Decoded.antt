@@ -1,8 +1,8 @@
 -- What is found at an offset, by its parts.
-use Rattle.std.proofs.Common.{◌≡◌, ℕ, ◌≤◌, ◌<◌, Bool, true, false, cond, not, ◌||◌, ltb, eqb, List, length, drop, get_or, Option, Some, None, Ok, Err, refl, sym, ap, subst, ◌∙◌}
+use Rattle.std.proofs.Common.{◌≡◌, ℕ, ◌^◌, ◌≤◌, ◌<◌, Fits, w8, arith, Bool, true, false, cond, not, ◌||◌, ltb, eqb, List, length, drop, get_or, Option, Some, None, Ok, Err, refl, sym, ap, subst, ◌∙◌}
 use Rattle.jffs_node.specs.declared.read.Why.{Why}
 use Rattle.jffs_node.specs.declared.read.Read.{Read}
-use Rattle.jffs_node.specs.declared.read.Read.TheVariants.{Closed, Free, Torn}
+use Rattle.jffs_node.specs.declared.read.Read.TheVariants.{Closed, Free, Torn, Bad}
 use Rattle.jffs_node.specs.declared.header.Head.{Head}
 use Rattle.jffs_node.specs.Laws.{IsClosedExactly}
 use Rattle.jffs_node.specs.Reading.{rules, broken_rule, byte_at, data_len, node_at, is_erased, closed_or_bad, found}
@@ -12,6 +12,13 @@ use Rattle.jffs_node.specs.Header.{head_at, head_or_why}
 use Rattle.jffs_node.proofs.Found.{records_are_found}
 use Rattle.jffs_node.proofs.Sound.{all_hold, found_are_records}
 use Rattle.jffs_node.proofs.Rules.{fits_rest_parts, ok_differs, ok_same, err_same}
+
+-- a byte
+pub small : (b : ℕ) → Fits w8 b → b < 256
+small b h = omega arith
+
+pub below : (a b : ℕ) → a ≤ b → b < 2 ^ 32 → a < 2 ^ 32
+below a b h k = omega arith
 
 -- so is one that breaks no rule
 pub record_fits : (rest : List ℕ) (record_max : ℕ) → broken_rule record_max rest ≡ None → (len_of_data (data_len rest) ≤ record_max) × (len_of_data (data_len rest) ≤ length rest)
@@ -45,6 +52,14 @@ pub found_with : (rest : List ℕ) (record_max : ℕ) (closed : Bool) (o : Optio
 found_with rest record_max closed o e h b =
     ap (λ p. closed_or_bad rest p) (sym b)
     ∙ ap (λ t. cond t (cond (is_erased rest) Free Torn) (closed_or_bad rest (broken_rule record_max rest))) (sym (not-true _ (sym e ∙ h)))
+
+pub bad_found : (rest : List ℕ) (record_max : ℕ) (closed : Bool) (w : Why) → closed ≡ not (ltb (length rest) 64 || not (eqb (byte_at 7 rest) 0)) → closed ≡ true
+    → Err w ≡ head_or_why rest (broken_rule record_max rest) → Bad w ≡ found record_max rest
+bad_found rest record_max closed w e h r = found_with rest record_max closed (Some w) e h (head_refused rest (broken_rule record_max rest) w r)
+
+pub record_found : (rest : List ℕ) (record_max : ℕ) (closed : Bool) (head : Head) → closed ≡ not (ltb (length rest) 64 || not (eqb (byte_at 7 rest) 0)) → closed ≡ true
+    → Ok head ≡ head_or_why rest (broken_rule record_max rest) → Closed (node_at rest) (len_of_data (data_len rest)) ≡ found record_max rest
+record_found rest record_max closed head e h r = found_with rest record_max closed None e h (head_read rest (broken_rule record_max rest) head r).0
 
 -- Both laws, of what was read.
 pub closed_exactly : (rest : List ℕ) (record_max : ℕ) (read : Read) → ((i : ℕ) → get_or rest i 0 < 256) → read ≡ found record_max rest → IsClosedExactly record_max rest read

@@ -24,7 +24,7 @@ ghost use Rattle.jffs_node.specs.Laws.{RecordsAreFound, FoundAreRecords};
 
 pub use bytes::Bytes;
 pub use data::{copied, shared};
-pub use decoding::{decode, is_erased};
+pub use decoding::{decode, decode_shared, is_erased};
 pub use lawful::is_lawful;
 pub use layout::{ERASED, GATE_AT, GATE_CLOSED, GATE_OPEN, HEADER_LEN, RECORD_ALIGN};
 pub use name::{NAME_MAX, Name};

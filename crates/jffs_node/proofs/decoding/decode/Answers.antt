@@ -1,20 +1,9 @@
-use Rattle.std.proofs.Common.{◌≡◌, ℕ, ◌^◌, ◌<◌, ◌≤◌, Fits, w8, Bool, true, not, ◌||◌, ltb, eqb, length, List, Some, None, Ok, Err, subst, ◌∙◌, arith}
+use Rattle.std.proofs.Common.{subst, ◌∙◌, arith}
 use Rattle.std.proofs.lemmas.Result.{IfOk-weaker, IfErr-weaker}
-use Rattle.jffs_node.specs.declared.read.Read.TheVariants.{Closed, Bad}
-use Rattle.jffs_node.specs.Record.{len_of_data}
-use Rattle.jffs_node.specs.Reading.{found, broken_rule, data_len, node_at, byte_at}
-use Rattle.jffs_node.specs.declared.read.Why.{Why}
-use Rattle.jffs_node.specs.declared.header.Head.{Head}
-use Rattle.jffs_node.specs.Header.{head_or_why, HasData}
-use Rattle.jffs_node.proofs.Decoded.{closed_long, found_without, found_with, head_read, head_refused, record_fits, closed_exactly}
+use Rattle.jffs_node.specs.Reading.{broken_rule}
+use Rattle.jffs_node.specs.Header.{HasData}
+use Rattle.jffs_node.proofs.Decoded.{small, below, closed_long, found_without, bad_found, record_found, head_read, record_fits, closed_exactly}
 use Rattle.jffs_node.proofs.decoding.decode.Goals as goal
-
--- a byte
-small : (b : ℕ) → Fits w8 b → b < 256
-small b h = omega arith
-
-below : (a b : ℕ) → a ≤ b → b < 2 ^ 32 → a < 2 ^ 32
-below a b h k = omega arith
 
 pub head_of-requires : goal.head_of-requires
 head_of-requires c = closed_long c.args.rest.now c.is_closed.result c.is_closed.ensures c.if-not-is_closed.false
@@ -40,14 +29,6 @@ pub returns-then-not-is_closed-clause-closed : goal.returns-then-not-is_closed-c
 returns-then-not-is_closed-clause-closed c =
     closed_exactly c.args.rest.now c.args.record_max _ (λ i. small _ (c.type_inv.rest i))
     (c.without_record.ensures ∙ found_without c.args.rest.now c.args.record_max c.is_closed.result c.is_closed.ensures c.if-not-is_closed.true)
-
-bad_found : (rest : List ℕ) (record_max : ℕ) (closed : Bool) (w : Why) → closed ≡ not (ltb (length rest) 64 || not (eqb (byte_at 7 rest) 0)) → closed ≡ true
-    → Err w ≡ head_or_why rest (broken_rule record_max rest) → Bad w ≡ found record_max rest
-bad_found rest record_max closed w e h r = found_with rest record_max closed (Some w) e h (head_refused rest (broken_rule record_max rest) w r)
-
-record_found : (rest : List ℕ) (record_max : ℕ) (closed : Bool) (head : Head) → closed ≡ not (ltb (length rest) 64 || not (eqb (byte_at 7 rest) 0)) → closed ≡ true
-    → Ok head ≡ head_or_why rest (broken_rule record_max rest) → Closed (node_at rest) (len_of_data (data_len rest)) ≡ found record_max rest
-record_found rest record_max closed head e h r = found_with rest record_max closed None e h (head_read rest (broken_rule record_max rest) head r).0
 
 pub returns-in-Err-clause-read : goal.returns-in-Err-clause-read
 returns-in-Err-clause-read c =

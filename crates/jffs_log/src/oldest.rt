@@ -3,7 +3,7 @@
 ghost use Rattle.std.specs.Prelude.{◌≡◌, ◌≤◌, ◌/◌, ◌↔◌, false, map, IsTrue, IfOk, OnOk, IfErr};
 
 use crate::log::{Log, failure};
-use crate::sector::read_sector;
+use crate::sector::{read_sector, shared_nodes};
 use jffs_flash::{ERASED_BYTE, Flash};
 use jffs_node::Node;
 use jffs_tree::{Cause, Tree};
@@ -99,5 +99,27 @@ impl<F: Flash> Log<F> {
         let bytes = self.oldest_image(alloc)?;
         let read = read_sector(alloc, self.index.first, &bytes)?;
         Ok(read.into_nodes())
+    }
+
+    /// As `oldest_nodes`, but no data are copied: the nodes share one block, which holds the whole
+    /// sector and stays in memory as long as one of them. So they are for who is done with them
+    /// when the sector is, as cleaning is. Precondition: no call of the device failed, and the log
+    /// has a sector.
+    ///
+    /// `Memory` if allocation failed: nothing is changed. `Device` if the read failed: no byte is
+    /// changed, and the log is failed from then on.
+    pub fn oldest_shared_nodes(&mut self, alloc: Global) -> Result<Vec<Node>, Cause>
+        requires working { self.old.failed ≡ false }
+        requires some { 1 ≤ self.old.index.held }
+        ensures nodes { IfOk result
+            (λ nodes. nodes.items
+            ≡ map (λ p. p.node) (oldest_in self.old.device.image self.old.index)) }
+        ensures same { OnOk result (self.new ≡ self.old) }
+        ensures stopped { IfErr result (λ cause. ReadStopped cause self.old self.new) }
+    {
+        let bytes = self.oldest_image(alloc)?;
+        // Brings in that the length of a sector fits.
+        let _size = self.index.sector_size;
+        Ok(shared_nodes(alloc, bytes)?)
     }
 }

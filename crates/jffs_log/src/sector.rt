@@ -9,7 +9,7 @@ ghost use Rattle.jffs_log.specs.LogIndex.{ref_of};
 ghost use Rattle.jffs_log.specs.ScanRead.{IsSpelled};
 
 use crate::log_index::RecordRef;
-use jffs_node::{NoMemory, Node, Read, decode, is_erased, record_len};
+use jffs_node::{Bytes, NoMemory, Node, Read, decode, decode_shared, is_erased, record_len};
 use std::alloc::{AllocError, Global};
 use std::collections::VecDeque;
 use std::marker::Model;
@@ -154,4 +154,31 @@ pub(crate) fn read_sector(alloc: Global, number: u32, sector: &[u8]) -> Result<S
             }
         }
     }
+}
+
+/// The nodes of the records that `read_sector` reads. Their data share the sector's block, which
+/// stays in memory as long as one of them.
+///
+/// `NoMemory` if allocation failed, or where the block has as many owners as can be counted.
+pub(crate) fn shared_nodes(alloc: Global, sector: Vec<u8>) -> Result<Vec<Node>, NoMemory>
+    requires { length sector.items < 2 ^ 32 }
+    ensures { IfOk result (λ nodes. nodes.items ≡ (sector_of sector.items).reading.nodes) }
+{
+    let sector = Bytes::from_vec(sector)?;
+    nodes_within(alloc, &sector)
+}
+
+/// The nodes of a sector's records, up to the first that is not closed and lawful.
+fn nodes_within(alloc: Global, sector: &Bytes) -> Result<Vec<Node>, NoMemory>
+    requires { length sector.now < 2 ^ 32 }
+    ensures { IfOk result (λ nodes. nodes.items ≡ (sector_of sector.now).reading.nodes) }
+{
+    let record_max = sector.len() as u32 / RECORDS_PER_SECTOR;
+    let mut nodes = Vec::new(alloc);
+    let mut used = 0u32;
+    'nodes: while let Read::Closed(node, len) = decode_shared(sector, used as usize, record_max)? {
+        nodes.push(node)?;
+        used += len;
+    }
+    Ok(nodes)
 }

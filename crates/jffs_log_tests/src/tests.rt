@@ -2,7 +2,7 @@
 
 use jffs_flash::{Fail, Flash, FuseFlash, Fused, MemoryFlash};
 use jffs_log::{Log, Mounted, RECORD_MAX, Room, scan};
-use jffs_node::{Bytes, Kind, Name, Node, record_len};
+use jffs_node::{Bytes, Kind, Name, Node, encode_into, is_lawful, record_len};
 use jffs_tree::{Cause, Tree};
 use std::alloc::{AllocError, Global};
 use std::process::Abort;
@@ -248,5 +248,81 @@ fn a_log_goes_round_the_end_of_the_image(rt: HostRuntime) -> Result<(), TestFail
         append_and_erase(&rt, &mut log, &mut tree, version)?;
         flash = is_found(&rt, log);
     }
+    Ok(())
+}
+
+/// A node that writes bytes which no other version has, or none at all in each third version.
+fn varied(alloc: Global, version: u32) -> Result<Node, AllocError> {
+    let amount = if version % 3 == 0 {
+        0
+    } else {
+        192 - version % 4
+    };
+    let mut node = written(alloc, version, amount)?;
+    let mut bytes = vec![in alloc; 0u8; amount as usize]?;
+    let step = (version % 256) as u8;
+    let mut next = 0u8;
+    for byte in bytes.iter_mut() {
+        *byte = next;
+        next = next.wrapping_add(step);
+    }
+    node.bytes = Bytes::from_vec(bytes)?;
+    Ok(node)
+}
+
+/// The record of a node that was read.
+fn spelled(rt: &impl Abort, alloc: Global, node: &Node) -> Result<Vec<u8>, AllocError> {
+    assert!(rt; is_lawful(node) && node.bytes.len() <= RECORD_MAX);
+    let mut record = vec![in alloc; 0u8; record_len(node) as usize]?;
+    encode_into(node, &mut record);
+    Ok(record)
+}
+
+/// The oldest sector's nodes are the same, to each byte, whether they share its bytes or not;
+/// returns how many there are.
+fn oldest_are_alike(
+    rt: &(impl Abort + AllocGlobal),
+    log: &mut Log<MemoryFlash>,
+) -> Result<usize, TestFail> {
+    assert!(rt; !log.failed() && log.held() >= 1);
+    let copied = log.oldest_nodes(rt.alloc())?;
+    let shared = log.oldest_shared_nodes(rt.alloc())?;
+    assert_eq!(rt; shared.len(), copied.len());
+    for (one, other) in copied.iter().zip(shared.iter()) {
+        let wanted = spelled(rt, rt.alloc(), one)?;
+        assert_eq!(rt; spelled(rt, rt.alloc(), other)?, wanted);
+    }
+    Ok(shared.len())
+}
+
+#[test]
+fn the_oldest_nodes_are_the_same_with_shared_data(rt: HostRuntime) -> Result<(), TestFail> {
+    let Mounted {
+        mut log,
+        mut tree,
+        ..
+    } = mount(&rt, blank(&rt));
+    let mut most = 0;
+    for version in 1..60 {
+        let node = varied(rt.alloc(), version)?;
+        append(&rt, &mut log, &tree, &node)?;
+        apply(&rt, &mut tree, &node)?;
+        most = oldest_are_alike(&rt, &mut log)?.max(most);
+        if is_oldest_dead(&rt, &log, &tree) {
+            erase(&rt, &mut log, &tree)?;
+        }
+    }
+    assert_eq!(rt; most, 5);
+    Ok(())
+}
+
+#[test]
+fn a_failed_read_of_the_oldest_nodes_stops_the_log(rt: HostRuntime) -> Result<(), TestFail> {
+    let fuse = FuseFlash::new(with_first(&rt)?, 6, Fused::All, Fail::Nothing);
+    let Mounted { mut log, .. } = mount(&rt, fuse);
+    assert!(rt; !log.failed() && log.held() >= 1);
+    let read = log.oldest_shared_nodes(rt.alloc());
+    assert_eq!(rt; read.err(), Some(Cause::Device));
+    assert!(rt; log.failed());
     Ok(())
 }

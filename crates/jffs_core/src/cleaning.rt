@@ -230,7 +230,8 @@ impl<F: Flash> Core<F> {
         self.append(Room::Copy, &copied.with(version, 0, 0))
     }
 
-    /// The nodes of the oldest sector, read from the device. Memory: nothing is changed.
+    /// The nodes of the oldest sector, read from the device. They share its bytes, which go with
+    /// the last of them. Memory: nothing is changed.
     fn oldest_nodes(&mut self) -> Result<Vec<Node>, Cause>
         requires working { self.old.failed ≡ false }
         requires some { 1 ≤ self.old.index.held }
@@ -243,7 +244,7 @@ impl<F: Flash> Core<F> {
         ensures causes { IfErr result (λ cause. (cause ≡ Cause.Memory) ⊎ (cause ≡ Cause.Device)) }
         ensures leaves { Leaves 0 self.old self.new }
     {
-        self.log.oldest_nodes(self.alloc)
+        self.log.oldest_shared_nodes(self.alloc)
     }
 
     /// Erases the oldest sector. Precondition: it is dead, and not the tail.

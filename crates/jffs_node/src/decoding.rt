@@ -1,8 +1,7 @@
 //! Reading of what stands at a position of a sector.
 
 ghost use Rattle.jffs_node.specs.declared.layout.TheConstants.{HEADER_LEN, GATE_AT, GATE_CLOSED};
-ghost use Rattle.std.specs.Prelude.{◌≡◌, ◌^◌, ◌<◌, ◌≤◌, ◌+◌, ◌==◌, ◌||◌, not, nat_lt};
-ghost use Rattle.std.specs.Prelude.{length, drop};
+ghost use Rattle.std.specs.Prelude.{◌≡◌, ◌^◌, ◌<◌, ◌≤◌, ◌==◌, ◌||◌, not, nat_lt, length};
 ghost use Rattle.std.specs.Prelude.{if◌then◌else◌, IfOk, OnErr};
 ghost use Rattle.jffs_node.specs.Record.{len_of_data};
 ghost use Rattle.jffs_node.specs.Reading.{byte_at, data_len, data_at, node_at, padding_holds};
@@ -10,13 +9,12 @@ ghost use Rattle.jffs_node.specs.Reading.{broken_rule, is_erased as erased_test,
 ghost use Rattle.jffs_node.specs.Header.{checked, head_at, head_or_why, HasData};
 ghost use Rattle.jffs_node.specs.Laws.{IsClosedExactly};
 
-use crate::data::{copied, part_of};
+use crate::data::copied;
 use crate::header::{Head, labels_of, node_of};
 use crate::layout::*;
 use crate::numbers::{check_numbers, len_with_data};
 use crate::read::{NoMemory, Read, Why};
 use crate::words::{is_all, word_at};
-use bytes::Bytes;
 use std::alloc::Global;
 
 /// What begins at a position of a sector: `rest` is the sector's bytes from there on, and a record
@@ -39,41 +37,8 @@ pub fn decode(alloc: Global, rest: &[u8], record_max: u32) -> Result<Read, NoMem
     }
 }
 
-/// What begins at position `at` of a sector, as `decode` says it of the bytes from there on. The
-/// data of a closed record are not copied but are a part of the sector's own block, so that such a
-/// node keeps the whole sector's bytes in memory: it is for who lets go of it soon. Takes no
-/// memory. Precondition: `at` is within the sector, or at its end.
-///
-/// `NoMemory` where the sector's bytes have as many owners as can be counted.
-pub fn decode_shared(sector: &Bytes, at: usize, record_max: u32) -> Result<Read, NoMemory>
-    requires { at ≤ length sector.now }
-    ensures read { IfOk result (λ read. read ≡ found record_max (drop at sector.now)) }
-    ensures closed { IfOk result (λ read. IsClosedExactly record_max (drop at sector.now) read) }
-    ensures refused { OnErr result (HasData (found record_max (drop at sector.now))) }
-{
-    decode_part(sector, at, &sector.as_slice()[at..], record_max)
-}
-
-/// What begins at position `at` of a sector, whose bytes from there on are `rest`.
-#[tactic(none)]
-fn decode_part(sector: &Bytes, at: usize, rest: &[u8], record_max: u32) -> Result<Read, NoMemory>
-    requires inside { at ≤ length sector.now }
-    requires rest { rest.now ≡ drop at sector.now }
-    ensures read { IfOk result (λ read. read ≡ found record_max rest.now) }
-    ensures closed { IfOk result (λ read. IsClosedExactly record_max rest.now read) }
-    ensures refused { OnErr result (HasData (found record_max rest.now)) }
-{
-    if !is_closed(rest) {
-        return Ok(without_record(rest));
-    }
-    match head_of(rest, record_max) {
-        Ok(head) => with_shared_data(sector, at, head),
-        Err(why) => Ok(Read::Bad(why)),
-    }
-}
-
 /// Whether a header fits whose gate is closed.
-fn is_closed(rest: &[u8]) -> bool
+pub(crate) fn is_closed(rest: &[u8]) -> bool
     ensures { result ≡ not (nat_lt (length rest.now) HEADER_LEN
         || not (byte_at GATE_AT rest.now == GATE_CLOSED)) }
 {
@@ -88,7 +53,7 @@ pub fn is_erased(bytes: &[u8]) -> bool
 }
 
 /// What stands where no record was closed: nothing, or what an interrupted write left.
-fn without_record(rest: &[u8]) -> Read
+pub(crate) fn without_record(rest: &[u8]) -> Read
     ensures { result ≡ (if erased_test rest.now then Read.Free else Read.Torn) }
 {
     if is_erased(rest) {
@@ -113,27 +78,9 @@ fn with_data(alloc: Global, rest: &[u8], head: Head) -> Result<Read, NoMemory>
     Ok(Read::Closed(node, len_with_data(amount) as u32))
 }
 
-/// The record of a head that stands at position `at`, with its part of the sector's data.
-fn with_shared_data(sector: &Bytes, at: usize, head: Head) -> Result<Read, NoMemory>
-    requires head { head ≡ head_at (drop at sector.now) }
-    requires fits { at + len_of_data (data_len (drop at sector.now)) ≤ length sector.now }
-    requires short { len_of_data (data_len (drop at sector.now)) < 2 ^ 32 }
-    ensures read { IfOk result
-        (λ read. read ≡ Read.Closed (node_at (drop at sector.now))
-        (len_of_data (data_len (drop at sector.now)))) }
-    ensures refused { OnErr result (0 < length (data_at (drop at sector.now))) }
-{
-    let Head { mut node, amount } = head;
-    // Brings in that positions within the sector fit.
-    let _whole = sector.len();
-    let start = at + HEADER_LEN;
-    node.bytes = part_of(sector, start, start + amount as usize)?;
-    Ok(Read::Closed(node, len_with_data(amount) as u32))
-}
-
 /// The head of a closed record, or the first rule that the record breaks.
 #[tactic(none)]
-fn head_of(rest: &[u8], record_max: u32) -> Result<Head, Why>
+pub(crate) fn head_of(rest: &[u8], record_max: u32) -> Result<Head, Why>
     requires { HEADER_LEN ≤ length rest.now }
     ensures { result ≡ head_or_why rest.now (broken_rule record_max rest.now) }
 {

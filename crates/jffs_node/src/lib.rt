@@ -17,6 +17,7 @@ mod numbers;
 mod path;
 mod read;
 mod record;
+mod sharing;
 mod words;
 
 ghost use Rattle.jffs_node.specs.Rows.{Spellings, Readings, SizeReadings, Paths};
@@ -24,7 +25,7 @@ ghost use Rattle.jffs_node.specs.Laws.{RecordsAreFound, FoundAreRecords};
 
 pub use bytes::Bytes;
 pub use data::{copied, shared};
-pub use decoding::{decode, decode_shared, is_erased};
+pub use decoding::{decode, is_erased};
 pub use lawful::is_lawful;
 pub use layout::{ERASED, GATE_AT, GATE_CLOSED, GATE_OPEN, HEADER_LEN, RECORD_ALIGN};
 pub use name::{NAME_MAX, Name};
@@ -32,6 +33,7 @@ pub use node::{FILE_MAX, FIRST_INODE, Kind, Node, ROOT_INODE};
 pub use path::{PATH_DEPTH_MAX, Path, PathFault};
 pub use read::{NoMemory, Read, Why};
 pub use record::{encode_into, record_len};
+pub use sharing::decode_shared;
 
 /// Records are spelled as on two written examples.
 pub fn examples_are_spelled()

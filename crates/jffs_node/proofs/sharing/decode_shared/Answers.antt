@@ -4,7 +4,7 @@ use Rattle.std.proofs.lemmas.List.{take_rest}
 use Rattle.jffs_node.specs.Reading.{found}
 use Rattle.jffs_node.specs.Header.{HasData}
 use Rattle.jffs_node.specs.Laws.{IsClosedExactly}
-use Rattle.jffs_node.proofs.decoding.decode_shared.Goals as goal
+use Rattle.jffs_node.proofs.sharing.decode_shared.Goals as goal
 
 rest_is : (sector slice : List ℕ) (at : ℕ) → slice ≡ sector → take (length slice - at) (drop at slice) ≡ drop at sector
 rest_is sector slice at e = take_rest slice at ∙ ap (drop at) e

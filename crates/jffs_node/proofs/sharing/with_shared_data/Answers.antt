@@ -5,7 +5,7 @@ use Rattle.jffs_node.specs.declared.read.Read.TheVariants.{Closed}
 use Rattle.jffs_node.specs.Record.{len_of_data}
 use Rattle.jffs_node.specs.Reading.{data_len, data_at, node_at}
 use Rattle.jffs_node.specs.Header.{head_at}
-use Rattle.jffs_node.proofs.decoding.with_shared_data.Goals as goal
+use Rattle.jffs_node.proofs.sharing.with_shared_data.Goals as goal
 
 fits_word : (a b : ℕ) → a ≡ b → b < 2 ^ 32 → Fits w32 a
 fits_word a b e h = omega arith

@@ -6,7 +6,7 @@ use Rattle.jffs_node.specs.Record.{len_of_data}
 use Rattle.jffs_node.specs.Reading.{broken_rule, data_len, node_at, found}
 use Rattle.jffs_node.specs.Header.{head_at, HasData}
 use Rattle.jffs_node.proofs.Decoded.{small, below, closed_long, found_without, bad_found, record_found, head_read, record_fits, closed_exactly}
-use Rattle.jffs_node.proofs.decoding.decode_part.Goals as goal
+use Rattle.jffs_node.proofs.sharing.decode_part.Goals as goal
 
 pub head_of-requires : goal.head_of-requires
 head_of-requires c = closed_long c.args.rest.now c.is_closed.result c.is_closed.ensures c.if-not-is_closed.false

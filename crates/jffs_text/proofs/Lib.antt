@@ -2,3 +2,4 @@ pub mod Adding
 mod InOrder
 pub mod Told
 mod Hex
+mod Newlines

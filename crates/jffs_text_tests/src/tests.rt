@@ -2,6 +2,7 @@
 
 mod bounds;
 mod calls;
+mod lines;
 mod told;
 mod writers;
 

@@ -4,3 +4,4 @@ pub mod Causes
 pub mod Dump
 pub mod Added
 pub mod Lines
+pub mod Words

@@ -71,3 +71,28 @@ fn lines_are_those_between_newlines(rt: HostRuntime) -> Result<(), Fail> {
     }
     Ok(())
 }
+
+/// How many spaces a text has, one byte after the other.
+fn spaces_in(text: &[u8]) -> usize {
+    let mut spaces = 0usize;
+    for byte in text {
+        spaces = spaces.saturating_add(usize::from(*byte == b' '));
+    }
+    spaces
+}
+
+#[test]
+fn words_are_counted_by_their_spaces(rt: HostRuntime) -> Result<(), Fail> {
+    let alloc = rt.alloc();
+    for length in (0..=LENGTH_MAX).chain(250..=260).chain(505..=515) {
+        for gap in [1, 2, 7, 255, 256] {
+            let mut text = vec![in alloc; b'#'; length]?;
+            for at in (0..length).step_by(gap) {
+                text[at] = b' ';
+            }
+            let line = line_text(&text).map_err(|_| Fail::from("no line"))?;
+            assert_eq!(rt; Words::of(line).count(), spaces_in(&text).saturating_add(1));
+        }
+    }
+    Ok(())
+}

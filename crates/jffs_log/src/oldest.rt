@@ -106,8 +106,9 @@ impl<F: Flash> Log<F> {
     /// when the sector is, as cleaning is. Precondition: no call of the device failed, and the log
     /// has a sector.
     ///
-    /// `Memory` if allocation failed: nothing is changed. `Device` if the read failed: no byte is
-    /// changed, and the log is failed from then on.
+    /// `Memory` if allocation failed, or if the block could have no owner more, of which there are
+    /// far fewer records: nothing is changed. `Device` if the read failed: no byte is changed, and
+    /// the log is failed from then on.
     pub fn oldest_shared_nodes(&mut self, alloc: Global) -> Result<Vec<Node>, Cause>
         requires working { self.old.failed ≡ false }
         requires some { 1 ≤ self.old.index.held }

@@ -58,7 +58,8 @@ fn weight_of(records: &VecDeque<RecordRef>, tree: &Tree) -> u64
     let mut near = 0;
     let mut weight = 0u64;
     'records: for record in records.iter() {
-        if tree.live_near(record.inode, record.version, &mut near) {
+        let is_live = tree.live_near(record.inode, record.version, &mut near);
+        if is_live {
             weight += length_of(record);
         }
     }

@@ -37,5 +37,5 @@ returns c =
     let sector = c.args.sector.now in
     let w = c.nodes.invariant in
     let is = end_found sector c.nodes.nodes.items c.nodes.used c.in_ok-node.field-0 _ refl w.holds
-      (subst (λ z. c.in_ok-node.field-0 ≡ found (z / 4) (drop c.nodes.used sector)) c.len.ensures.value c.in_ok-node.ensures.read) c.in_default.not-Closed in
+    (subst (λ z. c.in_ok-node.field-0 ≡ found (z / 4) (drop c.nodes.used sector)) c.len.ensures.value c.in_ok-node.ensures.read) c.in_default.not-Closed in
     ap (λ (r : Reading). r.nodes) (sym is)

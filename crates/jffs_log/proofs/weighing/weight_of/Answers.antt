@@ -12,15 +12,15 @@ overflow_add-weight c =
     let n = ap length c.in-Some.ensures.steps in
     omega arith
 
-pub records-preserved-then-live_near : goal.records-preserved-then-live_near
-records-preserved-then-live_near c =
+pub records-preserved-then-is_live : goal.records-preserved-then-is_live
+records-preserved-then-is_live c =
     let live : RecordRef → Bool = λ k. holds_version c.args.tree.now k.inode k.version in
     let all : ℕ = sum (map (λ k. k.length) (filter live c.args.records.now.items)) in
     let here = c.in-Some.record.now in
     let rest = c.next.new.self.head.now ++ c.next.new.self.wrapped.now in
     let was : c.records.weight + sum (map (λ k. k.length) (filter live (here ∷ rest))) ≡ all = subst (λ l. c.records.weight + sum (map (λ k. k.length) (filter live l)) ≡ all) c.in-Some.ensures.steps c.records.invariant.weighed in
     let kept = filter live rest in
-    let now : c.records.weight + sum (map (λ k. k.length) (here ∷ kept)) ≡ all = subst (λ b. c.records.weight + sum (map (λ k. k.length) (if b then here ∷ kept else kept)) ≡ all) (sym c.live_near.ensures.held ∙ c.if-live_near.true) was in
+    let now : c.records.weight + sum (map (λ k. k.length) (here ∷ kept)) ≡ all = subst (λ b. c.records.weight + sum (map (λ k. k.length) (if b then here ∷ kept else kept)) ≡ all) (sym c.live_near-is_live.ensures.held ∙ c.if-is_live.true) was in
     let first : sum (map (λ k. k.length) (here ∷ kept)) ≡ here.length + sum (map (λ k. k.length) kept) = sum_by-cons (λ n. n) here.length (map (λ k. k.length) kept) in
     record {
       can_next = tt;

@@ -18,7 +18,7 @@ greater Less h e = cc
 greater Equal h e = cc
 greater Greater h e = refl
 
-never : (b : Bool) → b ≡ true → b ≡ false → ⊥
+pub never : (b : Bool) → b ≡ true → b ≡ false → ⊥
 never b x y = let same = sym x ∙ y in cc
 
 not_true : (b : Bool) → (b ≡ true → ⊥) → b ≡ false
@@ -26,9 +26,6 @@ not_true true h = absurd (h refl)
 not_true false h = refl
 
 module _ (counts : Counts) (ordered : InOrder counts) (key : MarkKey) where
-  element : (i : ℕ) (d : MarkKey × ℕ) → i < length counts → slice_get counts i ≡ Some (get_or counts i d)
-  element i d l = slice_get-get_or counts i d l
-
   before_too : (i j : ℕ) (a b : MarkKey × ℕ) → slice_get counts i ≡ Some a → slice_get counts j ≡ Some b → i < j → is_lt (mark_cmp b.0 key) ≡ true → is_lt (mark_cmp a.0 key) ≡ true
   before_too i j a b at_i at_j l h = ap is_lt (mark_total.trans a.0 b.0 key (before counts ordered i j a b at_i at_j l) (less (mark_cmp b.0 key) h))
 
@@ -43,7 +40,7 @@ module _ (counts : Counts) (ordered : InOrder counts) (key : MarkKey) where
   upper_half from to mid e p within at h = record {
     ends = (omega (arith, within), p.ends.1);
     low = λ k d l m. ⊎_elim
-        (λ below. before_too k mid (get_or counts k d) e (element k d (omega (arith, m, within, p.ends.1))) at below h)
+        (λ below. before_too k mid (get_or counts k d) e (slice_get-get_or counts k d (omega (arith, m, within, p.ends.1))) at below h)
         (λ above. let same : k ≡ mid = omega (arith, above, m) in
         let read = get_or_from_slice_get counts k e d (subst (λ n. slice_get counts n ≡ Some e) (sym same) at) in
         subst (λ (x : MarkKey × ℕ). is_lt (mark_cmp x.0 key) ≡ true) (sym read) h)
@@ -57,11 +54,18 @@ module _ (counts : Counts) (ordered : InOrder counts) (key : MarkKey) where
     low = p.low;
     high = λ k d l m. ⊎_elim
         (λ above. not_true (is_lt (mark_cmp (get_or counts k d).0 key))
-        (λ is. never (is_lt (mark_cmp e.0 key)) (before_too mid k e (get_or counts k d) at (element k d m) above is) h))
+        (λ is. never (is_lt (mark_cmp e.0 key)) (before_too mid k e (get_or counts k d) at (slice_get-get_or counts k d m) above is) h))
         (λ below. let same : k ≡ mid = omega (arith, below, l) in
         let read = get_or_from_slice_get counts k e d (subst (λ n. slice_get counts n ≡ Some e) (sym same) at) in
         subst (λ (x : MarkKey × ℕ). is_lt (mark_cmp x.0 key) ≡ false) (sym read) h)
         (cases_lt mid k);
+  }
+
+  pub wider : (from to more : ℕ) → IsPlaceWithin counts key from to → to ≤ more → more ≤ length counts → IsPlaceWithin counts key from more
+  wider from to more p less short = record {
+    ends = (omega (arith, p.ends.0, less), short);
+    low = p.low;
+    high = λ k d l m. p.high k d (omega (arith, less, l)) m;
   }
 
   -- Where the halves meet, the key stands or belongs.
@@ -85,10 +89,10 @@ module _ (counts : Counts) (ordered : InOrder counts) (key : MarkKey) where
           let same : (get_or counts k d).0 ≡ key = one_key (get_or counts k d).0 key is in
           ⊎_elim
           (λ above. never (is_lt (mark_cmp (get_or counts i d).0 key))
-          (ap is_lt (subst (λ x. mark_cmp (get_or counts i d).0 x ≡ Less) same (before counts ordered i k (get_or counts i d) (get_or counts k d) (element i d (omega (arith, above, m))) (element k d m) above)))
+          (ap is_lt (subst (λ x. mark_cmp (get_or counts i d).0 x ≡ Less) same (before counts ordered i k (get_or counts i d) (get_or counts k d) (slice_get-get_or counts i d (omega (arith, above, m))) (slice_get-get_or counts k d m) above)))
           (high i d (omega arith) (omega (arith, above, m))))
           (λ below. let equal : i ≡ k = omega (arith, below, l) in
-          let at : slice_get counts i ≡ Some (get_or counts k d) = subst (λ n. slice_get counts n ≡ Some (get_or counts k d)) (sym equal) (element k d m) in
+          let at : slice_get counts i ≡ Some (get_or counts k d) = subst (λ n. slice_get counts n ≡ Some (get_or counts k d)) (sym equal) (slice_get-get_or counts k d m) in
           never (eqb (get_or counts k d).0.0.0 key.0.0 && eqb (get_or counts k d).0.1 key.1)
           (and_from (eqb (get_or counts k d).0.0.0 key.0.0) (eqb (get_or counts k d).0.1 key.1) (eq-eqb (get_or counts k d).0.0.0 key.0.0 (ap (λ (x : MarkKey). x.0.0) same)) (eq-eqb (get_or counts k d).0.1 key.1 (ap (λ (x : MarkKey). x.1) same)))
           (other (get_or counts k d) at))

@@ -1,5 +1,5 @@
 -- Where a search for a key ends, and what the entries on both sides of a place are.
-use Rattle.std.proofs.Common.{◌≡◌, ℕ, zero, suc, ◌+◌, ◌-◌, ◌<◌, ◌≤◌, Bool, true, false, ⊎_elim, cond, length, get_or, set, slice_get, Option, Some, None, refl, sym, ap, subst, ◌∙◌, arith}
+use Rattle.std.proofs.Common.{◌≡◌, ℕ, zero, suc, ◌+◌, ◌-◌, ◌<◌, ◌≤◌, ⊎_elim, cond, length, get_or, set, slice_get, Option, Some, None, refl, sym, ap, subst, ◌∙◌, arith}
 use Rattle.std.specs.List.{insert}
 use Rattle.std.specs.Option.{unwrap_or}
 use Rattle.std.specs.Ordering.{is_gt, ordering_reverse}
@@ -12,15 +12,13 @@ use Rattle.std.proofs.lemmas.Option.{same_Some, slice_get_within, slice_get_read
 use Rattle.std.proofs.lemmas.Map.Entries.{length-keys_of, lookup_at_gap}
 use Rattle.jffs_tree.specs.Marks.{MarkKey, Counts, mark_key, mark_cmp, mark_of, IsKeyAt, BelongsAt, SplitsAt}
 use Rattle.jffs_tree.proofs.Marking.{mark_newer, mark_low, mark_from}
+use Rattle.jffs_tree.proofs.Halving.{never}
 use Rattle.jffs_tree.proofs.Places.{InOrder, mark_total, key_at, mark_at, before, no_newer, written, still_in_order, inserted, inserted_in_order}
 
 turned_round : (a b : MarkKey) (o : Ordering) → mark_cmp b a ≡ o → mark_cmp a b ≡ ordering_reverse o
 turned_round a b o is = mark_total.antisymm a b ∙ ap ordering_reverse is
 
 module _ (counts : Counts) (ordered : InOrder counts) (key : MarkKey) where
-  element : (i : ℕ) (d : MarkKey × ℕ) → i < length counts → slice_get counts i ≡ Some (get_or counts i d)
-  element i d l = slice_get-get_or counts i d l
-
   -- A version above the newest belongs at the front.
   pub in_front : (e : MarkKey × ℕ) → slice_get counts 0 ≡ Some e → e.0.0.0 < key.0.0 → BelongsAt counts key 0
   in_front e is older = record {
@@ -30,7 +28,7 @@ module _ (counts : Counts) (ordered : InOrder counts) (key : MarkKey) where
     where
       low : (k : ℕ) (d : MarkKey × ℕ) → k < length counts → (get_or counts k d).0.0.0 < key.0.0
       low zero d h = let same = get_or_from_slice_get counts 0 e d is in subst (λ (x : MarkKey × ℕ). x.0.0.0 < key.0.0) (sym same) older
-      low (suc k) d h = let l = no_newer counts ordered 0 (suc k) e (get_or counts (suc k) d) is (element (suc k) d h) (omega arith) in omega (arith, l, older)
+      low (suc k) d h = let l = no_newer counts ordered 0 (suc k) e (get_or counts (suc k) d) is (slice_get-get_or counts (suc k) d h) (omega arith) in omega (arith, l, older)
 
   pub before_place : (i : ℕ) → BelongsAt counts key i → (j : ℕ) (e : MarkKey × ℕ) → j < i → slice_get counts j ≡ Some e → mark_cmp e.0 key ≡ Less
   before_place i b j e l is = subst (λ (x : MarkKey × ℕ). mark_cmp x.0 key ≡ Less) (get_or_from_slice_get counts j e e is) (b.between.0 j e (omega arith) l)
@@ -57,11 +55,8 @@ entry_is counts i k e key read =
 newer_than : (q : MarkKey) (v : ℕ) → mark_cmp q (mark_key v 0) ≡ Less → v + 1 ≤ q.0.0
 newer_than q v less = ⊎_elim
     (λ l. omega (arith, l))
-    (λ low. absurd (both (is_gt (mark_cmp (mark_key v 0) q)) (ap is_gt (turned_round (mark_key v 0) q Less less)) (mark_from v q low)))
+    (λ low. absurd (never (is_gt (mark_cmp (mark_key v 0) q)) (ap is_gt (turned_round (mark_key v 0) q Less less)) (mark_from v q low)))
     (cases_lt v q.0.0)
-  where
-    both : (b : Bool) → b ≡ true → b ≡ false → ⊥
-    both b x y = let same = sym x ∙ y in cc
 
 older_from : (q : MarkKey) (v : ℕ) → mark_cmp (mark_key v 0) q ≡ Less → q.0.0 < v + 1
 older_from q v less = let l = mark_low (mark_key v 0) q (ap is_gt less) in omega (arith, l)

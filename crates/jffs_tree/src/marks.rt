@@ -14,7 +14,7 @@ use std::marker::Model;
 /// A version and an inode.
 type MarkKey = (Reverse<u32>, u32);
 
-/// How many entries are looked at round an index before a search.
+/// How many entries before an index are looked at before a search.
 const NEAR: u32 = 4;
 
 /// For a version and an inode how many bytes of the inode the version wrote, and one more where
@@ -27,7 +27,8 @@ const NEAR: u32 = 4;
 #[derive(Drop)]
 pub(crate) struct Marks {
     counts: VecDeque<(MarkKey, u32)>,
-    /// Where a count was last lowered, as far as entries didn't move since.
+    /// The index where a count was lowered last. Entries may have moved since: it is only where to
+    /// look first, and any number would do.
     lowered: usize,
 }
 
@@ -62,8 +63,8 @@ impl Marks {
         }
     }
 
-    /// The marks of a version in an inode, which are looked for round an index. That is then the
-    /// one where they stand, or belong.
+    /// The marks of a version in an inode, which are looked for at an index and before it. It is
+    /// then the one where they stand, or belong.
     pub(crate) fn at_near(&self, version: u32, inode: u32, near: &mut usize) -> u32
         ensures { result ≡ mark_of self.now version inode }
     {
@@ -79,8 +80,8 @@ impl Marks {
         }
     }
 
-    /// As `place`, and looks at some entries before an index first. Who asks for one version after
-    /// another, as they rise, finds each there without a search.
+    /// As `place`, and looks at an index and at some entries before it first. Who asks for one
+    /// version after another, as they rise, finds each there without a search.
     fn place_near(&self, version: u32, inode: u32, near: usize) -> Result<usize, usize>
         ensures there { IfOk result (IsKeyAt self.now (mark_key version inode)) }
         ensures absent { IfErr result (BelongsAt self.now (mark_key version inode)) }
@@ -142,14 +143,12 @@ impl Marks {
         ensures kept { AreKept self.now }
     {
         let mut from = first;
-        let mut to = end;
-        'halves: while from < to {
-            let mid = from + (to - from) / 2;
-            if is_before(self.counts[mid].0, key) {
-                from = mid + 1;
-            } else {
-                to = mid;
-            }
+        let mut size = end - first;
+        // A factor of 0 or 1 in place of a branch, which no processor would foresee.
+        'halves: while size > 0 {
+            let half = size - size / 2;
+            from += half * usize::from(is_before(self.counts[from + half - 1].0, key));
+            size -= half;
         }
         let Some(entry) = self.counts.get(from) else {
             return Err(from);
@@ -350,8 +349,7 @@ impl Marks {
     }
 }
 
-/// Whether a key stands before another one. Both parts are compared, so that no branch is taken
-/// that a processor would have to foresee.
+/// Whether a key stands before another one. Both parts are compared at once, without a branch.
 fn is_before(key: MarkKey, other: MarkKey) -> bool
     ensures { result ≡ is_lt (mark_cmp key other) }
 {

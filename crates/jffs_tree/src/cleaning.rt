@@ -21,8 +21,8 @@ impl Tree {
         let found = self.present(source.inode);
         let mut node = found.plain(source.inode);
         node.copy = true;
-        // They are not shared: who handed them in may have cut them out of a larger block, which
-        // a copy lets go of.
+        // The bytes are copied, not shared: who handed them in may have cut them out of a larger
+        // block, which a copy lets go of.
         if let Some(bytes) = found.whole_data(source) {
             node.offset = source.offset;
             node.rsize = bytes.len() as u32;

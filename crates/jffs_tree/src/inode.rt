@@ -1,8 +1,8 @@
 //! One inode: its parent and name, and a file's bytes as the fragments that nodes wrote.
 
 ghost use Rattle.std.specs.Prelude.{◌≡◌, ◌≢◌, ◌==◌, ◌&&◌, ◌+◌, ◌-◌, ◌≤◌, ◌++◌, [], Some, None};
-ghost use Rattle.std.specs.Prelude.{false, is_some, min, length, take, drop, OnOk, OnErr, bytes_eq, IfSome};
-ghost use Rattle.std.specs.Prelude.{slice_index_or};
+ghost use Rattle.std.specs.Prelude.{false, is_some, min, length, take, drop, OnOk, OnErr, bytes_eq};
+ghost use Rattle.std.specs.Prelude.{slice_index_or, IfSome};
 ghost use Rattle.std.specs.List.{list_all};
 ghost use Rattle.jffs_node.specs.Record.{dsize, file_max};
 ghost use Rattle.jffs_tree.specs.After.{held_after, IsWritableOver};
@@ -128,7 +128,8 @@ impl Inode {
         count
     }
 
-    /// The data of a record, where a fragment has all of them still.
+    /// What stands now where a record's data were written, if it is one fragment, as it is where no
+    /// part of them was written over. None for a record without data.
     pub(crate) fn whole_data(&self, node: &Node) -> Option<&Bytes>
         ensures long { IfSome result
             (λ bytes. (length bytes.now ≡ dsize node.now) × (length bytes.now ≤ file_max)) }
@@ -138,8 +139,11 @@ impl Inode {
             (λ bytes. take (length bytes.now) (drop node.now.offset self.now.entry.bytes)
             ≡ bytes.now) }
     {
+        if node.bytes.is_empty() {
+            return None;
+        }
         let fragment = self.fragments.get(node.offset)?;
-        if fragment.writer == node.version && fragment.bytes.len() == node.bytes.len() {
+        if fragment.bytes.len() == node.bytes.len() {
             Some(&fragment.bytes)
         } else {
             None

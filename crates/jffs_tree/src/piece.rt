@@ -58,7 +58,7 @@ fn hole_at(fragments: &Fragments, at: u32, most: usize) -> usize
     }
 }
 
-/// The fragment that holds an offset, with its first one.
+/// The fragment that holds an offset, with the offset where it begins.
 fn holding(fragments: &Fragments, at: u32) -> Option<(u32, &Fragment)>
     requires laid { AreLaid 0 file_max fragments.now.entries }
     requires inside { at < file_max }

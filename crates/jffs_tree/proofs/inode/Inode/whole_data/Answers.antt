@@ -9,7 +9,7 @@ returns-then-len-clause-long c =
     let whole = whole_fragment c.self.inside.size c.args.node.now.offset c.in_ok-fragment.fragment.now c.self.inside.fragments.entries c.self.invariant.laid (sym c.in_ok-fragment.ensures) in
     let fits = whole.0 in
     let small = c.self.invariant.small in
-    (omega (arith, c.len.ensures.value, c.if-len.true, c.len-then-fragment-node.ensures.value), omega arith)
+    (omega (arith, c.len.ensures.value, c.if-len.true, c.len-2.ensures.value), omega arith)
 
 pub returns-then-len-clause-inside : goal.returns-then-len-clause-inside
 returns-then-len-clause-inside c =

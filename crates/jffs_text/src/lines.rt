@@ -6,7 +6,7 @@ ghost use Rattle.std.specs.Iterator.{YieldsFirstRef, item_count};
 ghost use Rattle.jffs_text.specs.Lines.{is_newline, line_len, lines_of, lines_left};
 
 /// How many bytes are searched for a newline at a time.
-const STEP: usize = 64;
+const STEP: usize = 32;
 
 /// The lines of a text that are still to come: what stands before each newline, and what stands
 /// after the last, even where that is nothing.

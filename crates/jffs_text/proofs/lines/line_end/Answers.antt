@@ -28,14 +28,14 @@ steps-preserved c =
     let end = c.steps.end in
     let is = c.is_in_line.ensures in
     let test = c.steps-test.true in
-    let long : end + 64 - end ≡ 64 = omega arith in
-    let all : list_all (λ b. not (is_newline b)) (take 64 (drop end text)) ≡ true =
+    let long : end + 32 - end ≡ 32 = omega arith in
+    let all : list_all (λ b. not (is_newline b)) (take 32 (drop end text)) ≡ true =
     ap (λ n. list_all (λ b. not (is_newline b)) (take n (drop end text))) (sym long) ∙ sym is ∙ c.if-not-is_in_line.false in
     record {
       within = omega arith;
       before = λ k below. ⊎_elim
           (λ early. c.steps.invariant.before k early)
-          (λ late. none_in_part text end 64 k all late below (omega arith))
+          (λ late. none_in_part text end 32 k all late below (omega arith))
           (cases_lt k end);
     }
 

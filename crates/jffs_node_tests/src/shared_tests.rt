@@ -31,8 +31,8 @@ fn are_alike(rt: &impl Abort, alloc: Global, copied: Read, shared: Read) -> Resu
     }
 }
 
-/// At each position of the sector, and with limits on both sides of the length of `HELLO`, both ways
-/// read the same.
+/// At each position of the sector, and with limits on both sides of the length of `HELLO`, both
+/// ways read the same.
 fn is_read_alike(rt: &impl Abort, alloc: Global, sector: Vec<u8>) -> Result<(), Fail> {
     let sector = Bytes::from_vec(sector)?;
     for at in 0..=sector.len() {

@@ -27,9 +27,6 @@ const NEAR: u32 = 4;
 #[derive(Drop)]
 pub(crate) struct Marks {
     counts: VecDeque<(MarkKey, u32)>,
-    /// The index where a count was lowered last. Entries may have moved since: it is only where to
-    /// look first, and any number would do.
-    lowered: usize,
 }
 
 impl Model for Marks {
@@ -49,7 +46,6 @@ impl Marks {
     {
         Marks {
             counts: VecDeque::new(alloc),
-            lowered: 0,
         }
     }
 
@@ -213,29 +209,11 @@ impl Marks {
         requires { count ≤ mark_of self.old version inode }
         ensures { HaveMore self.new self.old version inode count }
     {
-        match self.place_again(version, inode) {
-            Ok(index) => {
-                self.counts[index].1 -= count;
-                self.lowered = index;
-            }
+        match self.place(version, inode) {
+            Ok(index) => self.counts[index].1 -= count,
             Err(_) => return,
         }
         self.drop_last_spent();
-    }
-
-    /// As `place`, and looks first at the entry that was lowered last: a record that is written
-    /// over has the marks of its bytes taken away, and then the one that it has as the newest.
-    fn place_again(&self, version: u32, inode: u32) -> Result<usize, usize>
-        ensures there { IfOk result (IsKeyAt self.now (mark_key version inode)) }
-        ensures absent { IfErr result (BelongsAt self.now (mark_key version inode)) }
-        ensures kept { AreKept self.now }
-    {
-        if let Some(entry) = self.counts.get(self.lowered) {
-            if entry.0 == (Reverse(version), inode) {
-                return Ok(self.lowered);
-            }
-        }
-        self.place(version, inode)
     }
 
     /// Drops the spent entries at the back, so that `next` finds the oldest live one at once.
@@ -364,7 +342,6 @@ impl Clone for Marks {
     fn clone(&self) -> Result<Marks, AllocError> {
         Ok(Marks {
             counts: self.counts.clone()?,
-            lowered: self.lowered,
         })
     }
 }

@@ -1,11 +1,11 @@
 -- What is found at an offset, by its parts.
-use Rattle.std.proofs.Common.{◌≡◌, ℕ, ◌^◌, ◌≤◌, ◌<◌, Fits, w8, arith, Bool, true, false, cond, not, ◌||◌, ltb, eqb, List, length, drop, get_or, Option, Some, None, Ok, Err, refl, sym, ap, subst, ◌∙◌}
+use Rattle.std.proofs.Common.{◌≡◌, ℕ, ◌^◌, ◌≤◌, ◌<◌, Fits, w8, w32, arith, Bool, true, false, cond, not, ◌||◌, ltb, eqb, List, length, drop, get_or, Option, Some, None, Ok, Err, refl, sym, ap, subst, ◌∙◌}
 use Rattle.jffs_node.specs.declared.read.Why.{Why}
 use Rattle.jffs_node.specs.declared.read.Read.{Read}
 use Rattle.jffs_node.specs.declared.read.Read.TheVariants.{Closed, Free, Torn, Bad}
 use Rattle.jffs_node.specs.declared.header.Head.{Head}
 use Rattle.jffs_node.specs.Laws.{IsClosedExactly}
-use Rattle.jffs_node.specs.Reading.{rules, broken_rule, byte_at, data_len, node_at, is_erased, closed_or_bad, found}
+use Rattle.jffs_node.specs.Reading.{rules, broken_rule, byte_at, data_len, data_at, node_at, is_erased, closed_or_bad, found}
 use Rattle.std.proofs.lemmas.Bool.{and_parts, or_parts, ltb-false, not-true, not-false}
 use Rattle.jffs_node.specs.Record.{numbers_hold, fits_rest, len_of_data, record_len, BeginsWith}
 use Rattle.jffs_node.specs.Header.{head_at, head_or_why}
@@ -19,6 +19,16 @@ small b h = omega arith
 
 pub below : (a b : ℕ) → a ≤ b → b < 2 ^ 32 → a < 2 ^ 32
 below a b h k = omega arith
+
+pub fits_word : (a b : ℕ) → a ≡ b → b < 2 ^ 32 → Fits w32 a
+fits_word a b e h = omega arith
+
+-- a head with the data after it is the record's node
+pub whole : (rest : List ℕ) (head : Head) (bytes : List ℕ) (len : ℕ) → head ≡ head_at rest → bytes ≡ data_at rest → len ≡ len_of_data head.amount
+    → Closed (record head.node { bytes = bytes }) len ≡ Closed (node_at rest) (len_of_data (data_len rest))
+whole rest head bytes len e all l =
+    let long : len ≡ len_of_data (data_len rest) = l ∙ ap (λ (h : Head). len_of_data h.amount) e in
+    λ i. Closed (record (e i).node { bytes = all i }) (long i)
 
 -- so is one that breaks no rule
 pub record_fits : (rest : List ℕ) (record_max : ℕ) → broken_rule record_max rest ≡ None → (len_of_data (data_len rest) ≤ record_max) × (len_of_data (data_len rest) ≤ length rest)

@@ -5,8 +5,8 @@ use Rattle.std.specs.declared.cmp.Ordering.{Ordering}
 use Rattle.std.specs.declared.cmp.Ordering.TheVariants.{Less, Equal, Greater}
 use Rattle.std.proofs.lemmas.Bool.{cases_lt, and_from, eq-eqb}
 use Rattle.std.proofs.lemmas.Option.{slice_get-get_or, get_or_from_slice_get}
-use Rattle.jffs_tree.specs.Marks.{MarkKey, Counts, mark_cmp, IsKeyAt, BelongsAt, IsPlaceWithin}
-use Rattle.jffs_tree.proofs.Places.{InOrder, mark_total, one_key, key_at, before}
+use Rattle.jffs_tree.specs.Marks.{MarkKey, Counts, mark_cmp, BelongsAt, IsPlaceWithin}
+use Rattle.jffs_tree.proofs.Places.{InOrder, mark_total, one_key, before}
 
 less : (o : Ordering) → is_lt o ≡ true → o ≡ Less
 less Less h = refl
@@ -68,10 +68,7 @@ module _ (counts : Counts) (ordered : InOrder counts) (key : MarkKey) where
     high = λ k d l m. p.high k d (omega (arith, less, l)) m;
   }
 
-  -- Where the halves meet, the key stands or belongs.
-  pub met_there : (i : ℕ) (e : MarkKey × ℕ) → slice_get counts i ≡ Some e → e.0 ≡ key → IsKeyAt counts key i
-  met_there i e at same = key_at counts i e at ∙ ap (λ (k : MarkKey). Some k) same
-
+  -- Where the halves meet and the key doesn't stand, it belongs.
   pub met_absent : (i j : ℕ) → j ≤ i → IsPlaceWithin counts key i j → ((e : MarkKey × ℕ) → slice_get counts i ≡ Some e → (eqb e.0.0.0 key.0.0 && eqb e.0.1 key.1) ≡ false) → BelongsAt counts key i
   met_absent i j met p other = record {
     within = omega (arith, p.ends.0, p.ends.1);

@@ -58,19 +58,6 @@ none_from_here p q es h = none_within p q es (all_early es h)
         (λ no. (inl (early p e.0 e.1 no), all_early xs (sym (skip_filter p e xs no) ∙ k)))
         (cases_Bool (begins_from p e))
 
-pub drop_within : (p q k : ℕ) → p ≤ k → k < q → not (leb p k && ltb k q) ≡ false
-drop_within p q k l m = ap (λ t. not (t && ltb k q)) (le-leb p k l) ∙ ap not (lt-ltb k q m)
-
--- Where none begins at q or later, the range up to q has all.
-pub none_from_there : (q : ℕ) (es : Fragments) → filter (begins_from q) es ≡ [] → [] ≡ outside 0 q es
-none_from_there q [] h = refl
-none_from_there q (e ∷ es) h = ⊎_elim
-    (λ yes. let z : e ∷ filter (begins_from q) es ≡ [] = sym (take_filter q e es yes) ∙ h in cc)
-    (λ no.
-    none_from_there q es (sym (skip_filter q e es no) ∙ h)
-    ∙ sym (ap (λ b. cond b (e ∷ outside 0 q es) (outside 0 q es)) (drop_within 0 q e.0 (omega arith) (early q e.0 e.1 no))))
-    (cases_Bool (begins_from q e))
-
 each_above : (k : ℕ) (es : Fragments) → AllByRecursion (λ y. nat_cmp k y ≡ Less) (keys_of es) → AllByRecursion (λ e. k < e.0) es
 each_above k [] h = tt
 each_above k (e ∷ es) h = (is_less k e.0 (ap is_lt h.0), each_above k es h.1)
@@ -95,6 +82,9 @@ first_too_late p q (e ∷ es) rest k f s h l = ⊎_elim
     all_later (x ∷ xs) a b = let c = a.0 in (inr (omega arith), all_later xs a.1 b)
 
 -- ---- what is left when one is taken out
+pub drop_within : (p q k : ℕ) → p ≤ k → k < q → not (leb p k && ltb k q) ≡ false
+drop_within p q k l m = ap (λ t. not (t && ltb k q)) (le-leb p k l) ∙ ap not (lt-ltb k q m)
+
 pub outside_removed : (p q k : ℕ) (es : Fragments) → p ≤ k → k < q → outside p q (remove_entry (is_at (nat_cmp k)) es) ≡ outside p q es
 outside_removed p q k [] l m = refl
 outside_removed p q k (e ∷ es) l m = ⊎_elim

@@ -1,14 +1,11 @@
-use Rattle.std.proofs.Common.{◌≡◌, ℕ, ◌+◌, ◌-◌, ◌^◌, ◌<◌, Fits, List, Result, Ok, Err, OnErr, length, take, drop, slice_range, w32, ap, sym, subst, ◌∙◌, arith}
+use Rattle.std.proofs.Common.{◌≡◌, ℕ, ◌+◌, ◌-◌, ◌<◌, List, Result, Ok, Err, OnErr, length, take, drop, slice_range, ap, sym, subst, ◌∙◌, arith}
 use Rattle.std.proofs.lemmas.List.{drop-drop}
 use Rattle.jffs_node.specs.declared.header.Head.{Head}
-use Rattle.jffs_node.specs.declared.read.Read.TheVariants.{Closed}
 use Rattle.jffs_node.specs.Record.{len_of_data}
-use Rattle.jffs_node.specs.Reading.{data_len, data_at, node_at}
+use Rattle.jffs_node.specs.Reading.{data_at}
 use Rattle.jffs_node.specs.Header.{head_at}
+use Rattle.jffs_node.proofs.Decoded.{fits_word, whole}
 use Rattle.jffs_node.proofs.sharing.with_shared_data.Goals as goal
-
-fits_word : (a b : ℕ) → a ≡ b → b < 2 ^ 32 → Fits w32 a
-fits_word a b e h = omega arith
 
 pub overflow_cast-result : goal.overflow_cast-result
 overflow_cast-result c = fits_word _ _ (c.len_with_data.ensures ∙ ap (λ (h : Head). len_of_data h.amount) c.requires.head) c.requires.short
@@ -18,13 +15,6 @@ part_is : (sector : List ℕ) (at : ℕ) (head : Head) → head ≡ head_at (dro
 part_is sector at head e =
     let k : (at + 64 + head.amount) - (at + 64) ≡ head.amount = omega arith in
     ap (λ j. take j (drop (at + 64) sector)) k ∙ ap (take head.amount) (sym (drop-drop 64 at sector)) ∙ ap (λ (h : Head). take h.amount (drop 64 (drop at sector))) e
-
--- a head with the data after it is the record's node
-whole : (rest : List ℕ) (head : Head) (bytes : List ℕ) (len : ℕ) → head ≡ head_at rest → bytes ≡ data_at rest → len ≡ len_of_data head.amount
-    → Closed (record head.node { bytes = bytes }) len ≡ Closed (node_at rest) (len_of_data (data_len rest))
-whole rest head bytes len e all l =
-    let long : len ≡ len_of_data (data_len rest) = l ∙ ap (λ (h : Head). len_of_data h.amount) e in
-    λ i. Closed (record (e i).node { bytes = all i }) (long i)
 
 if_refused : {A E P : Type 0} → (r : Result A E) → P → OnErr r P
 if_refused (Ok a) p = tt

@@ -306,15 +306,16 @@ pub(crate) fn take_out(fragments: &mut Fragments, from: u32, to: u32, inode: u32
     }
 }
 
-/// Takes all fragments out, and their marks: one walk does, and no fragment is searched for.
+/// Takes all fragments out, and their marks, the first one first: none is searched for.
 fn take_all(fragments: &mut Fragments, inode: u32, marks: &mut Marks)
     requires short { AreShort fragments.old.entries }
     requires marked { HasAmounts marks.old inode fragments.old.entries }
     ensures left { fragments.new.entries ≡ [] }
     ensures moved { MovesAmounts marks.old marks.new inode fragments.old.entries [] }
 {
-    lower_all(fragments, inode, marks);
-    fragments.clear();
+    while let Some(gone) = fragments.pop_first() {
+        marks.lower(gone.writer, inode, gone.len());
+    }
 }
 
 /// Takes the fragment out that begins at an offset, and its marks.

@@ -1,6 +1,6 @@
 //! The fragments of a file, found by their offsets.
 
-ghost use Rattle.std.specs.Prelude.{◌≡◌, ◌+◌, ◌≤◌, ◌++◌, ◌∷◌, [], length, Some, is_some};
+ghost use Rattle.std.specs.Prelude.{◌≡◌, ℕ, ◌+◌, ◌≤◌, ◌++◌, ◌∷◌, [], length, Some, is_some};
 ghost use Rattle.std.specs.Prelude.{OnOk, OnErr, IfOk, IfSome, IfNone, if◌then◌else◌};
 ghost use Rattle.std.specs.Option.{option_copied};
 ghost use Rattle.std.specs.BTreeMap.{insert_entry, is_at};
@@ -110,11 +110,16 @@ impl Fragments {
         self.map.remove(&Reverse(first))
     }
 
-    /// Takes all fragments out.
-    pub(crate) fn clear(&mut self)
-        ensures { self.new.entries ≡ [] }
+    /// Takes the first fragment out, and returns it: no offset is searched for.
+    pub(crate) fn pop_first(&mut self) -> Option<Fragment>
+        ensures first { IfSome result
+            (λ f. (first : ℕ) × (self.old.entries ≡ (first, f) ∷ self.new.entries)) }
+        ensures none { IfNone result (self.old.entries ≡ []) }
+        ensures len { length self.new.entries + (if is_some result then 1 else 0)
+            ≡ length self.old.entries }
     {
-        self.map.clear();
+        let (_, first) = self.map.pop_last()?;
+        Some(first)
     }
 
     /// The last fragment that begins at an offset or before it.

@@ -80,7 +80,7 @@ fn records_are_read_alike_with_their_data_copied_and_shared(rt: HostRuntime) -> 
 /// The node of the closed record at this position.
 fn shared_at(sector: &Bytes, at: usize) -> Result<Node, Fail> {
     if at > sector.len() {
-        return Err("behind the sector".into());
+        return Err("after the sector".into());
     }
     match decode_shared(sector, at, RECORD_MAX)? {
         Read::Closed(node, _) => Ok(node),

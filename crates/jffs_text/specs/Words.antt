@@ -2,6 +2,7 @@
 use Rattle.std.specs.Prelude.{ℕ, Bool, List, ◌==◌}
 use Rattle.std.specs.List.{count_by}
 
+-- a byte is a space
 abbrev pub is_space : ℕ → Bool
 is_space byte = byte == 32
 

@@ -6,7 +6,10 @@ ghost use Rattle.std.specs.Iterator.{YieldsFirstRef, item_count};
 ghost use Rattle.jffs_text.specs.Lines.{is_newline, line_len, lines_of, lines_left};
 
 /// How many bytes are searched for a newline at a time.
-const STEP: usize = 32;
+const BLOCK: usize = 32;
+
+/// How many of the bytes before the end of a line, or of a short one, are.
+const PART: usize = 8;
 
 /// The lines of a text that are still to come: what stands before each newline, and what stands
 /// after the last, even where that is nothing.
@@ -50,11 +53,17 @@ fn line_end(text: &[u8]) -> usize
     ensures { result ≡ line_len text.now }
 {
     let mut end = 0;
-    'steps: while text.len() - end >= STEP {
-        if !is_in_line(&text[end..end + STEP]) {
+    'steps: while text.len() - end >= BLOCK {
+        if !has_no_newline(&text[end..end + BLOCK]) {
             break;
         }
-        end += STEP;
+        end += BLOCK;
+    }
+    'parts: while text.len() - end >= PART {
+        if !has_no_newline(&text[end..end + PART]) {
+            break;
+        }
+        end += PART;
     }
     'bytes: while end < text.len() && text[end] != b'\n' {
         end += 1;
@@ -64,7 +73,7 @@ fn line_end(text: &[u8]) -> usize
 
 /// Whether no newline is among some bytes. There is no early exit, so that the compiler looks at
 /// many of them at once.
-fn is_in_line(bytes: &[u8]) -> bool
+fn has_no_newline(bytes: &[u8]) -> bool
     ensures { result ≡ list_all (λ b. not (is_newline b)) bytes.now }
 {
     let mut inside = true;

@@ -4,7 +4,7 @@ use Rattle.std.proofs.lemmas.Bool.{cases_Bool, cases_lt, eq-eqb}
 use Rattle.std.proofs.lemmas.List.{get_or-drop, get_or-take}
 use Rattle.std.proofs.lemmas.List.Folds.{list_all_at}
 use Rattle.std.proofs.lemmas.List.Sums.{position_or_len_is}
-use Rattle.jffs_text.specs.Lines.{is_newline}
+use Rattle.jffs_text.specs.Lines.{is_newline, IsInLine}
 use Rattle.jffs_text.proofs.lines.line_end.Goals as goal
 
 -- None of a part of a line's bytes is a newline.
@@ -22,22 +22,25 @@ none_in_part text end n k all low high within = ⊎_elim
     (λ no. no)
     (cases_Bool (is_newline (get_or text k 0)))
 
+-- No newline stands before the end, nor in the part of n bytes behind it: none stands before that part's end.
+longer : (text : List ℕ) (end n m : ℕ) → m ≡ n → IsInLine text end → end + n ≤ length text → list_all (λ b. not (is_newline b)) (take m (drop end text)) ≡ true → IsInLine text (end + n)
+longer text end n m e was fits all = record {
+  within = fits;
+  before = λ k below. ⊎_elim
+      (λ early. was.before k early)
+      (λ late. none_in_part text end m k all late (omega arith) (omega arith))
+      (cases_lt k end);
+}
+
 pub steps-preserved : goal.steps-preserved
 steps-preserved c =
-    let text = c.args.text.now in
-    let end = c.steps.end in
-    let is = c.is_in_line.ensures in
-    let test = c.steps-test.true in
-    let long : end + 32 - end ≡ 32 = omega arith in
-    let all : list_all (λ b. not (is_newline b)) (take 32 (drop end text)) ≡ true =
-    ap (λ n. list_all (λ b. not (is_newline b)) (take n (drop end text))) (sym long) ∙ sym is ∙ c.if-not-is_in_line.false in
-    record {
-      within = omega arith;
-      before = λ k below. ⊎_elim
-          (λ early. c.steps.invariant.before k early)
-          (λ late. none_in_part text end 32 k all late below (omega arith))
-          (cases_lt k end);
-    }
+    let fits = c.steps-test.true in
+    longer c.args.text.now c.steps.end 32 _ (omega arith) c.steps.invariant (omega arith) (sym c.has_no_newline.ensures ∙ c.if-not-has_no_newline.false)
+
+pub parts-preserved : goal.parts-preserved
+parts-preserved c =
+    let fits = c.parts-test.true in
+    longer c.args.text.now c.parts.end 8 _ (omega arith) c.parts.invariant (omega arith) (sym c.has_no_newline-in-parts.ensures ∙ c.if-not-has_no_newline-2.false)
 
 pub returns-else-text-end-ne10 : goal.returns-else-text-end-ne10
 returns-else-text-end-ne10 c =

@@ -1,18 +1,18 @@
 //! Fragments: the ranges of a file's bytes that nodes wrote.
 
-ghost use Rattle.std.specs.Prelude.{◌≡◌, ◌≤◌, ◌<◌, ◌+◌, ◌==◌, ℕ, length, [], true, Some};
-ghost use Rattle.std.specs.Prelude.{OnOk, OnErr, IfOk, IsSome, IfSome, IfNone, if◌then◌else◌};
-ghost use Rattle.std.specs.BTreeMap.{insert_entry, is_at};
-ghost use Rattle.std.specs.Map.{remove_entry};
+ghost use Rattle.std.specs.Prelude.{◌≡◌, ◌≤◌, ◌<◌, ◌+◌, ◌==◌, ℕ, length, Some};
+ghost use Rattle.std.specs.Prelude.{OnOk, OnErr, IfOk, IfSome, IfNone, if◌then◌else◌};
+ghost use Rattle.std.specs.BTreeMap.{insert_entry};
 ghost use Rattle.std.specs.Option.{option_map_or};
 ghost use Rattle.std.specs.Ordering.{nat_cmp};
 ghost use Rattle.jffs_node.specs.Record.{file_max};
 ghost use Rattle.jffs_tree.specs.Marks.{mark_of, brought_by};
 ghost use Rattle.jffs_tree.specs.Fragments.{AreLaid, AreCut, AreShort, FitsFile, IsFileAfter};
-ghost use Rattle.jffs_tree.specs.Fragments.{SameCells, HasAmounts, MovesAmounts, end_of, outside};
+ghost use Rattle.jffs_tree.specs.Fragments.{SameCells, HasAmounts, end_of};
 ghost use Rattle.jffs_tree.specs.Fragments.{get, overwritten, amount_by, part_by};
 
 use crate::fragment_map::Fragments;
+use crate::leaving::take_out;
 use crate::marks::Marks;
 use jffs_node::{Bytes, FILE_MAX, Node, shared};
 use std::alloc::AllocError;
@@ -274,66 +274,6 @@ pub(crate) fn make_cuts(
     Ok(())
 }
 
-/// The first offset, from one on and before another, at which a fragment begins.
-pub(crate) fn first_between(fragments: &Fragments, from: u32, to: u32) -> Option<u32>
-    ensures there { IfSome result
-        (λ first. (f : Fragment) × (get nat_cmp fragments.now first ≡ Some f) × (from ≤ first)
-        × (first < to)) }
-    ensures least { IfSome result
-        (λ first. outside from first fragments.now.entries ≡ fragments.now.entries) }
-    ensures none { IfNone result (outside from to fragments.now.entries ≡ fragments.now.entries) }
-{
-    let Some((first, _)) = fragments.first_from(from) else {
-        return None;
-    };
-    if first < to { Some(first) } else { None }
-}
-
-/// Takes the fragments out that begin from an offset on and before another, and their marks.
-pub(crate) fn take_out(fragments: &mut Fragments, from: u32, to: u32, inode: u32, marks: &mut Marks)
-    requires short { AreShort fragments.old.entries }
-    requires marked { HasAmounts marks.old inode fragments.old.entries }
-    ensures left { fragments.new.entries ≡ outside from to fragments.old.entries }
-    ensures moved { MovesAmounts marks.old marks.new inode fragments.old.entries
-        fragments.new.entries }
-{
-    if from == 0 && fragments.first_from(to).is_none() {
-        take_all(fragments, inode, marks);
-        return;
-    }
-    while let Some(first) = first_between(fragments, from, to) {
-        take_one(fragments, first, inode, marks);
-    }
-}
-
-/// Takes all fragments out, and their marks, the first one first: none is searched for.
-fn take_all(fragments: &mut Fragments, inode: u32, marks: &mut Marks)
-    requires short { AreShort fragments.old.entries }
-    requires marked { HasAmounts marks.old inode fragments.old.entries }
-    ensures left { fragments.new.entries ≡ [] }
-    ensures moved { MovesAmounts marks.old marks.new inode fragments.old.entries [] }
-{
-    while let Some(gone) = fragments.pop_first() {
-        marks.lower(gone.writer, inode, gone.len());
-    }
-}
-
-/// Takes the fragment out that begins at an offset, and its marks.
-fn take_one(fragments: &mut Fragments, first: u32, inode: u32, marks: &mut Marks)
-    requires short { AreShort fragments.old.entries }
-    requires marked { HasAmounts marks.old inode fragments.old.entries }
-    requires there { IsSome (get nat_cmp fragments.old first) }
-    ensures left { fragments.new.entries
-        ≡ remove_entry (is_at (nat_cmp first)) fragments.old.entries }
-    ensures fewer { length fragments.new.entries < length fragments.old.entries }
-    ensures moved { MovesAmounts marks.old marks.new inode fragments.old.entries
-        fragments.new.entries }
-{
-    if let Some(gone) = fragments.remove(first) {
-        marks.lower(gone.writer, inode, gone.len());
-    }
-}
-
 /// The fragment of a node's data, which it shares. `AllocError` where no owner more can be counted.
 pub(crate) fn fragment_of(node: &Node) -> Result<Fragment, AllocError>
     ensures { IfOk result
@@ -414,15 +354,4 @@ pub(crate) fn overwrite(
     }
     take_out(fragments, node.offset + 1, end, node.inode, marks);
     Ok(())
-}
-
-/// Takes the marks of all fragments of an inode away, and leaves the fragments.
-pub(crate) fn lower_all(fragments: &Fragments, inode: u32, marks: &mut Marks)
-    requires short { AreShort fragments.now.entries }
-    requires marked { HasAmounts marks.old inode fragments.now.entries }
-    ensures { MovesAmounts marks.old marks.new inode fragments.now.entries [] }
-{
-    for (_, fragment) in fragments.from_last() {
-        marks.lower(fragment.writer, inode, fragment.len());
-    }
 }

@@ -11,8 +11,9 @@ ghost use Rattle.jffs_tree.specs.Marks.{LosesByteMarks};
 ghost use Rattle.jffs_tree.specs.Check.{bytes_are_written};
 ghost use Rattle.jffs_tree.specs.Decide.{is_current};
 
-use crate::fragment::{lower_all, write_over};
+use crate::fragment::write_over;
 use crate::fragment_map::Fragments;
+use crate::leaving::lower_all;
 use crate::marks::Marks;
 use crate::piece::{are_whole, copy_piece, writer_at};
 use jffs_node::{Bytes, Kind, Name, Node};

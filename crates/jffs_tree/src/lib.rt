@@ -20,6 +20,7 @@ mod fragment_map;
 mod inode;
 mod inodes;
 mod laws;
+mod leaving;
 mod look;
 mod marks;
 mod names;

@@ -1,5 +1,5 @@
 use Rattle.jffs_tree.specs.Fragments.{AreShort, MovesAmounts, ascending}
-use Rattle.jffs_tree.proofs.fragment.lower_all.Given as goal
+use Rattle.jffs_tree.proofs.leaving.lower_all.Given as goal
 
 -- the fragments that are left, and the marks that are left for them
 abbrev pub invariant-loop-fragment : goal.invariant-loop-fragment

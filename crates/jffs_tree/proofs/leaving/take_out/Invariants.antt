@@ -1,6 +1,6 @@
 use Rattle.std.proofs.Common.{◌≡◌, length}
 use Rattle.jffs_tree.specs.Fragments.{AreShort, MovesAmounts, outside}
-use Rattle.jffs_tree.proofs.fragment.take_out.Given as goal
+use Rattle.jffs_tree.proofs.leaving.take_out.Given as goal
 
 abbrev pub invariant-loop-first : goal.invariant-loop-first
 invariant-loop-first l = record {

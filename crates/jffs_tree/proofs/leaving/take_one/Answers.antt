@@ -4,7 +4,7 @@ use Rattle.std.specs.BTreeMap.{is_at}
 use Rattle.jffs_tree.specs.Marks.{mark_of}
 use Rattle.jffs_tree.specs.Fragments.{part_by, amount_by}
 use Rattle.jffs_tree.proofs.Taking.{short_found, part_of_all, amount_removed, one_moved}
-use Rattle.jffs_tree.proofs.fragment.take_one.Goals as goal
+use Rattle.jffs_tree.proofs.leaving.take_one.Goals as goal
 
 pub len-requires : goal.len-requires
 len-requires c = short_found (is_at (nat_cmp c.args.first)) c.args.fragments.now.entries c.in-Some.gone c.requires.short (sym c.remove.ensures.value ∙ c.in-Some.is)

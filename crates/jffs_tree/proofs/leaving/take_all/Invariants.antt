@@ -1,6 +1,6 @@
 use Rattle.std.proofs.Common.{length}
 use Rattle.jffs_tree.specs.Fragments.{AreShort, MovesAmounts}
-use Rattle.jffs_tree.proofs.fragment.take_all.Given as goal
+use Rattle.jffs_tree.proofs.leaving.take_all.Given as goal
 
 -- the fragments that are left, and the marks that are left for them
 abbrev pub invariant-loop-gone : goal.invariant-loop-gone

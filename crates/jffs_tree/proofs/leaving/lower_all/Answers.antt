@@ -7,7 +7,7 @@ use Rattle.jffs_tree.specs.Fragments.{Fragments, AreShort, ascending, part_by, a
 use Rattle.jffs_tree.proofs.Reversed.{Late}
 use Rattle.jffs_tree.proofs.Splitting.{amount_append, amount_cons}
 use Rattle.jffs_tree.proofs.Taking.{one_moved, still_marked}
-use Rattle.jffs_tree.proofs.fragment.lower_all.Goals as goal
+use Rattle.jffs_tree.proofs.leaving.lower_all.Goals as goal
 
 pub loop-fragment-init : goal.loop-fragment-init
 loop-fragment-init c =

@@ -1,4 +1,5 @@
 pub mod Adding
+mod InLine
 mod InOrder
 pub mod Told
 mod Hex

@@ -1,5 +1,5 @@
 -- The lines of a text.
-use Rattle.std.specs.Prelude.{◌≡◌, ℕ, ◌<◌, ◌≤◌, Bool, false, List, [], ◌==◌, length, get_or}
+use Rattle.std.specs.Prelude.{ℕ, Bool, List, [], ◌==◌}
 use Rattle.std.specs.List.{slice_split, position_or_len}
 use Rattle.std.specs.Option.{option_map_or}
 use Rattle.jffs_text.specs.declared.lines.Lines.{Lines}
@@ -11,11 +11,6 @@ is_newline byte = byte == 10
 -- how many bytes stand before the first newline, or in all
 abbrev pub line_len : List ℕ → ℕ
 line_len text = position_or_len is_newline text
-
--- no newline is among the first bytes
-pub record IsInLine (text : List ℕ) (n : ℕ) : Type 0 where
-  pub within : n ≤ length text
-  pub before : (k : ℕ) → k < n → is_newline (get_or text k 0) ≡ false
 
 -- what stands before each newline, and what stands after the last, even where that is nothing
 abbrev pub lines_of : List ℕ → List (List ℕ)

@@ -8,7 +8,7 @@ ghost use Rattle.jffs_text.specs.Lines.{is_newline, line_len, lines_of, lines_le
 /// How many bytes are searched for a newline at a time.
 const BLOCK: usize = 32;
 
-/// How many of the bytes before the end of a line, or of a short one, are.
+/// How many are searched at a time where fewer are left, or a newline is among them.
 const PART: usize = 8;
 
 /// The lines of a text that are still to come: what stands before each newline, and what stands

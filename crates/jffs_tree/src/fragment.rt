@@ -8,7 +8,7 @@ ghost use Rattle.std.specs.Ordering.{nat_cmp};
 ghost use Rattle.jffs_node.specs.Record.{file_max};
 ghost use Rattle.jffs_tree.specs.Marks.{mark_of, brought_by};
 ghost use Rattle.jffs_tree.specs.Fragments.{AreLaid, AreCut, AreShort, FitsFile, IsFileAfter};
-ghost use Rattle.jffs_tree.specs.Fragments.{SameCells, HasAmounts, end_of};
+ghost use Rattle.jffs_tree.specs.Fragments.{SameCells, HasAmounts, end_of, outside};
 ghost use Rattle.jffs_tree.specs.Fragments.{get, overwritten, amount_by, part_by};
 
 use crate::fragment_map::Fragments;
@@ -272,6 +272,21 @@ pub(crate) fn make_cuts(
         split_at(fragments, size, stated)?;
     }
     Ok(())
+}
+
+/// The first offset, from one on and before another, at which a fragment begins.
+pub(crate) fn first_between(fragments: &Fragments, from: u32, to: u32) -> Option<u32>
+    ensures there { IfSome result
+        (λ first. (f : Fragment) × (get nat_cmp fragments.now first ≡ Some f) × (from ≤ first)
+        × (first < to)) }
+    ensures least { IfSome result
+        (λ first. outside from first fragments.now.entries ≡ fragments.now.entries) }
+    ensures none { IfNone result (outside from to fragments.now.entries ≡ fragments.now.entries) }
+{
+    let Some((first, _)) = fragments.first_from(from) else {
+        return None;
+    };
+    if first < to { Some(first) } else { None }
 }
 
 /// The fragment of a node's data, which it shares. `AllocError` where no owner more can be counted.

@@ -7,23 +7,9 @@ ghost use Rattle.std.specs.Ordering.{nat_cmp};
 ghost use Rattle.jffs_tree.specs.Fragments.{AreShort, HasAmounts, MovesAmounts, outside, get};
 ghost use Rattle.jffs_tree.specs.declared.fragment.Fragment.{Fragment};
 
+use crate::fragment::first_between;
 use crate::fragment_map::Fragments;
 use crate::marks::Marks;
-
-/// The first offset, from one on and before another, at which a fragment begins.
-pub(crate) fn first_between(fragments: &Fragments, from: u32, to: u32) -> Option<u32>
-    ensures there { IfSome result
-        (λ first. (f : Fragment) × (get nat_cmp fragments.now first ≡ Some f) × (from ≤ first)
-        × (first < to)) }
-    ensures least { IfSome result
-        (λ first. outside from first fragments.now.entries ≡ fragments.now.entries) }
-    ensures none { IfNone result (outside from to fragments.now.entries ≡ fragments.now.entries) }
-{
-    let Some((first, _)) = fragments.first_from(from) else {
-        return None;
-    };
-    if first < to { Some(first) } else { None }
-}
 
 /// Takes the fragments out that begin from an offset on and before another, and their marks.
 pub(crate) fn take_out(fragments: &mut Fragments, from: u32, to: u32, inode: u32, marks: &mut Marks)
@@ -42,7 +28,8 @@ pub(crate) fn take_out(fragments: &mut Fragments, from: u32, to: u32, inode: u32
     }
 }
 
-/// Takes all fragments out, and their marks, the first one first: none is searched for.
+/// Takes all fragments out, and their marks, the first one first: none is searched for. The map
+/// isn't cleared, which would free its last block: the file's next write asks for no memory there.
 fn take_all(fragments: &mut Fragments, inode: u32, marks: &mut Marks)
     requires short { AreShort fragments.old.entries }
     requires marked { HasAmounts marks.old inode fragments.old.entries }

@@ -124,7 +124,7 @@ impl Marks {
             return Err(0);
         }
         // Versions mostly follow one another and have one entry each: then it stands here. Where
-        // spent ones were dropped it stands before that; all may be newer where the last is met.
+        // spent ones were dropped it stands before that; where that is the last one, all may be newer.
         let key = (Reverse(version), inode);
         let len = self.counts.len();
         let guess = ((newest - version) as usize).min(len - 1);

@@ -9,9 +9,8 @@ ghost use Rattle.jffs_node.specs.Record.{file_max};
 ghost use Rattle.jffs_tree.specs.Fragments.{AreLaid, NoneHolds, Says, get, laid, end_of};
 ghost use Rattle.jffs_tree.specs.Fragments.{writer_of};
 
-use crate::fragment::Fragment;
+use crate::fragment::{Fragment, first_between};
 use crate::fragment_map::Fragments;
-use crate::leaving::first_between;
 
 /// Copies what stands from an offset on into the front of a slice, as far as one fragment or one
 /// hole goes, and returns how many bytes that are.

@@ -4,7 +4,8 @@ use Rattle.std.proofs.lemmas.Bool.{cases_Bool, cases_lt, eq-eqb}
 use Rattle.std.proofs.lemmas.List.{get_or-drop, get_or-take}
 use Rattle.std.proofs.lemmas.List.Folds.{list_all_at}
 use Rattle.std.proofs.lemmas.List.Sums.{position_or_len_is}
-use Rattle.jffs_text.specs.Lines.{is_newline, IsInLine}
+use Rattle.jffs_text.specs.Lines.{is_newline}
+use Rattle.jffs_text.proofs.InLine.{IsInLine}
 use Rattle.jffs_text.proofs.lines.line_end.Goals as goal
 
 -- None of a part of a line's bytes is a newline.
@@ -22,7 +23,7 @@ none_in_part text end n k all low high within = ⊎_elim
     (λ no. no)
     (cases_Bool (is_newline (get_or text k 0)))
 
--- No newline stands before the end, nor in the part of n bytes behind it: none stands before that part's end.
+-- No newline stands before the end, nor in the part of n bytes after it: none stands before that part's end.
 longer : (text : List ℕ) (end n m : ℕ) → m ≡ n → IsInLine text end → end + n ≤ length text → list_all (λ b. not (is_newline b)) (take m (drop end text)) ≡ true → IsInLine text (end + n)
 longer text end n m e was fits all = record {
   within = fits;

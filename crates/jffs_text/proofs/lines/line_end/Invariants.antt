@@ -1,5 +1,5 @@
 use Rattle.std.proofs.Common.{◌-◌, length}
-use Rattle.jffs_text.specs.Lines.{IsInLine}
+use Rattle.jffs_text.proofs.InLine.{IsInLine}
 use Rattle.jffs_text.proofs.lines.line_end.Given as goal
 
 abbrev pub invariant-steps : goal.invariant-steps

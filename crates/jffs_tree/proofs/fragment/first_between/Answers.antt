@@ -1,6 +1,6 @@
 use Rattle.std.proofs.Common.{arith}
 use Rattle.jffs_tree.proofs.Taking.{none_from_here, first_too_late}
-use Rattle.jffs_tree.proofs.leaving.first_between.Goals as goal
+use Rattle.jffs_tree.proofs.fragment.first_between.Goals as goal
 
 pub returns-in_default-clause-none : goal.returns-in_default-clause-none
 returns-in_default-clause-none c = none_from_here c.args.from c.args.to c.args.fragments.now.entries c.in_default.ensures.none

@@ -3,7 +3,7 @@ use Rattle.std.proofs.Common.{◌≡◌, ℕ, ◌+◌, ◌<◌, ◌≤◌, Bool,
 use Rattle.std.specs.Ordering.{is_eq, is_lt}
 use Rattle.std.specs.declared.cmp.Ordering.{Ordering}
 use Rattle.std.specs.declared.cmp.Ordering.TheVariants.{Less, Equal, Greater}
-use Rattle.std.proofs.lemmas.Bool.{cases_lt, and_from, eq-eqb}
+use Rattle.std.proofs.lemmas.Bool.{cases_lt, and_from, eq-eqb, false_from_ne_true}
 use Rattle.std.proofs.lemmas.Option.{slice_get-get_or, get_or_from_slice_get}
 use Rattle.jffs_tree.specs.Marks.{MarkKey, Counts, mark_cmp, BelongsAt, IsPlaceWithin}
 use Rattle.jffs_tree.proofs.Places.{InOrder, mark_total, one_key, before}
@@ -20,10 +20,6 @@ greater Greater h e = refl
 
 pub never : (b : Bool) → b ≡ true → b ≡ false → ⊥
 never b x y = let same = sym x ∙ y in cc
-
-not_true : (b : Bool) → (b ≡ true → ⊥) → b ≡ false
-not_true true h = absurd (h refl)
-not_true false h = refl
 
 module _ (counts : Counts) (ordered : InOrder counts) (key : MarkKey) where
   before_too : (i j : ℕ) (a b : MarkKey × ℕ) → slice_get counts i ≡ Some a → slice_get counts j ≡ Some b → i < j → is_lt (mark_cmp b.0 key) ≡ true → is_lt (mark_cmp a.0 key) ≡ true
@@ -53,19 +49,12 @@ module _ (counts : Counts) (ordered : InOrder counts) (key : MarkKey) where
     ends = (start, omega (arith, within, p.ends.1));
     low = p.low;
     high = λ k d l m. ⊎_elim
-        (λ above. not_true (is_lt (mark_cmp (get_or counts k d).0 key))
+        (λ above. false_from_ne_true (is_lt (mark_cmp (get_or counts k d).0 key))
         (λ is. never (is_lt (mark_cmp e.0 key)) (before_too mid k e (get_or counts k d) at (slice_get-get_or counts k d m) above is) h))
         (λ below. let same : k ≡ mid = omega (arith, below, l) in
         let read = get_or_from_slice_get counts k e d (subst (λ n. slice_get counts n ≡ Some e) (sym same) at) in
         subst (λ (x : MarkKey × ℕ). is_lt (mark_cmp x.0 key) ≡ false) (sym read) h)
         (cases_lt mid k);
-  }
-
-  pub wider : (from to more : ℕ) → IsPlaceWithin counts key from to → to ≤ more → more ≤ length counts → IsPlaceWithin counts key from more
-  wider from to more p less short = record {
-    ends = (omega (arith, p.ends.0, less), short);
-    low = p.low;
-    high = λ k d l m. p.high k d (omega (arith, less, l)) m;
   }
 
   -- Where the halves meet and the key doesn't stand, it belongs.
@@ -74,7 +63,7 @@ module _ (counts : Counts) (ordered : InOrder counts) (key : MarkKey) where
     within = omega (arith, p.ends.0, p.ends.1);
     between = (
       λ k d l m. less (mark_cmp (get_or counts k d).0 key) (p.low k d l m),
-      λ k d l m. greater (mark_cmp (get_or counts k d).0 key) (high k d l m) (not_true (is_eq (mark_cmp (get_or counts k d).0 key)) (apart k d l m)),
+      λ k d l m. greater (mark_cmp (get_or counts k d).0 key) (high k d l m) (false_from_ne_true (is_eq (mark_cmp (get_or counts k d).0 key)) (apart k d l m)),
     );
   }
     where

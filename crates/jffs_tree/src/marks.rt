@@ -123,8 +123,9 @@ impl Marks {
         if newest < version {
             return Err(0);
         }
-        // Versions mostly follow one another and have one entry each: then it stands here. Where
-        // spent ones were dropped it stands before that; where that is the last one, all may be newer.
+        // Versions mostly follow one another and have one entry each: then it stands at the guess.
+        // Where spent ones were dropped, it stands before. Where the guess is the last entry, all
+        // may be newer.
         let key = (Reverse(version), inode);
         let len = self.counts.len();
         let guess = ((newest - version) as usize).min(len - 1);
@@ -147,12 +148,14 @@ impl Marks {
         ensures kept { AreKept self.now }
     {
         let mut from = first;
-        let mut size = end - first;
-        // A factor of 0 or 1 in place of a branch, which no processor would foresee.
-        'halves: while size > 0 {
-            let half = size - size / 2;
-            from += half * usize::from(is_before(self.counts[from + half - 1].0, key));
-            size -= half;
+        let mut to = end;
+        'halves: while from < to {
+            let mid = from + (to - from) / 2;
+            if is_before(self.counts[mid].0, key) {
+                from = mid + 1;
+            } else {
+                to = mid;
+            }
         }
         let Some(entry) = self.counts.get(from) else {
             return Err(from);

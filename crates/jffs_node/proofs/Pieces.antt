@@ -1,7 +1,7 @@
 -- The pieces of a text between its slashes, and the answer that they make.
-use Rattle.std.proofs.Common.{◌≡◌, ℕ, zero, suc, ◌+◌, ◌-◌, ◌<◌, ◌≤◌, Bool, true, false, cond, not, ◌&&◌, ◌||◌, eqb, leb, ltb, IsTrue, List, [], ◌∷◌, ◌++◌, length, take, drop, get_or, Option, Some, None, Ok, refl, sym, ap, subst, ◌∙◌, ⊎_elim, append_assoc, arith, length-append, length-drop}
+use Rattle.std.proofs.Common.{◌≡◌, ℕ, zero, suc, ◌+◌, ◌-◌, ◌<◌, ◌≤◌, Bool, true, false, cond, not, ◌&&◌, ◌||◌, eqb, leb, ltb, IsTrue, List, [], ◌∷◌, ◌++◌, length, take, drop, Option, Some, None, Ok, refl, sym, ap, ◌∙◌, ⊎_elim, append_assoc, arith, length-append, length-drop}
 use Rattle.std.specs.List.{list_all, slice_split, position, position_or_len, onto_first}
-use Rattle.std.proofs.lemmas.Bool.{cases_Bool, and_from, le-leb, lt-ltb, le-ltb, eq-eqb, eqb-true, ltb-true, ltb-false, false_from_ne_true}
+use Rattle.std.proofs.lemmas.Bool.{cases_Bool, and_from, le-leb, ltb-true, ltb-false, false_from_ne_true}
 use Rattle.std.proofs.lemmas.Option.{none-some, cond_some}
 use Rattle.std.proofs.lemmas.List.{take_all}
 use Rattle.std.proofs.lemmas.List.Splits.{slice_split_first, slice_split-cons_no}
@@ -40,73 +40,6 @@ piece_before xs end h =
     slice_split_first (λ c. eqb c 47) xs 0 f.0
     ∙ ap (λ k. take k xs ∷ slice_split (λ c. eqb c 47) (drop (k + 1) xs)) f.1
     ∙ ap (λ ys. take end xs ∷ slice_split (λ c. eqb c 47) ys) (sym (take_all (length xs - (end + 1)) (drop (end + 1) xs) (omega arith)))
-
--- The first byte that no name has: all before it may stand in a name, and no slash does.
-module _ where
-  abbrev pub other : ℕ → Bool
-  other c = not (is_name_byte c)
-
-  is_no_slash : (x : ℕ) → is_name_byte x ≡ true → eqb x 47 ≡ false
-  is_no_slash x h = false_from_ne_true (eqb x 47) (λ e. never (sym (ap is_name_byte (eqb-true x 47 e)) ∙ h))
-    where
-      never : false ≡ true → ⊥
-      never e = cc
-
-  pub plain_before : (xs : List ℕ) → list_all is_name_byte (take (position_or_len other xs) xs) ≡ true
-  plain_before [] = refl
-  plain_before (x ∷ xs) = ⊎_elim
-      (λ t.
-      let e = ap (λ b. cond (not (not b)) (1 + position_or_len other xs) 0) t in
-      let a : position_or_len other (x ∷ xs) ≡ suc (position_or_len other xs) = omega (arith, e) in
-      ap (λ k. list_all is_name_byte (take k (x ∷ xs))) a ∙ and_from (is_name_byte x) (list_all is_name_byte (take (position_or_len other xs) xs)) t (plain_before xs))
-      (λ f. ap (λ b. list_all is_name_byte (take (cond (not (not b)) (1 + position_or_len other xs) 0) (x ∷ xs))) f)
-      (cases_Bool (is_name_byte x))
-
-  slash_later : (xs : List ℕ) → position_or_len other xs ≤ position_or_len (λ c. eqb c 47) xs
-  slash_later [] = omega arith
-  slash_later (x ∷ xs) = ⊎_elim
-      (λ t.
-      let a = ap (λ b. cond (not (not b)) (1 + position_or_len other xs) 0) t in
-      let b = ap (λ b. cond (not b) (1 + position_or_len (λ c. eqb c 47) xs) 0) (is_no_slash x t) in
-      let l = slash_later xs in
-      omega arith)
-      (λ f. let a = ap (λ b. cond (not (not b)) (1 + position_or_len other xs) 0) f in omega arith)
-      (cases_Bool (is_name_byte x))
-
-  slash_here : (xs : List ℕ) → get_or xs (position_or_len other xs) 0 ≡ 47 → position_or_len (λ c. eqb c 47) xs ≡ position_or_len other xs
-  slash_here [] h = refl
-  slash_here (x ∷ xs) h = ⊎_elim
-      (λ t.
-      let e = ap (λ b. cond (not (not b)) (1 + position_or_len other xs) 0) t in
-      let f = ap (λ b. cond (not b) (1 + position_or_len (λ c. eqb c 47) xs) 0) (is_no_slash x t) in
-      let a : position_or_len other (x ∷ xs) ≡ suc (position_or_len other xs) = omega (arith, e) in
-      let here = slash_here xs (sym (ap (λ k. get_or (x ∷ xs) k 0) a) ∙ h) in
-      omega (arith, e, f, here))
-      (λ f.
-      let a = ap (λ b. cond (not (not b)) (1 + position_or_len other xs) 0) f in
-      let e : x ≡ 47 = sym (ap (λ k. get_or (x ∷ xs) k 0) a) ∙ h in
-      ap (λ b. cond (not b) (1 + position_or_len (λ c. eqb c 47) xs) 0) (eq-eqb x 47 e) ∙ sym a)
-      (cases_Bool (is_name_byte x))
-
-  pub no_slash : (xs : List ℕ) → position other xs ≡ None → position (λ c. eqb c 47) xs ≡ None
-  no_slash xs h =
-      let l = slash_later xs in
-      let n = found_none (position_or_len other xs) (length xs) h in
-      ap (λ b. cond b (Some (position_or_len (λ c. eqb c 47) xs)) None) (le-ltb (position_or_len (λ c. eqb c 47) xs) (length xs) (omega arith))
-
-  pub all_plain : (xs : List ℕ) → position other xs ≡ None → list_all is_name_byte xs ≡ true
-  all_plain xs h = ap (λ ys. list_all is_name_byte ys) (sym (take_all (position_or_len other xs) xs (found_none (position_or_len other xs) (length xs) h))) ∙ plain_before xs
-
-  pub first_slash : (xs : List ℕ) (end : ℕ) → position other xs ≡ Some end → get_or xs end 0 ≡ 47 → position (λ c. eqb c 47) xs ≡ Some end
-  first_slash xs end h is =
-      let f = found_some (position_or_len other xs) (length xs) end h in
-      let here = slash_here xs (ap (λ k. get_or xs k 0) f.1 ∙ is) ∙ f.1 in
-      ap (λ k. cond (ltb k (length xs)) (Some k) None) here ∙ ap (λ b. cond b (Some end) None) (lt-ltb end (length xs) (subst (λ k. k < length xs) f.1 f.0))
-
-  pub plain_up_to : (xs : List ℕ) (end : ℕ) → position other xs ≡ Some end → list_all is_name_byte (take end xs) ≡ true
-  plain_up_to xs end h =
-      let f = found_some (position_or_len other xs) (length xs) end h in
-      ap (λ k. list_all is_name_byte (take k xs)) (sym f.1) ∙ plain_before xs
 
 -- The answer, one piece at a time.
 module _ (names : List (List ℕ)) (deep : Bool) (piece : List ℕ) (pieces : List (List ℕ)) where

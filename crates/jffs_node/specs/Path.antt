@@ -1,5 +1,5 @@
 -- The grammar of paths, and the first fault of a text that is none.
-use Rattle.std.specs.Prelude.{◌≡◌, ℕ, ◌+◌, ◌≤◌, Bool, true, ◌||◌, ◌==◌, nat_lt, List, [], ◌∷◌, ◌++◌, length}
+use Rattle.std.specs.Prelude.{ℕ, ◌+◌, ◌≤◌, Bool, ◌||◌, ◌==◌, nat_lt, List, [], ◌∷◌, ◌++◌, length}
 use Rattle.std.specs.Prelude.{Option, Some, None, Result, Ok, Err, if◌then◌else◌, IsTrue}
 use Rattle.std.specs.List.{AllByRecursion, list_all, slice_split}
 use Rattle.std.specs.Option.{option_copied}
@@ -57,10 +57,6 @@ unless_bad name (Some fault) = Err fault
 -- the name that bytes spell, or their fault
 abbrev pub named : List ℕ → Result (List ℕ) PathFault
 named bytes = unless_bad bytes (name_fault bytes)
-
--- a flag that says of bytes, where it is set, that each may stand in a name
-abbrev pub IsPlain : Bool → List ℕ → Type 0
-IsPlain plain bytes = plain ≡ true → list_all is_name_byte bytes ≡ true
 
 -- the pieces of what is left of a text, if anything is
 abbrev pub pieces_of : Option (List ℕ) → List (List ℕ)

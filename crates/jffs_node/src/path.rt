@@ -1,14 +1,13 @@
 //! Paths: the names from the root to an inode.
 
 ghost use Rattle.std.specs.Prelude.{◌≡◌, ◌≢◌, ◌<◌, ◌==◌, [], ◌∷◌, ◌++◌};
-ghost use Rattle.std.specs.Prelude.{OnOk, IfOk, Err, Some, position, length, ◌≤◌, not};
+ghost use Rattle.std.specs.Prelude.{OnOk, IfOk, Err, Some, position, length, ◌≤◌};
 ghost use Rattle.std.specs.Option.{option_copied};
 ghost use Rattle.std.specs.Result.{result_err};
 ghost use Rattle.jffs_node.specs.Path.{IsPath, path_of, path_after, named, name_fault, pieces_of};
-ghost use Rattle.jffs_node.specs.Path.{left_len, IsPlain};
-ghost use Rattle.jffs_node.specs.Name.{is_name_byte as name_byte_test};
+ghost use Rattle.jffs_node.specs.Path.{left_len};
 
-use crate::name::{NAME_MAX, Name, are_name_bytes, is_name_byte};
+use crate::name::{NAME_MAX, Name, are_name_bytes};
 use smallvec::SmallVec;
 use std::alloc::{AllocError, Global};
 use std::marker::Model;
@@ -88,9 +87,8 @@ impl Path {
         let mut names = SmallVec::new(alloc);
         let mut deep = false;
         while let Some(text) = left {
-            let piece = split_first_name(text);
-            let name = name_of(piece)?;
-            let behind = piece.left;
+            let (first, behind) = split_first_name(text);
+            let name = name_of(first)?;
             if names.len() < PATH_DEPTH_MAX {
                 add(&mut names, name)?;
             } else {
@@ -113,12 +111,12 @@ impl Path {
         let mut left = after_slash(text.as_bytes())?;
         let mut count = 0;
         while let Some(text) = left {
-            let piece = split_first_name(text);
-            if let Some(fault) = fault_in(piece) {
+            let (first, behind) = split_first_name(text);
+            if let Some(fault) = fault_in(first) {
                 return Err(fault);
             }
             count += 1;
-            left = piece.left;
+            left = behind;
         }
         if count > PATH_DEPTH_MAX {
             Err(PathFault::Deep)
@@ -170,86 +168,39 @@ fn after_slash(text: &[u8]) -> Result<Option<&[u8]>, PathFault>
     }
 }
 
-/// What stands between two slashes, or after the last.
-#[derive(Clone, Copy)]
-struct Piece<'a> {
-    bytes: &'a [u8],
-    /// What stands after its slash, if it has one.
-    left: Option<&'a [u8]>,
-    /// Whether each byte is known to be one that a name may have.
-    is_plain: bool,
-}
-
-/// The name that a piece spells, or its fault.
-fn name_of(piece: Piece<'_>) -> Result<Name, PathFault>
-    requires { IsPlain piece.is_plain piece.bytes.now }
-    ensures { result ≡ named piece.entry.bytes.now }
+/// The name that bytes spell, or their fault.
+fn name_of(bytes: &[u8]) -> Result<Name, PathFault>
+    ensures { result ≡ named bytes.now }
 {
-    match fault_in(piece) {
-        None => Ok(Name::spelled(piece.bytes)),
+    match fault_in(bytes) {
+        None => Ok(Name::spelled(bytes)),
         Some(fault) => Err(fault),
     }
 }
 
-/// Why a piece is no name, where it isn't one.
-fn fault_in(piece: Piece<'_>) -> Option<PathFault>
-    requires { IsPlain piece.is_plain piece.bytes.now }
-    ensures { result ≡ name_fault piece.entry.bytes.now }
+/// Why bytes are no name, where they aren't one.
+fn fault_in(bytes: &[u8]) -> Option<PathFault>
+    ensures { result ≡ name_fault bytes.now }
 {
-    if piece.bytes.is_empty() {
+    if bytes.is_empty() {
         Some(PathFault::NameEmpty)
-    } else if piece.bytes.len() > NAME_MAX {
+    } else if bytes.len() > NAME_MAX {
         Some(PathFault::NameLong)
-    } else if piece.is_plain || are_name_bytes(piece.bytes) {
+    } else if are_name_bytes(bytes) {
         None
     } else {
         Some(PathFault::NameByte)
     }
 }
 
-/// What stands before the first slash. The first byte that no name has is mostly that slash, or
-/// there is none: then one walk finds it and tests all bytes.
-fn split_first_name(text: &[u8]) -> Piece<'_>
-    ensures pieces { pieces_of (Some text.now)
-        ≡ result.bytes.now ∷ pieces_of (option_copied result.left) }
-    ensures shorter { left_len (option_copied result.left) < left_len (Some text.now) }
-    ensures plain { IsPlain result.is_plain result.bytes.now }
-{
-    let Some(end) = other_byte_in(text) else {
-        return Piece {
-            bytes: text,
-            left: None,
-            is_plain: true,
-        };
-    };
-    if text[end] == SLASH {
-        return Piece {
-            bytes: &text[..end],
-            left: Some(&text[end + 1..]),
-            is_plain: true,
-        };
-    }
-    split_at_slash(text)
-}
-
-/// As `split_first_name`, whatever the bytes are: the slash alone is looked for.
-fn split_at_slash(text: &[u8]) -> Piece<'_>
-    ensures pieces { pieces_of (Some text.now)
-        ≡ result.bytes.now ∷ pieces_of (option_copied result.left) }
-    ensures shorter { left_len (option_copied result.left) < left_len (Some text.now) }
-    ensures plain { IsPlain result.is_plain result.bytes.now }
+/// What stands before the first slash, and what after it if there is one.
+fn split_first_name(text: &[u8]) -> (&[u8], Option<&[u8]>)
+    ensures pieces { pieces_of (Some text.now) ≡ result.0.now ∷ pieces_of (option_copied result.1) }
+    ensures shorter { left_len (option_copied result.1) < left_len (Some text.now) }
 {
     match slash_in(text) {
-        Some(end) => Piece {
-            bytes: &text[..end],
-            left: Some(&text[end + 1..]),
-            is_plain: false,
-        },
-        None => Piece {
-            bytes: text,
-            left: None,
-            is_plain: false,
-        },
+        Some(end) => (&text[..end], Some(&text[end + 1..])),
+        None => (text, None),
     }
 }
 
@@ -258,11 +209,4 @@ fn slash_in(text: &[u8]) -> Option<usize>
     ensures { result ≡ position (λ c. c == 47) text.now }
 {
     text.iter().position(|byte| *byte == SLASH)
-}
-
-/// Where the first byte stands that no name has, if there is one.
-fn other_byte_in(text: &[u8]) -> Option<usize>
-    ensures { result ≡ position (λ c. not (name_byte_test c)) text.now }
-{
-    text.iter().position(|byte| !is_name_byte(*byte))
 }

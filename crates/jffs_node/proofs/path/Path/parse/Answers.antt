@@ -8,8 +8,8 @@ use Rattle.jffs_node.proofs.path.Path.parse.Goals as goal
 pub loop-left-preserved-in_ok-add : goal.loop-left-preserved-in_ok-add
 loop-left-preserved-in_ok-add c =
     let names = c.loop-left.names.items in
-    let piece = c.split_first_name-piece.result.bytes.now in
-    let pieces = pieces_of (option_copied c.split_first_name-piece.result.left) in
+    let piece = c.split_first_name.result.0.now in
+    let pieces = pieces_of (option_copied c.split_first_name.result.1) in
     let was = c.loop-left.invariant in
     let read = named_read piece _ c.in_ok-name.ensures in
     let items : c.add.new.names.items ≡ names ++ piece ∷ [] = c.in_ok-add.ensures ∙ ap (λ (n : List ℕ). names ++ n ∷ []) read.1 in
@@ -19,7 +19,7 @@ loop-left-preserved-in_ok-add c =
       same =
           was.same
           ∙ ap (λ o. answer_after names c.loop-left.deep (pieces_of (option_copied o))) c.in-Some.is
-          ∙ ap (λ (xs : List (List ℕ)). answer_after names c.loop-left.deep xs) c.split_first_name-piece.ensures.pieces
+          ∙ ap (λ (xs : List (List ℕ)). answer_after names c.loop-left.deep xs) c.split_first_name.ensures.pieces
           ∙ answer_name names c.loop-left.deep piece pieces read.0
           ∙ ap (λ (xs : List (List ℕ)). answer_after xs c.loop-left.deep pieces) (sym items);
       lawful = subst (λ (ns : List (List ℕ)). IsPath ns) (sym items) (path_more names piece was.lawful short read.0);

@@ -1,6 +1,6 @@
 //! The lines of a text.
 
-ghost use Rattle.std.specs.Prelude.{◌≡◌, ◌+◌, ◌≤◌, length, not};
+ghost use Rattle.std.specs.Prelude.{◌≡◌, ◌+◌, ◌<◌, ◌≤◌, length, not};
 ghost use Rattle.std.specs.List.{list_all};
 ghost use Rattle.std.specs.Iterator.{YieldsFirstRef, item_count};
 ghost use Rattle.jffs_text.specs.Lines.{is_newline, line_len, lines_of, lines_left};
@@ -8,7 +8,7 @@ ghost use Rattle.jffs_text.specs.Lines.{is_newline, line_len, lines_of, lines_le
 /// How many bytes are searched for a newline at a time.
 const BLOCK: usize = 32;
 
-/// How many are searched at a time where fewer are left, or a newline is among them.
+/// How many after that, where fewer than a block are left or the block has a newline.
 const PART: usize = 8;
 
 /// The lines of a text that are still to come: what stands before each newline, and what stands
@@ -52,21 +52,27 @@ impl<'a> Iterator for Lines<'a> {
 fn line_end(text: &[u8]) -> usize
     ensures { result ≡ line_len text.now }
 {
-    let mut end = 0;
-    'steps: while text.len() - end >= BLOCK {
-        if !has_no_newline(&text[end..end + BLOCK]) {
-            break;
-        }
-        end += BLOCK;
-    }
-    'parts: while text.len() - end >= PART {
-        if !has_no_newline(&text[end..end + PART]) {
-            break;
-        }
-        end += PART;
-    }
+    let in_blocks = passed(text, 0, BLOCK);
+    let mut end = passed(text, in_blocks, PART);
     'bytes: while end < text.len() && text[end] != b'\n' {
         end += 1;
+    }
+    end
+}
+
+/// How many bytes of the first line are passed in pieces of `size`, with the `from` that were
+/// passed before: up to the first piece that has a newline, or for which too few bytes are left.
+fn passed(text: &[u8], from: usize, size: usize) -> usize
+    requires some { 0 < size }
+    requires within { from ≤ line_len text.now }
+    ensures { result ≤ line_len text.now }
+{
+    let mut end = from;
+    'pieces: while text.len() - end >= size {
+        if !has_no_newline(&text[end..end + size]) {
+            break;
+        }
+        end += size;
     }
     end
 }

@@ -183,16 +183,14 @@ impl<F: Flash> Core<F> {
         ensures leaves { Leaves 0 self.old self.new }
     {
         let mut copies = 0u32;
-        let mut near = 0;
         for node in nodes {
-            copies += u32::from(self.handle(node, &mut near)?);
+            copies += u32::from(self.handle(node)?);
         }
         Ok(copies)
     }
 
-    /// Copies a record of the log where it is live; answers whether it is. The number is where the
-    /// marks of the record before it stood, as [`live_near`](jffs_tree::Tree::live_near) takes it.
-    fn handle(&mut self, source: &Node, near: &mut usize) -> Result<bool, Cause>
+    /// Copies a record of the log where it is live; answers whether it is.
+    fn handle(&mut self, source: &Node) -> Result<bool, Cause>
         requires source { IsSource source.now self.old }
         ensures handled { IfOk result
             (λ copied. (past : List Node) → RepresentsWorking past self.old → Among source.now past
@@ -203,7 +201,7 @@ impl<F: Flash> Core<F> {
         ensures works { OnOk result (self.new.failed ≡ false) }
         ensures leaves { Leaves 0 self.old self.new }
     {
-        if !self.tree.live_near(source.inode, source.version, near) {
+        if !self.tree.live(source.inode, source.version) {
             return Ok(false);
         }
         self.copy(source)?;

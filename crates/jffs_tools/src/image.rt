@@ -66,11 +66,8 @@ fn print_mounted<W: Write>(
     print_line(next_text(alloc, &mounted.limits)?.as_str(), out)?;
     let sectors = sectors_text(alloc, log.oldest(), log.held(), log.sectors())?;
     print_line(sectors.as_str(), out)?;
-    let mut near = 0;
     for entry in log.records().iter() {
-        let live = mounted
-            .tree
-            .live_near(entry.inode, entry.version, &mut near);
+        let live = mounted.tree.live(entry.inode, entry.version);
         print_line(record_text(alloc, entry, live)?.as_str(), out)?;
     }
     dump(alloc, &mounted.tree, out)?;

@@ -1,5 +1,5 @@
 -- A search by halves: what an entry in the middle says of those on both sides.
-use Rattle.std.proofs.Common.{◌≡◌, ℕ, ◌+◌, ◌<◌, ◌≤◌, Bool, true, false, ◌&&◌, eqb, ⊎_elim, length, get_or, slice_get, Some, refl, sym, ap, subst, ◌∙◌, arith}
+use Rattle.std.proofs.Common.{◌≡◌, ℕ, ◌+◌, ◌<◌, ◌≤◌, true, false, true≢false, ◌&&◌, eqb, ⊎_elim, length, get_or, slice_get, Some, refl, sym, ap, subst, ◌∙◌, arith}
 use Rattle.std.specs.Ordering.{is_eq, is_lt}
 use Rattle.std.specs.declared.cmp.Ordering.{Ordering}
 use Rattle.std.specs.declared.cmp.Ordering.TheVariants.{Less, Equal, Greater}
@@ -17,9 +17,6 @@ greater : (o : Ordering) → is_lt o ≡ false → is_eq o ≡ false → o ≡ G
 greater Less h e = cc
 greater Equal h e = cc
 greater Greater h e = refl
-
-pub never : (b : Bool) → b ≡ true → b ≡ false → ⊥
-never b x y = let same = sym x ∙ y in cc
 
 module _ (counts : Counts) (ordered : InOrder counts) (key : MarkKey) where
   before_too : (i j : ℕ) (a b : MarkKey × ℕ) → slice_get counts i ≡ Some a → slice_get counts j ≡ Some b → i < j → is_lt (mark_cmp b.0 key) ≡ true → is_lt (mark_cmp a.0 key) ≡ true
@@ -50,7 +47,7 @@ module _ (counts : Counts) (ordered : InOrder counts) (key : MarkKey) where
     low = p.low;
     high = λ k d l m. ⊎_elim
         (λ above. false_from_ne_true (is_lt (mark_cmp (get_or counts k d).0 key))
-        (λ is. never (is_lt (mark_cmp e.0 key)) (before_too mid k e (get_or counts k d) at (slice_get-get_or counts k d m) above is) h))
+        (λ is. true≢false (sym (before_too mid k e (get_or counts k d) at (slice_get-get_or counts k d m) above is) ∙ h)))
         (λ below. let same : k ≡ mid = omega (arith, below, l) in
         let read = get_or_from_slice_get counts k e d (subst (λ n. slice_get counts n ≡ Some e) (sym same) at) in
         subst (λ (x : MarkKey × ℕ). is_lt (mark_cmp x.0 key) ≡ false) (sym read) h)
@@ -74,12 +71,12 @@ module _ (counts : Counts) (ordered : InOrder counts) (key : MarkKey) where
       apart k d l m is =
           let same : (get_or counts k d).0 ≡ key = one_key (get_or counts k d).0 key is in
           ⊎_elim
-          (λ above. never (is_lt (mark_cmp (get_or counts i d).0 key))
+          (λ above. true≢false (sym
           (ap is_lt (subst (λ x. mark_cmp (get_or counts i d).0 x ≡ Less) same (before counts ordered i k (get_or counts i d) (get_or counts k d) (slice_get-get_or counts i d (omega (arith, above, m))) (slice_get-get_or counts k d m) above)))
-          (high i d (omega arith) (omega (arith, above, m))))
+          ∙ high i d (omega arith) (omega (arith, above, m))))
           (λ below. let equal : i ≡ k = omega (arith, below, l) in
           let at : slice_get counts i ≡ Some (get_or counts k d) = subst (λ n. slice_get counts n ≡ Some (get_or counts k d)) (sym equal) (slice_get-get_or counts k d m) in
-          never (eqb (get_or counts k d).0.0.0 key.0.0 && eqb (get_or counts k d).0.1 key.1)
+          true≢false (sym
           (and_from (eqb (get_or counts k d).0.0.0 key.0.0) (eqb (get_or counts k d).0.1 key.1) (eq-eqb (get_or counts k d).0.0.0 key.0.0 (ap (λ (x : MarkKey). x.0.0) same)) (eq-eqb (get_or counts k d).0.1 key.1 (ap (λ (x : MarkKey). x.1) same)))
-          (other (get_or counts k d) at))
+          ∙ other (get_or counts k d) at))
           (cases_lt i k)

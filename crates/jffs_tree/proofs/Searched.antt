@@ -1,5 +1,5 @@
 -- Where a search for a key ends, and what the entries on both sides of a place are.
-use Rattle.std.proofs.Common.{◌≡◌, ℕ, zero, suc, ◌+◌, ◌-◌, ◌<◌, ◌≤◌, ⊎_elim, cond, length, get_or, set, slice_get, Option, Some, None, refl, sym, ap, subst, ◌∙◌, arith}
+use Rattle.std.proofs.Common.{◌≡◌, ℕ, true≢false, zero, suc, ◌+◌, ◌-◌, ◌<◌, ◌≤◌, ⊎_elim, cond, length, get_or, set, slice_get, Option, Some, None, refl, sym, ap, subst, ◌∙◌, arith}
 use Rattle.std.specs.List.{insert}
 use Rattle.std.specs.Option.{unwrap_or}
 use Rattle.std.specs.Ordering.{is_gt, ordering_reverse}
@@ -12,7 +12,6 @@ use Rattle.std.proofs.lemmas.Option.{same_Some, slice_get_within, slice_get_read
 use Rattle.std.proofs.lemmas.Map.Entries.{length-keys_of, lookup_at_gap}
 use Rattle.jffs_tree.specs.Marks.{MarkKey, Counts, mark_key, mark_cmp, mark_of, IsKeyAt, BelongsAt, SplitsAt}
 use Rattle.jffs_tree.proofs.Marking.{mark_newer, mark_low, mark_from}
-use Rattle.jffs_tree.proofs.Halving.{never}
 use Rattle.jffs_tree.proofs.Places.{InOrder, mark_total, key_at, mark_at, before, no_newer, written, still_in_order, inserted, inserted_in_order}
 
 turned_round : (a b : MarkKey) (o : Ordering) → mark_cmp b a ≡ o → mark_cmp a b ≡ ordering_reverse o
@@ -55,7 +54,7 @@ entry_is counts i k e key read =
 newer_than : (q : MarkKey) (v : ℕ) → mark_cmp q (mark_key v 0) ≡ Less → v + 1 ≤ q.0.0
 newer_than q v less = ⊎_elim
     (λ l. omega (arith, l))
-    (λ low. absurd (never (is_gt (mark_cmp (mark_key v 0) q)) (ap is_gt (turned_round (mark_key v 0) q Less less)) (mark_from v q low)))
+    (λ low. absurd (true≢false (sym (ap is_gt (turned_round (mark_key v 0) q Less less)) ∙ mark_from v q low)))
     (cases_lt v q.0.0)
 
 older_from : (q : MarkKey) (v : ℕ) → mark_cmp (mark_key v 0) q ≡ Less → q.0.0 < v + 1

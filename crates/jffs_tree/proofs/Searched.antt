@@ -1,13 +1,13 @@
 -- Where a search for a key ends, and what the entries on both sides of a place are.
-use Rattle.std.proofs.Common.{◌≡◌, ℕ, true≢false, zero, suc, ◌+◌, ◌-◌, ◌<◌, ◌≤◌, ⊎_elim, cond, length, get_or, set, slice_get, Option, Some, None, refl, sym, ap, subst, ◌∙◌, arith}
+use Rattle.std.proofs.Common.{◌≡◌, ℕ, true, true≢false, zero, suc, ◌+◌, ◌-◌, ◌<◌, ◌≤◌, ⊎_elim, cond, length, get_or, set, slice_get, nat_lt, Option, Some, None, refl, sym, ap, subst, ◌∙◌, arith}
 use Rattle.std.specs.List.{insert}
-use Rattle.std.specs.Option.{unwrap_or}
+use Rattle.std.specs.Option.{option_map_or, unwrap_or}
 use Rattle.std.specs.Ordering.{is_gt, ordering_reverse}
 use Rattle.std.specs.declared.cmp.Ordering.{Ordering}
 use Rattle.std.specs.declared.cmp.Ordering.TheVariants.{Less, Greater}
 use Rattle.std.specs.Map.{lookup, keys_of}
 use Rattle.std.specs.BTreeMap.{is_at}
-use Rattle.std.proofs.lemmas.Bool.{cases_lt}
+use Rattle.std.proofs.lemmas.Bool.{cases_lt, ltb-true}
 use Rattle.std.proofs.lemmas.Option.{same_Some, slice_get_within, slice_get_read, slice_get-get_or, get_or_from_slice_get}
 use Rattle.std.proofs.lemmas.Map.Entries.{length-keys_of, lookup_at_gap}
 use Rattle.jffs_tree.specs.Marks.{MarkKey, Counts, mark_key, mark_cmp, mark_of, IsKeyAt, BelongsAt, SplitsAt}
@@ -41,6 +41,40 @@ module _ (counts : Counts) (ordered : InOrder counts) (key : MarkKey) where
   absent i b = lookup_at_gap mark_total key counts i ordered
       (λ j e l is. turned_round key e.0 Less (before_place i b j e l is))
       (λ e is. from_place i b i e (omega arith) is)
+
+  -- A version between those of two neighbours belongs between them.
+  pub between : (i : ℕ) (e : MarkKey × ℕ) → slice_get counts i ≡ Some e → key.0.0 < e.0.0.0 → option_map_or (λ d. nat_lt d.0.0.0 key.0.0) (slice_get counts (i + 1)) true ≡ true → BelongsAt counts key (i + 1)
+  between i e at newer older = record {
+    within = inside;
+    between = (
+      λ k d h l. mark_newer (get_or counts k d).0 key (let v = up_to k d l in omega (arith, v, newer)),
+      λ k d l h. turned_round (get_or counts k d).0 key Less (mark_newer key (get_or counts k d).0 (from k d l h)),
+    );
+  }
+    where
+      inside : i + 1 ≤ length counts
+      inside = let l = slice_get_within counts i e at in omega (arith, l)
+
+      up_to : (k : ℕ) (d : MarkKey × ℕ) → k < i + 1 → e.0.0.0 ≤ (get_or counts k d).0.0.0
+      up_to k d l = ⊎_elim
+          (λ below. no_newer counts ordered k i (get_or counts k d) e (slice_get-get_or counts k d (omega (arith, l, inside))) at below)
+          (λ above. let same : k ≡ i = omega (arith, above, l) in
+          let version = ap (λ (x : MarkKey × ℕ). x.0.0.0) (get_or_from_slice_get counts k e d (ap (λ n. slice_get counts n) same ∙ at)) in
+          omega (arith, version))
+          (cases_lt k i)
+
+      next_older : (d : MarkKey × ℕ) → i + 1 < length counts → (get_or counts (i + 1) d).0.0.0 < key.0.0
+      next_older d h = ltb-true (get_or counts (i + 1) d).0.0.0 key.0.0
+          (sym (ap (λ o. option_map_or (λ (x : MarkKey × ℕ). nat_lt x.0.0.0 key.0.0) o true) (slice_get-get_or counts (i + 1) d h)) ∙ older)
+
+      from : (k : ℕ) (d : MarkKey × ℕ) → i + 1 ≤ k → k < length counts → (get_or counts k d).0.0.0 < key.0.0
+      from k d l h = ⊎_elim
+          (λ after. let v = no_newer counts ordered (i + 1) k (get_or counts (i + 1) d) (get_or counts k d) (slice_get-get_or counts (i + 1) d (omega (arith, after, h))) (slice_get-get_or counts k d h) after in
+          let w = next_older d (omega (arith, after, h)) in
+          omega (arith, v, w))
+          (λ here. let same : k ≡ i + 1 = omega (arith, here, l) in
+          subst (λ n. (get_or counts n d).0.0.0 < key.0.0) (sym same) (next_older d (subst (λ n. n < length counts) same h)))
+          (cases_lt (i + 1) k)
 
 -- The entry of a key at an index.
 pub entry_is : (counts : Counts) (i : ℕ) (k : MarkKey) (e : MarkKey × ℕ) → IsKeyAt counts k i → e ≡ get_or counts i e → slice_get counts i ≡ Some (k, e.1)

@@ -1,9 +1,10 @@
 //! How often each version is live, kept under the changes of a tree and never counted anew.
 
 ghost use Rattle.std.specs.Prelude.{◌≡◌, ◌+◌, ◌-◌, ◌<◌, ◌≤◌, ◌^◌, ℕ, [], true, false, min, IfSome};
-ghost use Rattle.std.specs.Prelude.{IfNone, IfOk, IfErr, OnOk, OnErr};
+ghost use Rattle.std.specs.Prelude.{◌⊎◌, IfNone, IfOk, IfErr, OnOk, OnErr, nat_lt, slice_get};
 ghost use Rattle.jffs_tree.specs.Marks.{AreKept, HaveMore, SameMarks, mark_key, mark_of, marks_of};
 ghost use Rattle.jffs_tree.specs.Marks.{IsKeyAt, BelongsAt, SplitsAt, IsPlaceWithin, mark_cmp};
+ghost use Rattle.std.specs.Option.{option_map_or};
 ghost use Rattle.std.specs.Ordering.{is_lt};
 
 use std::alloc::{AllocError, Global};
@@ -13,9 +14,6 @@ use std::marker::Model;
 
 /// A version and an inode.
 type MarkKey = (Reverse<u32>, u32);
-
-/// How many entries before an index are looked at before a search.
-const NEAR: u32 = 4;
 
 /// For a version and an inode how many bytes of the inode the version wrote, and one more where
 /// it is the inode's newest.
@@ -59,20 +57,26 @@ impl Marks {
         }
     }
 
-    /// The marks of a version in an inode, which are looked for at an index and before it. It is
-    /// then the one where they stand, or belong.
+    /// The marks of a version in an inode, which are looked for at an index and just before it. The
+    /// index becomes the one where they stand, or where they would.
     pub(crate) fn at_near(&self, version: u32, inode: u32, near: &mut usize) -> u32
-        ensures { result ≡ mark_of self.now version inode }
+        ensures marks { result ≡ mark_of self.now version inode }
+        ensures placed { IsKeyAt self.now (mark_key version inode) near.new
+            ⊎ BelongsAt self.now (mark_key version inode) near.new }
     {
-        // Along a log most records are the next that has an entry: one comparison finds it.
+        // Along a log the next record's entry stands just before the last one's. Where it was
+        // dropped, it would stand between the two.
         let next = near.wrapping_sub(1);
         if let Some(entry) = self.counts.get(next) {
             if entry.0 == (Reverse(version), inode) {
                 *near = next;
                 return entry.1;
             }
+            if version < entry.0.0.0 && self.is_older_at(*near, version) {
+                return 0;
+            }
         }
-        match self.place_near(version, inode, *near) {
+        match self.place(version, inode) {
             Ok(index) => {
                 *near = index;
                 self.counts[index].1
@@ -84,30 +88,15 @@ impl Marks {
         }
     }
 
-    /// As `place`, and looks at an index and at some entries before it first. Who asks for one
-    /// version after another, as they rise, finds each there without a search.
-    fn place_near(&self, version: u32, inode: u32, near: usize) -> Result<usize, usize>
-        ensures there { IfOk result (IsKeyAt self.now (mark_key version inode)) }
-        ensures absent { IfErr result (BelongsAt self.now (mark_key version inode)) }
-        ensures kept { AreKept self.now }
+    /// Whether the entry at an index is of an older version, or none is there.
+    fn is_older_at(&self, index: usize, version: u32) -> bool
+        ensures { result
+            ≡ option_map_or (λ e. nat_lt e.0.0.0 version) (slice_get self.now index) true }
     {
-        let key = (Reverse(version), inode);
-        let mut index = near.min(self.counts.len());
-        if let Some(entry) = self.counts.get(index) {
-            if is_before(entry.0, key) {
-                return self.place(version, inode);
-            }
+        match self.counts.get(index) {
+            Some(entry) => entry.0.0.0 < version,
+            None => true,
         }
-        'steps: for _ in 0..NEAR {
-            if index == 0 {
-                return self.search(key, 0, 0);
-            }
-            if is_before(self.counts[index - 1].0, key) {
-                return self.search(key, index, index);
-            }
-            index -= 1;
-        }
-        self.search(key, 0, index)
     }
 
     /// The index of the entry of a version in an inode, or the one where it belongs.

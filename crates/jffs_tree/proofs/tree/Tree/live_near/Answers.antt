@@ -7,7 +7,7 @@ use Rattle.jffs_tree.proofs.tree.Tree.live_near.Goals as goal
 
 pub returns-clause-held : goal.returns-clause-held
 returns-clause-held c =
-    ap (λ n. ltb 0 n) (c.at_near.ensures ∙ c.self.invariant.marked c.args.version c.args.inode)
+    ap (λ n. ltb 0 n) (c.at_near.ensures.marks ∙ c.self.invariant.marked c.args.version c.args.inode)
     ∙ marks_hold c.self.inside.inodes c.args.version c.args.inode
     ∙ ap (λ (t : List (ℕ × Held)). holds_version t c.args.inode c.args.version) c.self.view_is
 

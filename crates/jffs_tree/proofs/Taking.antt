@@ -39,6 +39,13 @@ none_within p q [] h = refl
 none_within p q (e ∷ es) h =
     ap (λ b. cond b (e ∷ outside p q es) (outside p q es)) (not_within p q e.0 h.0) ∙ ap (λ x. e ∷ x) (none_within p q es h.1)
 
+pub none_in_none : (p q : ℕ) (es : Fragments) → q ≤ p → outside p q es ≡ es
+none_in_none p q es h = none_within p q es (apart es)
+  where
+    apart : (xs : Fragments) → AllByRecursion (λ e. (e.0 < p) ⊎ (q ≤ e.0)) xs
+    apart [] = tt
+    apart (e ∷ xs) = (⊎_elim inl (λ l. inr (omega (arith, l, h))) (cases_lt e.0 p), apart xs)
+
 early : (p k : ℕ) (f : Fragment) → begins_from p (k, f) ≡ false → k < p
 early p k f h = ⊎_elim (λ l. l) (λ l. let z : true ≡ false = sym (le-leb p k l) ∙ h in cc) (cases_lt k p)
 

@@ -1,11 +1,10 @@
 //! Fragments that leave a file, and their marks with them.
 
-ghost use Rattle.std.specs.Prelude.{◌≡◌, ◌≤◌, ◌<◌, length, [], Some, IsSome, IfSome, IfNone};
+ghost use Rattle.std.specs.Prelude.{◌≡◌, ◌<◌, length, [], IsSome};
 ghost use Rattle.std.specs.BTreeMap.{is_at};
 ghost use Rattle.std.specs.Map.{remove_entry};
 ghost use Rattle.std.specs.Ordering.{nat_cmp};
 ghost use Rattle.jffs_tree.specs.Fragments.{AreShort, HasAmounts, MovesAmounts, outside, get};
-ghost use Rattle.jffs_tree.specs.declared.fragment.Fragment.{Fragment};
 
 use crate::fragment::first_between;
 use crate::fragment_map::Fragments;
@@ -19,6 +18,10 @@ pub(crate) fn take_out(fragments: &mut Fragments, from: u32, to: u32, inode: u32
     ensures moved { MovesAmounts marks.old marks.new inode fragments.old.entries
         fragments.new.entries }
 {
+    // The node of a rename, and its copy, stands for no range: there is nothing to search for.
+    if to <= from {
+        return;
+    }
     if from == 0 && fragments.first_from(to).is_none() {
         take_all(fragments, inode, marks);
         return;

@@ -1,8 +1,11 @@
 use Rattle.std.proofs.Common.{◌∙◌, sym, ap, subst, arith, nat_cmp}
 use Rattle.std.specs.BTreeMap.{is_at}
 use Rattle.jffs_tree.specs.Fragments.{AreShort, outside}
-use Rattle.jffs_tree.proofs.Taking.{short_removed, outside_removed, still_marked}
+use Rattle.jffs_tree.proofs.Taking.{none_in_none, short_removed, outside_removed, still_marked}
 use Rattle.jffs_tree.proofs.leaving.take_out.Goals as goal
+
+pub returns-then-to-from-clause-left : goal.returns-then-to-from-clause-left
+returns-then-to-from-clause-left c = sym (none_in_none c.args.from c.args.to c.args.fragments.now.entries c.if-to-from.true)
 
 pub take_one-requires-clause-marked : goal.take_one-requires-clause-marked
 take_one-requires-clause-marked c = still_marked c.args.marks.now c.loop-first.marks c.args.inode c.args.fragments.now.entries c.loop-first.fragments.entries c.loop-first.invariant.moved c.requires.marked

@@ -30,7 +30,7 @@ whole rest head bytes len e all l =
     let long : len ≡ len_of_data (data_len rest) = l ∙ ap (λ (h : Head). len_of_data h.amount) e in
     λ i. Closed (record (e i).node { bytes = all i }) (long i)
 
--- so is one that breaks no rule
+-- a record that breaks no rule is no longer than one may be, and ends where the bytes end or before
 pub record_fits : (rest : List ℕ) (record_max : ℕ) → broken_rule record_max rest ≡ None → (len_of_data (data_len rest) ≤ record_max) × (len_of_data (data_len rest) ≤ length rest)
 record_fits rest record_max h =
     let hold = all_hold (rules record_max rest) h in

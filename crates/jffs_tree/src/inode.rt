@@ -129,8 +129,9 @@ impl Inode {
         count
     }
 
-    /// What stands now where a record's data were written, if it is one fragment, as it is where no
-    /// part of them was written over. None for a record without data.
+    /// What stands now where a record's data were written, if it is one fragment, as it is until a
+    /// later write or a truncate cuts it. (A write that is refused for memory may have cut it too,
+    /// and has changed no byte.) None for a record without data.
     pub(crate) fn whole_data(&self, node: &Node) -> Option<&Bytes>
         ensures long { IfSome result
             (λ bytes. (length bytes.now ≡ dsize node.now) × (length bytes.now ≤ file_max)) }

@@ -1,4 +1,4 @@
-use Rattle.std.proofs.Common.{◌≡◌, ◌<◌, List, length, map, filter, sum, ◌+◌, ◌*◌, ◌≤◌, ◌∷◌, ◌++◌, arith, ap, subst, sym, ◌∙◌, Bool, true, if◌then◌else◌, ℕ}
+use Rattle.std.proofs.Common.{◌≡◌, length, map, filter, sum, ◌+◌, ◌∷◌, ◌++◌, arith, ap, subst, sym, ◌∙◌, Bool, if◌then◌else◌, ℕ}
 use Rattle.std.proofs.lemmas.List.Sums.{sum_by-cons}
 use Rattle.jffs_tree.specs.Look.{holds_version}
 use Rattle.jffs_log.specs.declared.log_index.RecordRef.{RecordRef}

@@ -1,13 +1,18 @@
 //! The sector that was begun first.
 
-ghost use Rattle.std.specs.Prelude.{◌≡◌, ◌≤◌, ◌/◌, ◌↔◌, false, map, IsTrue, IfOk, OnOk, IfErr};
+ghost use Rattle.std.specs.Prelude.{◌≡◌, ◌≤◌, ◌/◌, ◌↔◌, ◌==◌, false, map, IsTrue, IfOk, OnOk};
+ghost use Rattle.std.specs.Prelude.{IfErr, nat_lt};
+ghost use Rattle.std.specs.List.{list_any, take_while};
+ghost use Rattle.jffs_node.specs.declared.layout.TheConstants.{HEADER_LEN};
 
 use crate::log::{Log, failure};
+use crate::log_index::RecordRef;
 use crate::sector::{read_sector, shared_nodes};
 use jffs_flash::{ERASED_BYTE, Flash};
-use jffs_node::Node;
+use jffs_node::{HEADER_LEN, Node};
 use jffs_tree::{Cause, Tree};
 use std::alloc::Global;
+use std::collections::VecDeque;
 
 impl<F: Flash> Log<F> {
     ghost use Rattle.jffs_log.specs.LogIndex.{oldest_in};
@@ -102,13 +107,14 @@ impl<F: Flash> Log<F> {
     }
 
     /// As `oldest_nodes`, but no data are copied: the nodes share one block, which holds the whole
-    /// sector and stays in memory as long as one of them. So they are for who is done with them
-    /// when the sector is, as cleaning is. Precondition: no call of the device failed, and the log
-    /// has a sector.
+    /// sector and stays in memory as long as one of them. So they are for a caller that drops them
+    /// all together, as cleaning does. Where no record of the sector has data nothing is shared, and
+    /// no memory is asked for it. Precondition: no call of the device failed, and the log has a
+    /// sector.
     ///
-    /// `Memory` if allocation failed, or if the block could have no owner more, of which there are
-    /// far fewer records: nothing is changed. `Device` if the read failed: no byte is changed, and
-    /// the log is failed from then on.
+    /// `Memory` if allocation failed, or if the block had as many owners as can be counted, which
+    /// the records of a sector never reach: nothing is changed. `Device` if the read failed: no
+    /// byte is changed, and the log is failed from then on.
     pub fn oldest_shared_nodes(&mut self, alloc: Global) -> Result<Vec<Node>, Cause>
         requires working { self.old.failed ≡ false }
         requires some { 1 ≤ self.old.index.held }
@@ -118,9 +124,24 @@ impl<F: Flash> Log<F> {
         ensures same { OnOk result (self.new ≡ self.old) }
         ensures stopped { IfErr result (λ cause. ReadStopped cause self.old self.new) }
     {
+        if !any_has_data(&self.index.records, self.index.first) {
+            return self.oldest_nodes(alloc);
+        }
         let bytes = self.oldest_image(alloc)?;
         // Brings in that the length of a sector fits.
         let _size = self.index.sector_size;
         Ok(shared_nodes(alloc, bytes)?)
     }
+}
+
+/// Whether a record that stands before the first one of another sector has data: it is longer than
+/// a header.
+fn any_has_data(records: &VecDeque<RecordRef>, sector: u32) -> bool
+    ensures { result ≡ list_any (λ k. nat_lt HEADER_LEN k.length)
+        (take_while (λ k. k.sector == sector) records.now.items) }
+{
+    records
+        .iter()
+        .take_while(|entry| entry.sector == sector)
+        .any(|entry| HEADER_LEN < entry.length as usize)
 }

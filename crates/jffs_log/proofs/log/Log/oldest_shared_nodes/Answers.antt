@@ -8,4 +8,4 @@ pub returns-clause-nodes : goal.returns-clause-nodes
 returns-clause-nodes g c =
     c.in_ok-shared_nodes.ensures
     ∙ ap (λ (bytes : List ℕ). (sector_of bytes).reading.nodes) c.in_ok-bytes.ensures.bytes
-    ∙ oldest_read _ _ _ _ _ _ _ _ _ (told_seen _ _ (c.self.view_is ∙ c.in_ok-bytes.ensures.same) c.self.invariant c.requires.working) c.requires.some
+    ∙ oldest_read _ _ _ _ _ _ _ _ _ (told_seen _ _ c.self.view_is c.self.invariant c.requires.working) c.requires.some

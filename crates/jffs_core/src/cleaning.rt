@@ -228,8 +228,8 @@ impl<F: Flash> Core<F> {
         self.append(Room::Copy, &copied.with(version, 0, 0))
     }
 
-    /// The nodes of the oldest sector, read from the device. They share its bytes, which go with
-    /// the last of them. Memory: nothing is changed.
+    /// The nodes of the oldest sector, read from the device. Those with data share its bytes, which
+    /// go with the last of them. Memory: nothing is changed.
     fn oldest_nodes(&mut self) -> Result<Vec<Node>, Cause>
         requires working { self.old.failed ≡ false }
         requires some { 1 ≤ self.old.index.held }

@@ -108,13 +108,13 @@ impl<F: Flash> Log<F> {
 
     /// As `oldest_nodes`, but no data are copied: the nodes share one block, which holds the whole
     /// sector and stays in memory as long as one of them. So they are for a caller that drops them
-    /// all together, as cleaning does. Where no record of the sector has data nothing is shared, and
-    /// no memory is asked for it. Precondition: no call of the device failed, and the log has a
-    /// sector.
+    /// all together, as cleaning does. Where no record of the sector has data, nothing is shared,
+    /// and no memory is asked for a block. Precondition: no call of the device failed, and the log
+    /// has a sector.
     ///
-    /// `Memory` if allocation failed, or if the block had as many owners as can be counted, which
-    /// the records of a sector never reach: nothing is changed. `Device` if the read failed: no
-    /// byte is changed, and the log is failed from then on.
+    /// `Memory` if allocation failed, or if the block had as many owners as can be counted, and a
+    /// sector never has so many records: nothing is changed. `Device` if the read failed: no byte
+    /// is changed, and the log is failed from then on.
     pub fn oldest_shared_nodes(&mut self, alloc: Global) -> Result<Vec<Node>, Cause>
         requires working { self.old.failed ≡ false }
         requires some { 1 ≤ self.old.index.held }

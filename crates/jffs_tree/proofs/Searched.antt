@@ -43,8 +43,8 @@ module _ (counts : Counts) (ordered : InOrder counts) (key : MarkKey) where
       (λ e is. from_place i b i e (omega arith) is)
 
   -- A version between those of two neighbours belongs between them.
-  pub between : (i : ℕ) (e : MarkKey × ℕ) → slice_get counts i ≡ Some e → key.0.0 < e.0.0.0 → option_map_or (λ d. nat_lt d.0.0.0 key.0.0) (slice_get counts (i + 1)) true ≡ true → BelongsAt counts key (i + 1)
-  between i e at newer older = record {
+  pub belongs_between : (i : ℕ) (e : MarkKey × ℕ) → slice_get counts i ≡ Some e → key.0.0 < e.0.0.0 → option_map_or (λ d. nat_lt d.0.0.0 key.0.0) (slice_get counts (i + 1)) true ≡ true → BelongsAt counts key (i + 1)
+  belongs_between i e at newer older = record {
     within = inside;
     between = (
       λ k d h l. mark_newer (get_or counts k d).0 key (let v = up_to k d l in omega (arith, v, newer)),

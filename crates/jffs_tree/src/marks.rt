@@ -2,9 +2,9 @@
 
 ghost use Rattle.std.specs.Prelude.{◌≡◌, ◌+◌, ◌-◌, ◌<◌, ◌≤◌, ◌^◌, ℕ, [], true, false, min, IfSome};
 ghost use Rattle.std.specs.Prelude.{◌⊎◌, IfNone, IfOk, IfErr, OnOk, OnErr, nat_lt, slice_get};
+ghost use Rattle.std.specs.Option.{option_map_or};
 ghost use Rattle.jffs_tree.specs.Marks.{AreKept, HaveMore, SameMarks, mark_key, mark_of, marks_of};
 ghost use Rattle.jffs_tree.specs.Marks.{IsKeyAt, BelongsAt, SplitsAt, IsPlaceWithin, mark_cmp};
-ghost use Rattle.std.specs.Option.{option_map_or};
 ghost use Rattle.std.specs.Ordering.{is_lt};
 
 use std::alloc::{AllocError, Global};
@@ -57,8 +57,8 @@ impl Marks {
         }
     }
 
-    /// The marks of a version in an inode, which are looked for at an index and just before it. The
-    /// index becomes the one where they stand, or where they would.
+    /// The marks of a version in an inode, as `at` gives them: they are looked for just before an
+    /// index first. The index becomes the one where they stand, or where they would.
     pub(crate) fn at_near(&self, version: u32, inode: u32, near: &mut usize) -> u32
         ensures marks { result ≡ mark_of self.now version inode }
         ensures placed { IsKeyAt self.now (mark_key version inode) near.new

@@ -6,7 +6,7 @@ use Rattle.std.specs.Map.{keys_of}
 use Rattle.std.specs.Option.{option_map_or}
 use Rattle.jffs_tree.specs.Marks.{MarkKey, Counts, mark_key, mark_of, IsKeyAt, BelongsAt}
 use Rattle.jffs_tree.proofs.Places.{InOrder, key_at}
-use Rattle.jffs_tree.proofs.Searched.{count_is, none_before, between}
+use Rattle.jffs_tree.proofs.Searched.{count_is, none_before, belongs_between}
 use Rattle.jffs_tree.proofs.marks.Marks.at_near.Goals as goal
 
 module _ (items now : Counts) (seen : items ≡ now) (ordered : InOrder items) (v j i : ℕ) where
@@ -80,7 +80,7 @@ belongs c =
     (ap (λ n. slice_get items n) one_more ∙ ap (λ (t : Counts). slice_get t c.args.near.now) c.self.view_is)
     ∙ sym c.is_older_at.ensures ∙ c.if-is_older_at.true in
     subst (λ (t : Counts). BelongsAt t key c.args.near.now) c.self.view_is
-    (subst (λ n. BelongsAt items key n) one_more (between items c.self.invariant.ordered key (next c.args.near.now) entry at c.if-version-entry.true older))
+    (subst (λ n. BelongsAt items key n) one_more (belongs_between items c.self.invariant.ordered key (next c.args.near.now) entry at c.if-version-entry.true older))
 
 pub returns-then-is_older_at-clause-placed : goal.returns-then-is_older_at-clause-placed
 returns-then-is_older_at-clause-placed c = inr (belongs c)

@@ -80,7 +80,12 @@ fn versions<F: Flash>(log: &Log<F>) -> u32 {
 }
 
 fn blank(rt: &(impl Abort + AllocGlobal)) -> MemoryFlash {
-    match MemoryFlash::new(rt.alloc(), 6, 1024) {
+    blank_with(rt, 1024)
+}
+
+/// Six erased sectors of this size.
+fn blank_with(rt: &(impl Abort + AllocGlobal), sector_size: u32) -> MemoryFlash {
+    match MemoryFlash::new(rt.alloc(), 6, sector_size) {
         Ok(flash) => flash,
         Err(why) => panic!(rt; "{why}"),
     }
@@ -134,7 +139,12 @@ fn each_call_on_its_happy_path(rt: HostRuntime) -> Result<(), TestFail> {
 
 /// A volume with version 1 of the file.
 fn with_first(rt: &(impl Abort + AllocGlobal)) -> Result<MemoryFlash, Cause> {
-    let first = written(rt.alloc(), 1, 5)?;
+    with_amount(rt, 5)
+}
+
+/// A volume with a version 1 of the file that writes so many bytes.
+fn with_amount(rt: &(impl Abort + AllocGlobal), amount: u32) -> Result<MemoryFlash, Cause> {
+    let first = written(rt.alloc(), 1, amount)?;
     let Mounted { mut log, tree, .. } = mount(rt, blank(rt));
     append(rt, &mut log, &tree, &first)?;
     Ok(log.into_flash())
@@ -292,27 +302,69 @@ fn oldest_are_alike(
         let wanted = spelled(rt, rt.alloc(), one)?;
         assert_eq!(rt; spelled(rt, rt.alloc(), other)?, wanted);
     }
+    share_one_block(rt, &shared);
     Ok(shared.len())
 }
 
-#[test]
-fn the_oldest_nodes_are_the_same_with_shared_data(rt: HostRuntime) -> Result<(), TestFail> {
+/// Where two nodes or more have data, none of them has a block of its own.
+fn share_one_block(rt: &impl Abort, nodes: &[Node]) {
+    let with_data = nodes.iter().filter(|node| !node.bytes.is_empty()).count();
+    for node in nodes {
+        assert!(rt; with_data < 2 || node.bytes.is_empty() || !node.bytes.is_unique());
+    }
+}
+
+/// Appends versions on erased sectors of this size, and compares the oldest sector's nodes after
+/// each; returns how many there were at most.
+fn most_alike(
+    rt: &(impl Abort + AllocGlobal),
+    sector_size: u32,
+    versions: u32,
+) -> Result<usize, TestFail> {
     let Mounted {
         mut log,
         mut tree,
         ..
-    } = mount(&rt, blank(&rt));
+    } = mount(rt, blank_with(rt, sector_size));
     let mut most = 0;
-    for version in 1..60 {
+    for version in 1..versions {
         let node = varied(rt.alloc(), version)?;
-        append(&rt, &mut log, &tree, &node)?;
-        apply(&rt, &mut tree, &node)?;
-        most = oldest_are_alike(&rt, &mut log)?.max(most);
-        if is_oldest_dead(&rt, &log, &tree) {
-            erase(&rt, &mut log, &tree)?;
+        append(rt, &mut log, &tree, &node)?;
+        apply(rt, &mut tree, &node)?;
+        most = oldest_are_alike(rt, &mut log)?.max(most);
+        if is_oldest_dead(rt, &log, &tree) {
+            erase(rt, &mut log, &tree)?;
         }
     }
-    assert_eq!(rt; most, 5);
+    Ok(most)
+}
+
+#[test]
+fn the_oldest_nodes_are_the_same_with_shared_data(rt: HostRuntime) -> Result<(), TestFail> {
+    assert_eq!(rt; most_alike(&rt, 1024, 60)?, 5);
+    assert_eq!(rt; most_alike(&rt, 16_384, 30)?, 29);
+    Ok(())
+}
+
+/// The oldest sector's nodes, of a device that works.
+fn oldest_shared<F: Flash>(
+    rt: &(impl Abort + AllocGlobal),
+    log: &mut Log<F>,
+) -> Result<Vec<Node>, Cause> {
+    assert!(rt; !log.failed() && log.held() >= 1);
+    log.oldest_shared_nodes(rt.alloc())
+}
+
+/// A mount reads six sectors, and the seventh read is the last that the device allows.
+#[test]
+fn the_oldest_nodes_take_one_read(rt: HostRuntime) -> Result<(), TestFail> {
+    for amount in [0, 5] {
+        let fuse = FuseFlash::new(with_amount(&rt, amount)?, 7, Fused::All, Fail::Nothing);
+        let Mounted { mut log, .. } = mount(&rt, fuse);
+        assert_eq!(rt; oldest_shared(&rt, &mut log)?.len(), 1);
+        let read = oldest_shared(&rt, &mut log);
+        assert_eq!(rt; read.err(), Some(Cause::Device));
+    }
     Ok(())
 }
 
@@ -320,8 +372,7 @@ fn the_oldest_nodes_are_the_same_with_shared_data(rt: HostRuntime) -> Result<(),
 fn a_failed_read_of_the_oldest_nodes_stops_the_log(rt: HostRuntime) -> Result<(), TestFail> {
     let fuse = FuseFlash::new(with_first(&rt)?, 6, Fused::All, Fail::Nothing);
     let Mounted { mut log, .. } = mount(&rt, fuse);
-    assert!(rt; !log.failed() && log.held() >= 1);
-    let read = log.oldest_shared_nodes(rt.alloc());
+    let read = oldest_shared(&rt, &mut log);
     assert_eq!(rt; read.err(), Some(Cause::Device));
     assert!(rt; log.failed());
     Ok(())

@@ -103,3 +103,28 @@ fn shared_data_are_a_part_of_the_sector(rt: HostRuntime) -> Result<(), Fail> {
     assert_eq!(rt; last.bytes.as_slice(), b"Hello".as_slice());
     Ok(())
 }
+
+/// The node of `HELLO` with as many data as the longest record here has, each byte another one.
+fn longest(alloc: Global) -> Result<Node, Fail> {
+    let hello = Bytes::from_vec(sector_with(alloc, &HELLO, 0, 0x4A)?)?;
+    let mut node = shared_at(&hello, 0)?;
+    let mut data = Vec::new(alloc);
+    for byte in 0..192u8 {
+        data.push(byte)?;
+    }
+    node.size = Some(192);
+    node.bytes = Bytes::from_vec(data)?;
+    Ok(node)
+}
+
+#[test]
+fn the_longest_data_are_shared_too(rt: HostRuntime) -> Result<(), Fail> {
+    let node = longest(rt.alloc())?;
+    let record = spelled(&rt, rt.alloc(), &node)?;
+    assert_eq!(rt; record.len() as u32, RECORD_MAX);
+    let sector = Bytes::from_vec(sector_with(rt.alloc(), &record, 0, 0x4A)?)?;
+    let read = shared_at(&sector, 0)?;
+    assert!(rt; !sector.is_unique());
+    assert_eq!(rt; read.bytes.as_slice(), node.bytes.as_slice());
+    Ok(())
+}

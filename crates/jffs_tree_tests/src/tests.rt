@@ -265,6 +265,28 @@ fn cleaning_copies_current_names(rt: HostRuntime) -> Result<(), Fail> {
     Ok(())
 }
 
+/// A record of which no byte was written over is copied whole, into memory that nobody shares.
+#[test]
+fn a_whole_record_is_copied_into_memory_of_its_own(rt: HostRuntime) -> Result<(), Fail> {
+    let mut session = Session::new(rt.alloc());
+    session.play(&rt, "create /g")?;
+    let source = session.decide(&wish_of(session.alloc, "write /g 3 hello")?)?;
+    session.play(
+        &rt,
+        "write /g 3 hello
+         write /g 8 world",
+    )?;
+    let copied = cleaned(&session, &source)?;
+    assert!(rt; copied.copy && is_g(copied.name));
+    assert_eq!(rt;
+        (copied.offset, copied.rsize, copied.size),
+        (3, 5, Some(13))
+    );
+    assert_eq!(rt; copied.bytes.as_slice(), b"hello".as_slice());
+    assert!(rt; copied.bytes.is_unique());
+    Ok(())
+}
+
 /// What stands after this: `/c` (inode 4) and `/c/f` (inode 3).
 const MOVED: &str = "mkdir /a
      mkdir /a : refused NameTaken

@@ -177,3 +177,26 @@ fn near_the_last_answer_the_next_is_the_same(rt: HostRuntime) -> Result<(), Fail
     }
     Ok(())
 }
+
+/// Of versions 2 to 5, which all live, each stands just before the one before it.
+#[test]
+fn the_next_version_is_found_beside_the_last(rt: HostRuntime) -> Result<(), Fail> {
+    let session = played(
+        &rt,
+        rt.alloc(),
+        &[(
+            "create /f
+             write /f 0 a
+             write /f 1 b
+             write /f 2 c
+             write /f 3 d",
+            &[(1, 0), (2, 1), (3, 1), (4, 1), (5, 2)],
+        )],
+    )?;
+    let mut near = 0;
+    for (version, wanted) in [(2, 3), (3, 2), (4, 1), (5, 0)] {
+        assert!(rt; session.tree.live_near(2, version, &mut near));
+        assert_eq!(rt; near, wanted, "after {version}");
+    }
+    Ok(())
+}

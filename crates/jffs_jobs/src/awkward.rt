@@ -1,14 +1,15 @@
 //! The awkward jobs: files of many pieces, large directories, deep paths, holes, what is refused,
-//! full volumes, and versions with gaps.
+//! full volumes, and versions with gaps. Of most of them what stands at the end is looked at after
+//! another mount.
 
 use crate::Scale;
 use crate::digest::Digest;
 use crate::fault::Fault;
-use crate::household::{noise, noisy};
-use crate::random::Random;
+use crate::random::{Random, noise, noisy};
+use crate::refusals::ask_in_vain;
 use crate::volume::{LARGE, SMALL, SMALLEST, Sizes, Volume};
 use jffs_flash::MemoryFlash;
-use jffs_node::{Name, Path, copied};
+use jffs_node::{Path, copied};
 use jffs_text::dump;
 use jffs_tree::{Cause, Limits, Outcome, Tree, Wish};
 use std::alloc::Global;
@@ -24,36 +25,34 @@ pub(crate) fn try_all(alloc: Global, seed: u64, scale: Scale) -> Result<Digest, 
     }
     digest.add(go_deep(alloc, &mut random, &noise, scale.times(150_000))?);
     digest.add(show_holes(alloc, &mut random, scale.times(100))?);
-    digest.add(ask_in_vain(alloc, &mut random, scale.times(600_000))?);
+    digest.add(ask_in_vain(alloc, &mut random, &noise, scale.times(600_000))?);
     digest.add(fill_up(alloc, &mut random, SMALLEST, scale.times(10_000))?);
     digest.add(fill_up(alloc, &mut random, SMALL, scale.times(750))?);
     digest.add(leave_gaps(alloc, &mut random, &noise, scale.times(375_000))?);
     Ok(digest)
 }
 
-fn erased(alloc: Global, sizes: Sizes) -> Result<Volume<MemoryFlash>, Fault> {
-    Volume::mount(alloc, sizes.flash(alloc)?)
-}
-
-/// Files of a thousand small pieces, which are written across, cut and removed.
+/// Files of a thousand small pieces, which are written across and cut; the last one stays.
 fn write_pieces(
     alloc: Global,
     random: &mut Random,
     noise: &[u8],
     files: u32,
 ) -> Result<u64, Fault> {
-    let mut volume = erased(alloc, LARGE)?;
+    let mut volume = Volume::erased(alloc, LARGE)?;
     for _ in 0..files {
         write_in_pieces(&mut volume, random, noise)?;
     }
-    Ok(volume.digest.number())
+    volume.end()
 }
 
+/// Removes the file before, if any, and makes the next one.
 fn write_in_pieces(
     volume: &mut Volume<MemoryFlash>,
     random: &mut Random,
     noise: &[u8],
 ) -> Result<(), Fault> {
+    volume.remove("/pieces")?;
     volume.create("/pieces")?;
     for _ in 0..1000u32 {
         let offset = random.below(60_000);
@@ -66,17 +65,15 @@ fn write_in_pieces(
     }
     let size = random.below(40_000);
     volume.truncate("/pieces", size)?;
-    volume.look("/pieces", size / 2)?;
-    volume.remove("/pieces")?;
-    Ok(())
+    volume.look_through("/pieces")
 }
 
-/// A directory with thousands of names, which are then renamed and removed.
+/// A directory with thousands of names, of which one half is then renamed and the other removed.
 fn fill_directory(alloc: Global, random: &mut Random, names: u32) -> Result<u64, Fault> {
     let paths = new_paths(alloc, random, names)?;
-    let mut volume = erased(alloc, LARGE)?;
+    let mut volume = Volume::erased(alloc, LARGE)?;
     use_directory(alloc, &mut volume, &paths)?;
-    Ok(volume.digest.number())
+    volume.end()
 }
 
 /// Paths in one directory, in no order.
@@ -89,8 +86,8 @@ fn new_paths(alloc: Global, random: &mut Random, names: u32) -> Result<Vec<Strin
     Ok(paths)
 }
 
-/// Makes files at these paths, lists them, renames each second one and looks at the others, and
-/// removes all.
+/// Makes files at these paths, lists them, renames each second one and looks at the others; looks
+/// at all, and asks to remove what stood at each path, in vain where it was renamed.
 fn use_directory(
     alloc: Global,
     volume: &mut Volume<MemoryFlash>,
@@ -108,6 +105,7 @@ fn use_directory(
             volume.look(path.as_str(), 0)?;
         }
     }
+    volume.look_at_all()?;
     for path in paths {
         volume.remove(path.as_str())?;
     }
@@ -139,7 +137,7 @@ fn rename_to(
 
 /// Requests with paths of eight names.
 fn go_deep(alloc: Global, random: &mut Random, noise: &[u8], requests: u32) -> Result<u64, Fault> {
-    let mut volume = erased(alloc, LARGE)?;
+    let mut volume = Volume::erased(alloc, LARGE)?;
     for depth in 1..8u32 {
         let directory = deep_path(alloc, depth, 0)?;
         volume.make_dir(directory.as_str())?;
@@ -147,7 +145,7 @@ fn go_deep(alloc: Global, random: &mut Random, noise: &[u8], requests: u32) -> R
     for _ in 0..requests {
         ask_deep(alloc, &mut volume, random, noise)?;
     }
-    Ok(volume.digest.number())
+    volume.end()
 }
 
 /// A path of so many names, of which the last has a number.
@@ -178,7 +176,7 @@ fn ask_deep(
 
 /// Files of holes, which are shown whole.
 fn show_holes(alloc: Global, random: &mut Random, files: u32) -> Result<u64, Fault> {
-    let mut volume = erased(alloc, SMALLEST)?;
+    let mut volume = Volume::erased(alloc, SMALLEST)?;
     volume.create("/holes")?;
     for _ in 0..files {
         let size = random.from(1_000_000, 48_000);
@@ -202,56 +200,9 @@ fn show(alloc: Global, volume: &mut Volume<MemoryFlash>) -> Result<(), Fault> {
     }
 }
 
-/// Requests that are refused, copies that come too late among them.
-fn ask_in_vain(alloc: Global, random: &mut Random, requests: u32) -> Result<u64, Fault> {
-    let Some(name) = Name::from_bytes(b"file") else {
-        return Err(Fault::Refused);
-    };
-    let mut volume = erased(alloc, SMALL)?;
-    volume.make_dir("/there")?;
-    volume.create("/there/file")?;
-    for part in 0..20u32 {
-        volume.write("/there/file", part * 10, b"0123456789")?;
-    }
-    for _ in 0..requests {
-        ask_one_in_vain(&mut volume, random, name)?;
-    }
-    Ok(volume.digest.number())
-}
-
-fn ask_one_in_vain(
-    volume: &mut Volume<MemoryFlash>,
-    random: &mut Random,
-    name: Name,
-) -> Result<(), Fault> {
-    let number = random.below(1000);
-    match random.below(10) {
-        0 => volume.create("/there/file")?,
-        1 => volume.create("/nowhere/file")?,
-        2 => volume.remove("/there")?,
-        3 => volume.write("/there", number, b"a directory")?,
-        4 => volume.truncate("/there/file", number + 1_048_577)?,
-        5 => volume.remove("/there/nothing")?,
-        _ => copy_late(volume, name, number)?,
-    };
-    Ok(())
-}
-
-/// Asks for a copy that isn't needed any more, or isn't current.
-fn copy_late(volume: &mut Volume<MemoryFlash>, name: Name, number: u32) -> Result<Outcome, Fault> {
-    let bytes = copied(volume.alloc, b"0123456789")?;
-    volume.ask(Wish::Copy {
-        source: number % 24,
-        parent: 2,
-        name,
-        offset: number,
-        bytes,
-    })
-}
-
 /// A volume that is filled until nothing more has room, and then asked again and again.
 fn fill_up(alloc: Global, random: &mut Random, sizes: Sizes, requests: u32) -> Result<u64, Fault> {
-    let mut volume = erased(alloc, sizes)?;
+    let mut volume = Volume::erased(alloc, sizes)?;
     for file in 0..10_000u32 {
         if !add_file(alloc, &mut volume, random, file)? {
             break;
@@ -260,7 +211,7 @@ fn fill_up(alloc: Global, random: &mut Random, sizes: Sizes, requests: u32) -> R
     for request in 0..requests {
         ask_full(alloc, &mut volume, random, request)?;
     }
-    Ok(volume.digest.number())
+    volume.end()
 }
 
 /// Makes a file with a few bytes, and says whether there was room for it.
@@ -310,6 +261,7 @@ fn leave_gaps(alloc: Global, random: &mut Random, noise: &[u8], nodes: u32) -> R
         let inode = random.from(2, 50);
         digest.add(u64::from(tree.live(inode, version)));
     }
+    digest.add_tree(alloc, &tree)?;
     Ok(digest.number())
 }
 

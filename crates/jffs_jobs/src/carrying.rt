@@ -4,9 +4,9 @@
 use crate::Scale;
 use crate::digest::Digest;
 use crate::fault::Fault;
-use crate::household::{Household, Plan, noise, noisy};
+use crate::household::{Household, Plan};
 use crate::mounts::flash_of;
-use crate::random::Random;
+use crate::random::{Random, noise, noisy};
 use crate::volume::{LARGE, Volume};
 use jffs_file::{FileFlash, Store, StoreFault};
 use jffs_flash::MemoryFlash;
@@ -152,7 +152,7 @@ impl Store for Kept {
 type KeptVolume = Volume<FileFlash<Kept>>;
 
 /// Loads files into a volume in a store, each beside an old one that it replaces, and reads them
-/// back.
+/// back from a volume on what the store holds after the unmount.
 fn load(alloc: Global, random: &mut Random, files: u32) -> Result<u64, Fault> {
     let noise = noise(alloc, random)?;
     let mut volume = kept_volume(alloc)?;
@@ -160,10 +160,11 @@ fn load(alloc: Global, random: &mut Random, files: u32) -> Result<u64, Fault> {
     for file in 0..files {
         put(&mut volume, random, &noise, file % 20)?;
     }
+    let mut stored = mount_stored(alloc, volume)?;
     for file in 0..20u32 {
-        read_back(&mut volume, file)?;
+        read_back(&mut stored, file)?;
     }
-    Ok(volume.digest.number())
+    Ok(stored.digest.number())
 }
 
 /// An erased volume in a store.
@@ -171,6 +172,17 @@ fn kept_volume(alloc: Global) -> Result<KeptVolume, Fault> {
     let held = LARGE.flash(alloc)?;
     let bytes = held.bytes().to_vec(alloc)?;
     Volume::mount(alloc, FileFlash::new(held, Kept { bytes }))
+}
+
+/// Unmounts a volume, and mounts the bytes of its store, not those that its flash has in memory.
+fn mount_stored(alloc: Global, volume: KeptVolume) -> Result<Volume<MemoryFlash>, Fault> {
+    let (flash, mut digest) = volume.close()?;
+    let bytes = flash.store().bytes.to_vec(alloc)?;
+    digest.add_bytes(&bytes);
+    let stored = flash_of(LARGE.sectors, LARGE.sector_size, bytes)?;
+    let mut volume = Volume::mount(alloc, stored)?;
+    volume.digest = digest;
+    Ok(volume)
 }
 
 /// Puts a file of up to 100,000 bytes in the place of an old one.
@@ -204,11 +216,8 @@ fn write_parts(
     Ok(())
 }
 
-/// Reads a file from its start on.
-fn read_back(volume: &mut KeptVolume, file: u32) -> Result<(), Fault> {
+/// Reads a file from its start to its end.
+fn read_back(volume: &mut Volume<MemoryFlash>, file: u32) -> Result<(), Fault> {
     let path = format!(in volume.alloc; "/loaded/file{file}")?;
-    for part in 0..200u32 {
-        volume.look(path.as_str(), part * 512)?;
-    }
-    Ok(())
+    volume.look_through(path.as_str())
 }

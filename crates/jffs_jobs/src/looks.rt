@@ -7,8 +7,7 @@ ghost use Rattle.jffs_index.specs.Ends.{all_put};
 use crate::Scale;
 use crate::digest::Digest;
 use crate::fault::Fault;
-use crate::household::{noise, noisy};
-use crate::random::Random;
+use crate::random::{Random, noise, noisy};
 use jffs_index::{Publisher, Reader, Step, View, publish_index};
 use jffs_node::{Node, Path, ROOT_INODE, copied};
 use jffs_tree::{Cause, Limits, Outcome, Tree, Wish};
@@ -23,6 +22,9 @@ const DIRECTORIES: u32 = 12;
 
 /// The files of each directory.
 const FILES: u32 = 40;
+
+/// The steps of a session.
+const STEPS: u32 = 150_000;
 
 /// A publisher beside the tree of all that was put, and the number of the last step.
 #[derive(Drop)]
@@ -108,12 +110,27 @@ fn file_path(alloc: Global, random: &mut Random) -> Result<Path, Fault> {
     Ok(Path::parse(alloc, text.as_str())?)
 }
 
-/// Publishes steps one by one, and has some of the readers look after each.
+/// Two sessions with an index of their own.
 pub(crate) fn look<R: AllocGlobal + Wait>(
     rt: &R,
     seed: u64,
     scale: Scale,
 ) -> Result<Digest, Fault> {
+    let mut digest = Digest::new();
+    for session in 0..2u64 {
+        let mut random = Random::new(seed, session);
+        look_along(rt, &mut random, scale.times(STEPS), &mut digest)?;
+    }
+    Ok(digest)
+}
+
+/// Publishes steps one by one, and has some of the readers look after each.
+fn look_along<R: AllocGlobal + Wait>(
+    rt: &R,
+    random: &mut Random,
+    steps: u32,
+    digest: &mut Digest,
+) -> Result<(), Fault> {
     let alloc = rt.alloc();
     let tree = Tree::new(alloc);
     let Ok((publisher, mut readers)) = publish_index(rt, alloc, tree.copy_tree()?, READERS) else {
@@ -124,18 +141,8 @@ pub(crate) fn look<R: AllocGlobal + Wait>(
         tree,
         version: 0,
     };
-    let mut random = Random::new(seed, 0);
     make_directories(alloc, &mut source)?;
-    let mut digest = Digest::new();
-    publish_all(
-        alloc,
-        &mut source,
-        &mut readers,
-        &mut random,
-        scale.times(150_000),
-        &mut digest,
-    )?;
-    Ok(digest)
+    publish_all(alloc, &mut source, &mut readers, random, steps, digest)
 }
 
 fn make_directories<P: Wait + Drop>(alloc: Global, source: &mut Source<P>) -> Result<(), Fault>

@@ -15,6 +15,8 @@ mod household;
 mod looks;
 mod mounts;
 mod random;
+mod refusals;
+mod service;
 mod threads;
 mod volume;
 

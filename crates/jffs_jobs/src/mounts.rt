@@ -3,12 +3,14 @@
 use crate::Scale;
 use crate::digest::Digest;
 use crate::fault::Fault;
-use crate::household::{Household, Plan, noise, noisy};
-use crate::random::Random;
+use crate::household::{Household, Plan};
+use crate::random::{Random, count, noise, noisy};
 use crate::volume::{LARGE, SMALL, Sizes, Volume};
 use jffs_core::Core;
 use jffs_flash::{ERASED_BYTE, MemoryFlash};
-use jffs_node::{HEADER_LEN, Kind, Name, Node, copied, encode_into, is_lawful, record_len};
+use jffs_node::{
+    HEADER_LEN, Kind, Name, Node, ROOT_INODE, copied, encode_into, is_lawful, record_len,
+};
 use std::alloc::Global;
 
 /// Every so many steps of a large device its volume is mounted.
@@ -16,6 +18,9 @@ const LARGE_STEPS: u32 = 60;
 
 /// Every so many steps of a small device its volume is mounted.
 const SMALL_STEPS: u32 = 10;
+
+/// How many of the files that an older program left are looked at after each mount.
+const OLDER_LOOKS: u32 = 20;
 
 /// Mounts of devices with much and with little that stands still, of volumes that an older program
 /// began, and of volumes that fill up with names or with long records.
@@ -45,19 +50,62 @@ fn mount_along(
 ) -> Result<(), Fault> {
     household.set_up()?;
     for mount in 0..mounts {
-        household.live_on(steps)?;
-        let mut copy = mounted_copy(&household.volume, mount % 2 == 0)?;
-        household.look_at(&mut copy)?;
+        let copy = copy_after(household, steps, mount)?;
         digest.add(told(&copy));
     }
+    mount_last(&household.volume, digest)
+}
+
+/// Has a device make some steps, mounts a copy of its volume, and looks at it; each second copy is
+/// torn.
+fn copy_after(
+    household: &mut Household<MemoryFlash>,
+    steps: u32,
+    mount: u32,
+) -> Result<Volume<MemoryFlash>, Fault> {
+    household.live_on(steps)?;
+    let mut copy = mounted_copy(&household.volume, mount % 2 == 0)?;
+    household.look_at(&mut copy)?;
+    Ok(copy)
+}
+
+/// Mounts a copy of a volume for the last time, looks at all that stands there, and adds what the
+/// volume's own requests were answered.
+fn mount_last(volume: &Volume<MemoryFlash>, digest: &mut Digest) -> Result<(), Fault> {
+    let mut copy = mounted_copy(volume, false)?;
+    copy.look_at_all()?;
+    digest.add(told(&copy));
+    digest.add(volume.digest.number());
     Ok(())
 }
 
 /// Mounts a volume that an older program began.
 fn mount_older(alloc: Global, seed: u64, scale: Scale, digest: &mut Digest) -> Result<(), Fault> {
     let older = Volume::mount(alloc, older_flash(alloc, LARGE, 12)?)?;
+    let files = count(&older.tree().names(ROOT_INODE)?);
     let mut older = Household::on(older, Plan::large(50), Random::new(seed, 200))?;
-    mount_along(&mut older, LARGE_STEPS, scale.times(60), digest)
+    let mut random = Random::new(seed, 201);
+    older.set_up()?;
+    for mount in 0..scale.times(60) {
+        let mut copy = copy_after(&mut older, LARGE_STEPS, mount)?;
+        look_at_older(&mut copy, &mut random, files)?;
+        digest.add(told(&copy));
+    }
+    mount_last(&older.volume, digest)
+}
+
+/// Looks at some of the files that an older program left.
+fn look_at_older(
+    copy: &mut Volume<MemoryFlash>,
+    random: &mut Random,
+    files: u32,
+) -> Result<(), Fault> {
+    for _ in 0..OLDER_LOOKS {
+        let file = random.from(1, files.saturating_sub(1));
+        let path = format!(in copy.alloc; "/older{file}")?;
+        copy.look_through(path.as_str())?;
+    }
+    Ok(())
 }
 
 /// A mounted copy of a volume as it is, as if the power had failed; where it is torn, a record that
@@ -123,14 +171,15 @@ fn told(volume: &Volume<MemoryFlash>) -> u64 {
     digest.number()
 }
 
-/// Mounts a volume that fills up with files in directories of up to eight levels.
+/// Mounts a volume that fills up with files in directories of up to eight levels, and looks at all
+/// names.
 fn mount_names(
     alloc: Global,
     random: &mut Random,
     mounts: u32,
     digest: &mut Digest,
 ) -> Result<(), Fault> {
-    let mut volume = Volume::mount(alloc, LARGE.flash(alloc)?)?;
+    let mut volume = Volume::erased(alloc, LARGE)?;
     make_places(&mut volume)?;
     for mount in 0..mounts {
         for file in 0..90u32 {
@@ -138,8 +187,10 @@ fn mount_names(
         }
         let mut copy = mounted_copy(&volume, false)?;
         copy.look("/a/b/c/d/e/f/g", 0)?;
+        copy.look_at_all()?;
         digest.add(told(&copy));
     }
+    digest.add(volume.digest.number());
     Ok(())
 }
 
@@ -187,7 +238,7 @@ fn mount_long_writes(
     digest: &mut Digest,
 ) -> Result<(), Fault> {
     let noise = noise(alloc, random)?;
-    let mut volume = Volume::mount(alloc, sizes.flash(alloc)?)?;
+    let mut volume = Volume::erased(alloc, sizes)?;
     volume.create("/long")?;
     let most = volume.core().limits().data_max;
     for mount in 0..mounts {
@@ -197,7 +248,7 @@ fn mount_long_writes(
         copy.look("/long", offset / 2)?;
         digest.add(told(&copy));
     }
-    Ok(())
+    mount_last(&volume, digest)
 }
 
 /// Flash of which some sectors hold records of the first form, which states no size.

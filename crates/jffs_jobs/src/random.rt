@@ -1,6 +1,12 @@
-//! Numbers that look random, and that one number fixes.
+//! Numbers and bytes that look random, and that one number fixes.
 
 ghost use Rattle.std.specs.Prelude.{◌<◌};
+
+use crate::fault::Fault;
+use std::alloc::Global;
+
+/// How many random bytes stand ready to be written.
+const NOISE_LEN: u32 = 8192;
 
 /// The generator SplitMix64 of Steele, Lea and Flood (2014).
 #[derive(Drop)]
@@ -42,5 +48,35 @@ impl Random {
     /// True once in so many calls, where that is at least 1.
     pub(crate) fn once_in(&mut self, calls: u32) -> bool {
         calls > 0 && self.below(calls) == 0
+    }
+}
+
+/// Random bytes.
+pub(crate) fn noise(alloc: Global, random: &mut Random) -> Result<Vec<u8>, Fault> {
+    let mut noise = Vec::new(alloc);
+    for _ in 0..NOISE_LEN {
+        noise.push(random.below(256) as u8)?;
+    }
+    Ok(noise)
+}
+
+/// So many random bytes, as far as they go.
+pub(crate) fn noisy<'a>(noise: &'a [u8], random: &mut Random, len: u32) -> &'a [u8] {
+    let len = len as usize;
+    let spare = noise.len().saturating_sub(len).min(NOISE_LEN as usize);
+    let start = random.below(spare as u32 + 1) as usize;
+    match noise.get(start..start.saturating_add(len)) {
+        Some(bytes) => bytes,
+        None => noise,
+    }
+}
+
+/// How many there are; 1 where there is none.
+pub(crate) fn count<T>(all: &[T]) -> u32
+    ensures { 0 < result }
+{
+    match all {
+        [] => 1,
+        _ => u32::try_from(all.len()).unwrap_or(u32::MAX),
     }
 }

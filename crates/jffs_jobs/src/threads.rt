@@ -3,8 +3,7 @@
 use crate::Scale;
 use crate::digest::Digest;
 use crate::fault::Fault;
-use crate::household::{noise, noisy};
-use crate::random::Random;
+use crate::random::{Random, noise, noisy};
 use jffs_program::run_program;
 use jffs_text::write_hex;
 use std::alloc::Global;
@@ -70,7 +69,7 @@ const CASTS: [Cast; 6] = [
     },
 ];
 
-/// Runs two scripts of each cast, and says what they printed. What is printed doesn't depend on
+/// Runs three scripts of each cast, and says what they printed. What is printed doesn't depend on
 /// the schedule: each writer keeps to a directory of its own, there is always room, and a reader
 /// waits for the last answer to the writer whose file it reads.
 pub(crate) fn run_scripts<R: AllocGlobal + Threads + Wait + Sync>(
@@ -79,7 +78,7 @@ pub(crate) fn run_scripts<R: AllocGlobal + Threads + Wait + Sync>(
     scale: Scale,
 ) -> Result<Digest, Fault> {
     let mut digest = Digest::new();
-    for turn in 0..2u64 {
+    for turn in 0..3u64 {
         for (part, cast) in CASTS.iter().enumerate() {
             let mut random = Random::new(seed, turn * 100 + part as u64);
             run_script(rt, &mut random, *cast, scale.times(COMMANDS), &mut digest)?;

@@ -62,6 +62,13 @@ pub(crate) struct Volume<F: Flash> {
     pub(crate) digest: Digest,
 }
 
+impl Volume<MemoryFlash> {
+    /// Mounts erased flash of these sizes.
+    pub(crate) fn erased(alloc: Global, sizes: Sizes) -> Result<Volume<MemoryFlash>, Fault> {
+        Volume::mount(alloc, sizes.flash(alloc)?)
+    }
+}
+
 impl<F: Flash + Drop> Volume<F> {
     /// Mounts what a flash holds.
     pub(crate) fn mount(alloc: Global, flash: F) -> Result<Volume<F>, Fault> {
@@ -155,6 +162,39 @@ impl<F: Flash + Drop> Volume<F> {
             self.digest.add_bytes(bytes.get(..count).unwrap_or(&[]));
         }
         Ok(())
+    }
+
+    /// Looks at a file whole: its inode, its size and all its bytes.
+    pub(crate) fn look_through(&mut self, path: &str) -> Result<(), Fault> {
+        let path = Path::parse(self.alloc, path)?;
+        let tree = self.core.tree();
+        let inode = tree.resolve(&path);
+        self.digest.add_some(inode);
+        if let Some(inode) = inode {
+            self.digest.add_file(tree, inode);
+        }
+        Ok(())
+    }
+
+    /// Looks at all names, and at all bytes of all files.
+    pub(crate) fn look_at_all(&mut self) -> Result<(), Fault> {
+        self.digest.add_tree(self.alloc, self.core.tree())
+    }
+
+    /// Ends the session and begins another one.
+    pub(crate) fn mount_again(self) -> Result<Volume<F>, Fault> {
+        let alloc = self.alloc;
+        let (flash, digest) = self.close()?;
+        let mut volume = Volume::mount(alloc, flash)?;
+        volume.digest = digest;
+        Ok(volume)
+    }
+
+    /// Ends the session, looks in another one at all that stands there, and says what came of all.
+    pub(crate) fn end(self) -> Result<u64, Fault> {
+        let mut volume = self.mount_again()?;
+        volume.look_at_all()?;
+        Ok(volume.digest.number())
     }
 
     /// Unmounts, and gives the flash back with the digest.

@@ -3,5 +3,3 @@ pub mod Wishes
 pub mod Causes
 pub mod Dump
 pub mod Added
-pub mod Lines
-pub mod Words

@@ -10,7 +10,6 @@ mod command;
 mod dumping;
 mod fault;
 mod keyword;
-mod lines;
 mod mistake;
 mod quote;
 mod script;

@@ -8,7 +8,6 @@ use crate::command::Command;
 use crate::fault::{ScriptFault, ScriptWhy};
 pub use crate::keyword::LineForm;
 use crate::keyword::{Keyword, VOLUME_FORM};
-use crate::lines::Lines;
 use crate::mistake::{Mistake, ScriptMistake};
 use crate::quote::Quote;
 use crate::word::Words;
@@ -92,7 +91,7 @@ impl<'a> Script<'a> {
     /// Reads a script as `parse` does. An error has the fault of `parse`, and says more of it.
     pub fn read(alloc: Global, text: &'a [u8]) -> Result<Script<'a>, ScriptMistake> {
         let mut draft = Draft::new(alloc);
-        for (index, line) in Lines::of(text).enumerate() {
+        for (index, line) in text.split(|byte| *byte == b'\n').enumerate() {
             if let Err(mistake) = draft.take_line(line) {
                 return Err(ScriptMistake {
                     fault: ScriptFault {

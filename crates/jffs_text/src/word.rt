@@ -2,16 +2,12 @@
 
 ghost use Rattle.std.specs.Prelude.{◌≡◌, ◌≤◌, ◌<◌, ◌*◌, true, length, IfOk};
 ghost use Rattle.jffs_text.specs.Dump.{hex, hex_digit};
-ghost use Rattle.jffs_text.specs.Words.{spaces};
 
 use crate::mistake::Mistake;
 use crate::quote::Quote;
 use crate::spelled::SpelledPath;
 use jffs_node::{Path, PathFault};
 use std::alloc::Global;
-
-/// The most bytes whose spaces are counted in one byte.
-const COUNTED_MAX: usize = 255;
 
 /// The words of a line that are still to come. Words are separated by one space, so two
 /// spaces have an empty word between them.
@@ -149,30 +145,12 @@ fn no_path(word: &str, fault: PathFault) -> Mistake {
     }
 }
 
-/// How many spaces a text has.
 fn spaces_in(text: &[u8]) -> usize
-    ensures count { result ≡ spaces text.now }
-    ensures bound { result ≤ length text.now }
+    ensures { result ≤ length text.now }
 {
     let mut spaces = 0;
-    let mut rest = text;
-    'parts: while rest.len() > COUNTED_MAX {
-        let (part, others) = rest.split_at(COUNTED_MAX);
-        spaces += usize::from(few_spaces_in(part));
-        rest = others;
-    }
-    spaces + usize::from(few_spaces_in(rest))
-}
-
-/// How many spaces a short text has. They are counted in a byte, so that the compiler can count
-/// those of many bytes at once.
-fn few_spaces_in(text: &[u8]) -> u8
-    requires { length text.now ≤ COUNTED_MAX }
-    ensures { result ≡ spaces text.now }
-{
-    let mut spaces = 0;
-    for byte in text {
-        spaces += u8::from(*byte == b' ');
+    for index in 0..text.len() {
+        spaces += usize::from(text[index] == b' ');
     }
     spaces
 }

@@ -2,7 +2,6 @@
 
 mod bounds;
 mod calls;
-mod lines;
 mod told;
 mod writers;
 

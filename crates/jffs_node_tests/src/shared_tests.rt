@@ -121,7 +121,7 @@ fn longest(alloc: Global) -> Result<Node, Fail> {
 fn the_longest_data_are_shared_too(rt: HostRuntime) -> Result<(), Fail> {
     let node = longest(rt.alloc())?;
     let record = spelled(&rt, rt.alloc(), &node)?;
-    assert_eq!(rt; record.len() as u32, RECORD_MAX);
+    assert_eq!(rt; record.len(), RECORD_MAX as usize);
     let sector = Bytes::from_vec(sector_with(rt.alloc(), &record, 0, 0x4A)?)?;
     let read = shared_at(&sector, 0)?;
     assert!(rt; !sector.is_unique());

@@ -26,7 +26,7 @@ use Rattle.jffs_core.proofs.Refusing.{failed_more}
 use Rattle.jffs_core.proofs.Stepping.{unmounts_have_room}
 use Rattle.jffs_serve.specs.Replies.{Reply, AllReply, answer_in}
 use Rattle.jffs_serve.specs.Chain.{KeepsHistory, IsReplied, Chain, after_reply}
-use Rattle.jffs_serve.specs.ChainLaws.{EndsSo, ChainsEndSo, IsRequested, RepliesAreLawful, FailuresAreFaults, FailedAnswersFailed, NoRoomAtTheTurn, NoSpaceIsHeavy, UnmountsHaveSpace, HasTwo, all_keep_two, any_failure, volume_of}
+use Rattle.jffs_serve.specs.ChainLaws.{EndsSo, ChainsEndSo, IsRequested, RepliesAreLawful, FailuresAreFaults, FailedAnswersFailed, NoRoomAtTheTurn, NoSpaceIsHeavyThen, UnmountsHaveSpaceThen, NoSpaceIsHeavy, UnmountsHaveSpace, HasTwo, all_keep_two, any_failure, volume_of}
 use Rattle.jffs_serve.proofs.Keeping.{failed_but_capacity, keeps_worked, stays_failed}
 
 -- the node in hand is an own copy, or that of one of these requests
@@ -69,7 +69,8 @@ module _ {mounted past : List Node} {was now : CoreState} {r : Reply} (replied :
   pub says_failed : was.failed ≡ true → r.step.outcome ≡ Refused causes.Failed
   says_failed = step.failed_says_so.0
 
-  fails_as : now.failed ≡ is_failure r.step.outcome
+  -- the core has failed exactly where the answer tells of it
+  pub fails_as : now.failed ≡ is_failure r.step.outcome
   fails_as = replied.answer.answers.fails
 
   pub worked_before : now.failed ≡ false → was.failed ≡ false
@@ -134,7 +135,8 @@ which_fails replies r f = ⊎_elim inl (λ now. inr (sym (or-false (is_failure r
     (sym (list_any-append (λ (a : Answer). is_failure a.outcome) (map answer_in replies) (answer_in r ∷ []))
     ∙ (ap any_failure (sym (map-append answer_in replies (r ∷ []))) ∙ f)))
 
-same_volume : (a b : CoreState) → HasSizes a.index.sectors a.index.sector_size b.index → volume_of b ≡ volume_of a
+-- two cores whose indexes have the same sizes are of one volume
+pub same_volume : (a b : CoreState) → HasSizes a.index.sectors a.index.sector_size b.index → volume_of b ≡ volume_of a
 same_volume a b sizes = ap (λ k. record (volume_of b) { sectors = k }) (sym sizes.0) ∙ ap (λ k. record (volume_of a) { sector_size = k }) (sym sizes.1)
 
 -- where no turn was taken yet
@@ -297,28 +299,26 @@ two_erased mounted past taken start was now before r stands chain two keep repli
     let so = chains_end_so mounted past taken start was before stands chain in
     so.two keep (no_space_works replied is) two
 
-pub no_space_is_heavy : NoSpaceIsHeavy
-no_space_is_heavy mounted past taken start was now before r n stands chain two keep replied is decided fresh =
-    let so = chains_end_so mounted past taken start was before stands chain in
+pub no_space_is_heavy_then : NoSpaceIsHeavyThen
+no_space_is_heavy_then mounted taken was now r n replied two is decided fresh =
     let why = outcome_is replied (Refused causes.NoSpace) is in
     let m = why.0.1.0 in
     let none = why.0.1.1 in
     let same : m ≡ n = let both = sym none.decided ∙ decided in cc in
-    let found = why.0.1.2 (subst (λ k. is_fresh (with k 0 0 0) ≡ true) (sym same) fresh) (two_erased mounted past taken start was now before r stands chain two keep replied is) in
+    why.0.1.2 (subst (λ k. is_fresh (with k 0 0 0) ≡ true) (sym same) fresh) two
+
+pub unmounts_have_space_then : UnmountsHaveSpaceThen
+unmounts_have_space_then mounted taken was now r replied two wish is =
+    let t = turn_of taken was now in
+    let taken_so : IsStep t r.request (Refused causes.NoSpace) (after_reply replied) = subst (λ (o : Outcome). IsStep t r.request o (after_reply replied)) is (step replied) in
+    unmounts_have_room t r.request (after_reply replied) (ap is_unmount_wish wish) two taken_so
+
+pub no_space_is_heavy : NoSpaceIsHeavy
+no_space_is_heavy mounted past taken start was now before r n stands chain two keep replied is decided fresh =
+    let so = chains_end_so mounted past taken start was before stands chain in
+    let found = no_space_is_heavy_then mounted taken was now r n replied (two_erased mounted past taken start was now before r stands chain two keep replied is) is decided fresh in
     subst (λ (v : Volume). heavy v.sectors v.sector_size ≤ weight taken) (same_volume start was so.sizes) found
 
 pub unmounts_have_space : UnmountsHaveSpace
 unmounts_have_space mounted past taken start was now before r stands chain two keep replied wish is =
-    let t = turn_of taken was now in
-    let taken_so : IsStep t r.request (Refused causes.NoSpace) (after_reply replied) = subst (λ (o : Outcome). IsStep t r.request o (after_reply replied)) is (step replied) in
-    unmounts_have_room t r.request (after_reply replied) (ap is_unmount_wish wish) (two_erased mounted past taken start was now before r stands chain two keep replied is) taken_so
-
--- a core that had failed at the beginning of a chain has failed at its end
-pub still_failed :
-    (mounted past after : List Node) (start core : CoreState) (replies : List Reply)
-    → start.failed ≡ true → Chain mounted past start replies core after → core.failed ≡ true
-still_failed mounted past after start core [] had chain = stays_failed start core chain.0 had
-still_failed mounted past after start core (r ∷ replies) had chain =
-    let link = chain.0 in
-    let says = says_failed link.replied (stays_failed start link.was link.between had) in
-    still_failed mounted (after_reply link.replied) after link.now core replies (fails_as link.replied ∙ ap is_failure says) chain.1
+    unmounts_have_space_then mounted taken was now r replied (two_erased mounted past taken start was now before r stands chain two keep replied is) wish is

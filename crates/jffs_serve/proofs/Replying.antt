@@ -26,7 +26,7 @@ use Rattle.jffs_serve.specs.PendingStep.{unput}
 use Rattle.jffs_serve.specs.Stopping.{owed, ending_in, StopsAt}
 use Rattle.jffs_serve.specs.Replies.{Reply, Replies, answer_in, any_closed}
 use Rattle.jffs_serve.specs.Chain.{KeepsHistory, IsReplied}
-use Rattle.jffs_serve.specs.Answered.{Start, start_of, ErasesSince, HasReplied, RepliesMore, HasSameReplies}
+use Rattle.jffs_serve.specs.Answered.{Start, start_of, ErasesSince, HasReplied, RepliesMore, HasSameReplies, SessionsGoOn}
 use Rattle.jffs_serve.proofs.Keeping.{same_but_capacity}
 use Rattle.jffs_serve.proofs.Stopping.{stops_at_once, stops_along, still_owed}
 use Rattle.jffs_serve.proofs.Erasing.{since_start, since_answer, since_same, since_along}
@@ -177,6 +177,27 @@ pub nothing_more :
     → (replies : List Reply) × HasReplied start core unsent put taken replies × StopsAt from replies (ending_in ending core unsent)
 nothing_more start core unsent put taken ending has owes = ([], has, stops_at_once _ _ owes)
 
+pub sessions_go_on : SessionsGoOn
+sessions_go_on start old new unsent unsent' put put' taken taken' first second here there = record {
+  all_taken = λ w. there.all_taken w
+      ∙ (ap (λ (l : List Request). l ++ of w (map (λ (q : Reply). q.request) second)) (here.all_taken w) ∙ of_more w first second (start.taken w));
+  answered = there.answered ∙ (ap (λ (l : List Answer). l ++ map answer_in second) here.answered ∙ map_more answer_in first second start.core.answers);
+  sent = there.sent ∙ (ap (λ (l : List Step). l ++ map (λ (q : Reply). q.step) second) here.sent ∙ map_more (λ (q : Reply). q.step) first second start.put);
+  reply = each_append Replies first second here.reply there.reply;
+  closed = there.closed ∙ (ap (λ (b : Bool). b || any_closed (map answer_in second)) here.closed ∙ closed_more start.core.closed first second);
+  failed = λ fails.
+      let had = here.failed fails in
+      let kept = there.failed had.0 in
+      (kept.0, kept.1 ∙ had.1);
+  sizes = (here.sizes.0 ∙ there.sizes.0, here.sizes.1 ∙ there.sizes.1);
+  erases = subst (λ (k : ℕ). ErasesSince start.core k new) (sym (length-append first second))
+      (since_along start.core old new (length first) (length second) here.sizes.0 there.failed here.erases there.erases);
+  lawful = λ mounted past stands.
+      let run = here.lawful mounted past stands in
+      runs_along start.core old new mounted past first second run
+      (there.lawful mounted run.after (chain_stands mounted past run.after start.core old first stands run.chain));
+}
+
 module _ {F : Type 0} where
   -- the beginning: no reply yet
   pub nothing_replied :
@@ -199,31 +220,6 @@ module _ {F : Type 0} where
   no_reply session put taken =
       nothing_more (start_of session put taken) session.core session.unsent put taken None (nothing_replied session put taken) refl
 
-  -- one stretch of replies after another
-  replied_along :
-      (start : Start) (old : Session F) (new : CoreState) (unsent : Option PendingStep) (put now : List Step) (before taken : ℕ → List Request) (first second : List Reply)
-      → HasReplied start old.core old.unsent put before first → HasReplied (start_of old put before) new unsent now taken second
-      → HasReplied start new unsent now taken (first ++ second)
-  replied_along start old new unsent put now before taken first second here there = record {
-    all_taken = λ w. there.all_taken w
-        ∙ (ap (λ (l : List Request). l ++ of w (map (λ (q : Reply). q.request) second)) (here.all_taken w) ∙ of_more w first second (start.taken w));
-    answered = there.answered ∙ (ap (λ (l : List Answer). l ++ map answer_in second) here.answered ∙ map_more answer_in first second start.core.answers);
-    sent = there.sent ∙ (ap (λ (l : List Step). l ++ map (λ (q : Reply). q.step) second) here.sent ∙ map_more (λ (q : Reply). q.step) first second start.put);
-    reply = each_append Replies first second here.reply there.reply;
-    closed = there.closed ∙ (ap (λ (b : Bool). b || any_closed (map answer_in second)) here.closed ∙ closed_more start.core.closed first second);
-    failed = λ fails.
-        let had = here.failed fails in
-        let kept = there.failed had.0 in
-        (kept.0, kept.1 ∙ had.1);
-    sizes = (here.sizes.0 ∙ there.sizes.0, here.sizes.1 ∙ there.sizes.1);
-    erases = subst (λ (k : ℕ). ErasesSince start.core k new) (sym (length-append first second))
-        (since_along start.core old.core new (length first) (length second) here.sizes.0 there.failed here.erases there.erases);
-    lawful = λ mounted past stands.
-        let run = here.lawful mounted past stands in
-        runs_along start.core old.core new mounted past first second run
-        (there.lawful mounted run.after (chain_stands mounted past run.after start.core old.core first stands run.chain));
-  }
-
   -- two stretches of replies are one, where the first leaves what is owed
   pub then_more :
       (a b c : Session F) (put_a put_b put_c : List Step) (taken_a taken_b taken_c : ℕ → List Request) (between ending : Option Served)
@@ -231,7 +227,7 @@ module _ {F : Type 0} where
       → RepliesMore a put_a taken_a b put_b taken_b between → RepliesMore b put_b taken_b c put_c taken_c ending → RepliesMore a put_a taken_a c put_c taken_c ending
   then_more a b c put_a put_b put_c taken_a taken_b taken_c between ending owes first second = (
     first.0 ++ second.0,
-    replied_along (start_of a put_a taken_a) b c.core c.unsent put_b put_c taken_b taken_c first.0 second.0 first.1 second.1,
+    sessions_go_on (start_of a put_a taken_a) b.core c.core b.unsent c.unsent put_b put_c taken_b taken_c first.0 second.0 first.1 second.1,
     stops_along _ _ _ first.0 second.0 (subst (StopsAt (owed a.core a.unsent) first.0) owes first.2) second.2,
   )
 

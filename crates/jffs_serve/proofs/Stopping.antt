@@ -16,15 +16,14 @@ use Rattle.jffs_serve.specs.declared.session.Served.{Served}
 use Rattle.jffs_serve.specs.declared.session.Served.TheVariants as served
 use Rattle.jffs_serve.specs.PendingStep.{ending_of, ending_after, served_as, served_by}
 use Rattle.jffs_serve.specs.Replies.{Reply, Replies, AllReply, answer_in, any_closed, FitsServed}
-use Rattle.jffs_serve.specs.Stopping.{ending_with, or_closed, owed, ending_in, StopsAt}
+use Rattle.jffs_serve.specs.Stopping.{ending_with, or_closed, owed, ending_in, StopsAt, StopsGoOn, EndsAs}
 
 -- no reply was made
 pub stops_at_once : (from to : Option Unmounted) → from ≡ to → StopsAt from [] to
 stops_at_once (Some ending) to same = (refl, sym same)
 stops_at_once None to same = sym same
 
--- two stretches are one
-pub stops_along : (a b c : Option Unmounted) (first second : List Reply) → StopsAt a first b → StopsAt b second c → StopsAt a (first ++ second) c
+pub stops_along : StopsGoOn
 stops_along (Some ending) b c first second here there =
     let rest = subst (λ (e : Option Unmounted). StopsAt e second c) here.1 there in
     (ap₂ (λ (xs ys : List Reply). xs ++ ys) here.0 rest.0, rest.1)
@@ -144,3 +143,12 @@ stopped_fits_served served.Closed replies core unsent stops = stopped_fits repli
 stopped_fits_served (served.NotClosed cause) replies core unsent stops = stopped_fits replies (unmounted.NotClosed cause) stops
 stopped_fits_served served.Ended replies core unsent stops = tt
 stopped_fits_served served.Memory replies core unsent stops = tt
+
+-- and it ends as its replies say
+pub ends_as :
+    (served : Served) (replies : List Reply) (core : CoreState) (unsent : Option PendingStep)
+    → StopsAt None replies (ending_in (Some served) core unsent) → EndsAs served replies
+ends_as served.Closed replies core unsent stops = stops
+ends_as (served.NotClosed cause) replies core unsent stops = stops
+ends_as served.Ended replies core unsent stops = stops
+ends_as served.Memory replies core unsent stops = (_, stops)

@@ -55,6 +55,17 @@ pub record HasReplied (start : Start) (core : CoreState) (unsent : Option Pendin
   pub lawful : (mounted past : List Node) → Represents mounted past start.core
       → RunsTo start.core core mounted past replies
 
+-- What was replied up to some moment, and then what was replied from there on, was replied since the
+-- start.
+abbrev pub SessionsGoOn : Type 0
+SessionsGoOn =
+    (start : Start) (old new : CoreState) (unsent unsent' : Option PendingStep)
+    (put put' : List Step) (taken taken' : ℕ → List Request) (first second : List Reply)
+    → HasReplied start old unsent put taken first
+    → HasReplied (record { taken = taken; core = old; put = put ++ unput unsent }) new unsent' put'
+    taken' second
+    → HasReplied start new unsent' put' taken' (first ++ second)
+
 module _ {F : Type 0} where
   -- From one moment of a session to a later one more replies were made, up to the first by which
   -- serving has to end; and where it ends, it ends as they say.

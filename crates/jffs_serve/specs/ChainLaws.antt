@@ -122,6 +122,20 @@ NoRoomAtTheTurn = (mounted taken : List Node) (was now : CoreState) (r : Reply)
     → IsReplied mounted taken was r now → r.step.outcome ≡ Refused NoSpace
     → (n : NewNode) × HadNoRoom (turn_of taken was now) r.request n
 
+-- Where two sectors are erased when the request is taken, a fresh node is answered NoSpace only
+-- where the live records weigh the stated share.
+abbrev pub NoSpaceIsHeavyThen : Type 0
+NoSpaceIsHeavyThen = (mounted taken : List Node) (was now : CoreState) (r : Reply) (n : NewNode)
+    → IsReplied mounted taken was r now → HasTwo was → r.step.outcome ≡ Refused NoSpace
+    → decision (turn_of taken was now) r.request ≡ Ok n → is_fresh (with n 0 0 0) ≡ true
+    → heavy was.index.sectors was.index.sector_size ≤ weight taken
+
+-- And an Unmount is never answered so.
+abbrev pub UnmountsHaveSpaceThen : Type 0
+UnmountsHaveSpaceThen = (mounted taken : List Node) (was now : CoreState) (r : Reply)
+    → IsReplied mounted taken was r now → HasTwo was → r.request.wish ≡ Unmount
+    → r.step.outcome ≡ Refused NoSpace → ⊥
+
 -- Where two sectors were erased at first, and each reply kept them, a fresh node is answered
 -- NoSpace only where the live records weigh the stated share.
 abbrev pub NoSpaceIsHeavy : Type 0

@@ -1,5 +1,6 @@
 -- When serving stops.
-use Rattle.std.specs.Prelude.{◌≡◌, Bool, true, false, List, [], ◌∷◌, Option, Some, None}
+use Rattle.std.specs.Prelude.{◌≡◌, Bool, true, false, List, [], ◌∷◌, ◌++◌, Option}
+use Rattle.std.specs.Prelude.{Some, None}
 use Rattle.jffs_tree.specs.Decide.{is_unmount_wish}
 use Rattle.jffs_core.specs.CoreState.{CoreState}
 use Rattle.jffs_serve.specs.declared.session.PendingStep.{PendingStep}
@@ -39,6 +40,19 @@ StopsAt (Some ending) replies now = (replies ≡ []) × (now ≡ Some ending)
 StopsAt None [] now = now ≡ None
 StopsAt None (r ∷ replies) now = StopsAt (ending_with r) replies now
 
+-- Two stretches of replies, the second of which begins with what the first leaves owed, are one.
+abbrev pub StopsGoOn : Type 0
+StopsGoOn = (from between to : Option Unmounted) (first second : List Reply)
+    → StopsAt from first between → StopsAt between second to → StopsAt from (first ++ second) to
+
 -- nothing is owed at first, and the first reply by which serving ends is the last
 abbrev pub StopsAtFirst : List Reply → Type 0
 StopsAtFirst replies = (now : Option Unmounted) × StopsAt None replies now
+
+-- How serving ended is what the replies say, of which the first that ends it is the last: where a
+-- line ran out none of them ends it; where memory was wanting one may, which isn't served yet.
+abbrev pub EndsAs : Served → List Reply → Type 0
+EndsAs served.Closed replies = StopsAt None replies (Some unmounted.Closed)
+EndsAs (served.NotClosed cause) replies = StopsAt None replies (Some (unmounted.NotClosed cause))
+EndsAs served.Ended replies = StopsAt None replies None
+EndsAs served.Memory replies = StopsAtFirst replies

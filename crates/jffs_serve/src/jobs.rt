@@ -1,6 +1,6 @@
 //! The ring of jobs: images of oldest sectors, on their way from the log side to the cleaner.
 
-ghost use Rattle.std.specs.Prelude.{◌≡◌, ◌⊎◌, ◌<◌, ◌↔◌, IsErrOf, IfOk};
+ghost use Rattle.std.specs.Prelude.{◌≡◌, ◌⊎◌, ◌<◌, ◌↔◌, IsErrOf, IfOk, IfErr};
 ghost use Rattle.jffs_serve.specs.Jobs.{IsJobRing};
 ghost use Rattle.jffs_serve.specs.declared.jobs.TheConstants.{JOBS_MAX};
 
@@ -30,6 +30,8 @@ pub fn job_ring(alloc: Global, capacity: usize) -> Result<(Jobs, JobEnd), LineFa
     ensures made { IfOk result (λ ring. IsJobRing capacity ring.0 ring.1) }
     ensures capacity { IsErrOf result LineFault.Capacity
         ↔ ((capacity ≡ 0) ⊎ (JOBS_MAX < capacity)) }
+    ensures refused { IfErr result
+        (λ why. (why ≡ LineFault.Capacity) ⊎ (why ≡ LineFault.Memory)) }
 {
     if capacity == 0 || capacity > JOBS_MAX {
         return Err(LineFault::Capacity);

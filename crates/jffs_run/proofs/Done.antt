@@ -18,12 +18,13 @@ use Rattle.jffs_core.proofs.Scanning.{scans_find, failed_found}
 use Rattle.jffs_serve.specs.Replies.{Reply}
 use Rattle.jffs_serve.specs.Chain.{IsReplied, Chain, after_reply}
 use Rattle.jffs_serve.specs.ChainLaws.{volume_of, IsRequested}
+use Rattle.jffs_serve.proofs.ChainLaws.{fails_as}
 use Rattle.jffs_run.specs.Account.{Account}
 use Rattle.jffs_run.specs.Headline.{IsRun}
 use Rattle.jffs_run.specs.Faults.{LeftByTurns}
 use Rattle.jffs_run.specs.Done.{done_by_all, granted_done, AllFree, IsDoneToo, RunsAreFree, GrantedIsDone, EachIsDone, FailedIsDoneOrNot}
 use Rattle.jffs_run.proofs.Scanning.{ends_so, same_scan}
-use Rattle.jffs_run.proofs.Turns.{turn_in, works_then}
+use Rattle.jffs_run.proofs.Turns.{turn_in}
 
 -- a turn does what its answer says
 reply_done : (mounted past : List Node) (was now : CoreState) (r : Reply) (replied : IsReplied mounted past was r now)
@@ -100,12 +101,12 @@ pub granted_is_done : GrantedIsDone
 granted_is_done before start account fresh run works = turned_done before account.device start fresh (turns_of start account run) works
 
 pub each_is_done : EachIsDone
-each_is_done before start account fresh run works first later r are =
+each_is_done before start account fresh run first later r are tells =
     let mounted = past_of fresh.scanned.log in
     let turn = turn_in run mounted first r later fresh.stands are in
     let at = turn.within in
     let s = at.replied.answer.answers.stands in
-    let now_works = works_then run mounted first r later turn works in
+    let now_works = fails_as at.replied ∙ tells in
     let finds = scans_find mounted (after_reply at.replied) at.now s now_works in (
       turn,
       record {

@@ -1,5 +1,5 @@
 -- Lemmas for what a run promises.
-use Rattle.std.proofs.Common.{◌≡◌, ◌≢◌, ℕ, ◌+◌, ◌≤◌, ◌<◌, ◌⊎◌, inl, inr, Bool, List, [], ◌∷◌, ◌++◌, length, take, map, refl, sym, ◌∙◌, ap, ap₂, subst, arith, eqb, cond, zero, suc}
+use Rattle.std.proofs.Common.{◌≡◌, ◌≢◌, ℕ, ◌+◌, ◌≤◌, ◌<◌, ◌⊎◌, inl, inr, Bool, List, [], ◌∷◌, ◌++◌, length, take, map, refl, sym, ◌∙◌, ap, ap₂, subst, arith, eqb, cond, zero, suc, Option}
 use Rattle.std.specs.List.{All, Contains, range_with_len}
 use Rattle.std.proofs.lemmas.Bool.{cond-true, cond-false, eq-eqb, ne_eqb}
 use Rattle.std.proofs.lemmas.Bool.Decides.{eqb_tells}
@@ -14,14 +14,14 @@ use Rattle.jffs_line.specs.declared.hand.Hands.{Hands}
 use Rattle.jffs_line.specs.Settling.{all_hands}
 use Rattle.jffs_serve.specs.declared.session.Served.{Served}
 use Rattle.jffs_serve.specs.Replies.{Reply, AllReply, answer_in, any_closed, FitsServed}
-use Rattle.jffs_serve.specs.Stopping.{StopsAtFirst}
+use Rattle.jffs_serve.specs.Stopping.{EndsAs}
 use Rattle.jffs_text.specs.declared.script.Writer.{Writer}
 use Rattle.jffs_text.specs.declared.script.ReaderStatement.{ReaderStatement}
 use Rattle.jffs_run.specs.declared.reader.ReaderEnd.{ReaderEnd}
 use Rattle.jffs_run.specs.Looking.{HaveSeen}
 use Rattle.jffs_text.specs.Wishes.{wishes_of}
 use Rattle.jffs_run.specs.Numbered.{numbered}
-use Rattle.jffs_run.specs.Ends.{EachFrom, AreCopies, commands_at, accepted_by, HandedIn, HandedInAll}
+use Rattle.jffs_run.specs.Ends.{EachFrom, AskForCopies, commands_at, accepted_by, HandedIn, HandedInAll}
 use Rattle.jffs_flash.specs.Device.{Device}
 use Rattle.jffs_core.specs.Past.{IsLeftBy}
 use Rattle.jffs_run.specs.Account.{Account}
@@ -172,9 +172,10 @@ module _ {H : Type 0} (g : Hand.Ghosts H) where
       ]
 
   -- the account of a run with these hands
-  abbrev pub account_with : List Writer → List ReaderStatement → Hands H → List Answer → List Request → List ReaderEnd → Served → Device → Account
-  account_with script statements hands answers waiting ends served device = record {
+  abbrev pub account_with : List Writer → Option ℕ → List ReaderStatement → Hands H → List Answer → List Request → List ReaderEnd → Served → Device → Account
+  account_with script rounds statements hands answers waiting ends served device = record {
     script = script;
+    cleaner = rounds;
     statements = statements;
     accepted = λ sender. accepted_by g sender (all_hands hands);
     answers = answers;
@@ -186,12 +187,12 @@ module _ {H : Type 0} (g : Hand.Ghosts H) where
 
   -- what all threads did makes a run
   pub is_run :
-      (start core : CoreState) (script : List Writer) (statements : List ReaderStatement) (hands : Hands H) (replies : List Reply) (waiting : List Request) (ends : List ReaderEnd) (served : Served) (device : Device)
+      (start core : CoreState) (script : List Writer) (rounds : Option ℕ) (statements : List ReaderStatement) (hands : Hands H) (replies : List Reply) (waiting : List Request) (ends : List ReaderEnd) (served : Served) (device : Device)
       → length script ≤ 8 → length hands.writers.items ≡ length script
       → map g.sender (all_hands hands) ≡ senders (length script)
       → EachFrom (HandedIn g script) 0 hands.writers.items
       → (g.accepted hands.control.hand ≡ []) ⊎ EachFrom (HandedInAll g script) 0 hands.writers.items
-      → AreCopies (g.accepted hands.cleaner)
+      → AskForCopies rounds (g.accepted hands.cleaner)
       → (g.accepted hands.control.hand ≡ []) ⊎ (g.accepted hands.control.hand ≡ request (g.sender hands.control.hand) 1 Unmount ∷ [])
       → AllReply replies
       → All (λ hand. of (g.sender hand) (requests_in replies) ++ of (g.sender hand) waiting ≡ g.accepted hand) (all_hands hands)
@@ -200,9 +201,9 @@ module _ {H : Type 0} (g : Hand.Ghosts H) where
       → HaveSeen (record { opening = start.tree; steps = map (λ (r : Reply). r.step) replies }) statements ends
       → HasSizes start.index.sectors start.index.sector_size core.index → ErasesSince start (length replies) core
       → IsLeftBy core device → ((mounted past : List Node) → Represents mounted past start → RunsTo start core mounted past replies)
-      → FitsServed served (any_closed (map answer_in replies)) replies → StopsAtFirst replies
-      → IsRun start (account_with script statements hands (map answer_in replies) waiting ends served device)
-  is_run start core script statements hands replies waiting ends served device eight count numbers first whole copies unmounts replied settled counted others seen sizes erases left lawful ending stops =
+      → FitsServed served (any_closed (map answer_in replies)) replies → EndsAs served replies
+      → IsRun start (account_with script rounds statements hands (map answer_in replies) waiting ends served device)
+  is_run start core script rounds statements hands replies waiting ends served device eight count numbers first whole copies unmounts replied settled counted others seen sizes erases left lawful ending stops =
       let writers : List H = hands.writers.items in
       let tail : List H = hands.cleaner ∷ hands.control.hand ∷ [] in
       let accepted : ℕ → List Request = λ sender. accepted_by g sender (writers ++ tail) in
@@ -224,7 +225,7 @@ module _ {H : Type 0} (g : Hand.Ghosts H) where
       record {
         seen = seen;
         ending = ending;
-        stops = stops;
+        ends = stops;
         core = core;
         left = left;
         sizes = sizes;
@@ -253,7 +254,7 @@ module _ {H : Type 0} (g : Hand.Ghosts H) where
           | inl none ↦ inl (control_is ∙ none)
           | inr one ↦ inr (control_is ∙ (one ∙ ap (λ (w : ℕ). request w 1 Unmount ∷ []) ten))
         ];
-        cleaner = subst AreCopies (sym cleaner_is) copies;
+        cleaner = subst (AskForCopies rounds) (sym cleaner_is) copies;
         others = λ sender other not_nine not_ten. elsewhere sender other
             ∙ (passed sender hands.cleaner (hands.control.hand ∷ []) (λ is. not_nine (sym is ∙ nine)) ∙ passed sender hands.control.hand [] (λ is. not_ten (sym is ∙ ten)));
       }

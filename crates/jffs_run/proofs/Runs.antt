@@ -25,7 +25,7 @@ use Rattle.jffs_serve.specs.PendingStep.{unput}
 use Rattle.jffs_serve.specs.declared.session.Served.{Served}
 use Rattle.jffs_serve.specs.Replies.{Reply, answer_in}
 use Rattle.jffs_serve.specs.Stopping.{ending_in, StopsAt}
-use Rattle.jffs_serve.proofs.Stopping.{stopped_in_order, stopped_fits_served}
+use Rattle.jffs_serve.proofs.Stopping.{stopped_in_order, stopped_fits_served, ends_as}
 use Rattle.jffs_serve.specs.Answered.{Start, HasReplied}
 use Rattle.jffs_core.specs.declared.answer.Answer.{Answer}
 use Rattle.jffs_text.specs.declared.script.Writer.{Writer}
@@ -68,11 +68,11 @@ module _ {H : Type 0} (g : Hand.Ghosts H) where
 
   -- what was handed in, answered, seen and settled is a run
   pub whole_run :
-      (script : List Writer) (statements : List ReaderStatement) (crew : Crew H) (hands : Hands H)
+      (script : List Writer) (rounds : Option ℕ) (statements : List ReaderStatement) (crew : Crew H) (hands : Hands H)
       (core : CoreState) (unsent : Option PendingStep) (published : History) (pending : List Step)
       (start : Start) (taken : ℕ → List Request) (replies : List Reply) (waiting : List Request) (ends : List ReaderEnd) (served : Served) (device : Device)
       → length script ≤ 8 → map g.sender (crew_hands g crew) ≡ senders (length script)
-      → HasHandedIn g script crew hands
+      → HasHandedIn g script rounds crew hands
       → ((w : ℕ) → start.taken w ≡ []) → start.core.answers ≡ [] → start.put ≡ [] → published.opening ≡ start.core.tree
       → HasReplied start core unsent (published.steps ++ pending) taken replies
       → All (λ hand. taken (g.sender hand) ++ of (g.sender hand) waiting ≡ g.accepted hand) (all_hands hands)
@@ -81,8 +81,8 @@ module _ {H : Type 0} (g : Hand.Ghosts H) where
       → ((history : History) → IsWhole published (length core.answers) history → HaveSeen history statements ends)
       → IsLeftBy core device
       → StopsAt None replies (ending_in (Some served) core unsent)
-      → IsRun start.core (account_with g script statements hands core.answers waiting ends served device)
-  whole_run script statements crew hands core unsent published pending start taken replies waiting ends served device eight numbers handed untaken unanswered unput_before opened_is has settled numbered others seen left stops =
+      → IsRun start.core (account_with g script rounds statements hands core.answers waiting ends served device)
+  whole_run script rounds statements crew hands core unsent published pending start taken replies waiting ends served device eight numbers handed untaken unanswered unput_before opened_is has settled numbered others seen left stops =
       let answers_are : core.answers ≡ map answer_in replies = has.answered ∙ ap (λ (l : List Answer). l ++ map answer_in replies) unanswered in
       let taken_is : (w : ℕ) → taken w ≡ of w (requests_in replies) = λ w. has.all_taken w ∙ ap (λ (l : List Request). l ++ of w (requests_in replies)) (untaken w) in
       let now = same_senders (all_hands hands) (crew_hands g crew) handed.ends ∙ numbers in
@@ -96,12 +96,12 @@ module _ {H : Type 0} (g : Hand.Ghosts H) where
       let replies_many : length (map answer_in replies) ≡ length replies = length-map replies answer_in in
       let steps_many : length steps ≡ length replies = length-map replies (λ (r : Reply). r.step) in
       ap₂ (λ (t : Tree) (l : List Step). let h : History = record { opening = t; steps = l } in h) (sym opened_is) (sym (prefix_whole published.steps steps (pending ++ unput unsent, put) (omega arith))) in
-      subst (λ (answers : List Answer). IsRun start.core (account_with g script statements hands answers waiting ends served device)) (sym answers_are)
-      (is_run g start.core core script statements hands replies waiting ends served device eight
+      subst (λ (answers : List Answer). IsRun start.core (account_with g script rounds statements hands answers waiting ends served device)) (sym answers_are)
+      (is_run g start.core core script rounds statements hands replies waiting ends served device eight
       (count_writers hands.writers.items hands.cleaner hands.control.hand (length script) now) now
       handed.first handed.whole handed.cleaner handed.control (stopped_in_order replies _ stops has.reply)
       (λ k d below. let w : ℕ = g.sender (get_or (all_hands hands) k d) in ap (λ (l : List Request). l ++ of w waiting) (sym (taken_is w)) ∙ settled k d below)
       numbered
       (λ w none. ap (λ (l : List Request). l ++ of w waiting) (sym (taken_is w)) ∙ others w none)
       (seen history whole) has.sizes has.erases left has.lawful
-      (stopped_fits_served served replies core unsent stops) (_, stops))
+      (stopped_fits_served served replies core unsent stops) (ends_as served replies core unsent stops))

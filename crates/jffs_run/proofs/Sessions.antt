@@ -49,7 +49,10 @@ sessions_are_done device (stretch ∷ later) sessions first is =
     }
 
 pub runs_are_sessions : RunsAreSessions
-runs_are_sessions before start account fresh run = record { start = start; fresh = fresh; turns = turns_of start account run }
+runs_are_sessions before start account fresh run = (
+  record { start = start; fresh = fresh; turns = turns_of start account run },
+  record { starts = refl; replies_are = refl; core_is = refl },
+)
 
 pub faults_end_sessions : FaultsEndSessions
 faults_end_sessions before why after given = ⊎_elim

@@ -1,6 +1,5 @@
 -- The turns of a run.
-use Rattle.std.proofs.Common.{◌≡◌, List, ◌∷◌, ◌++◌, false, subst}
-use Rattle.std.proofs.lemmas.Bool.{both_ways, false_from_ne_true}
+use Rattle.std.proofs.Common.{◌≡◌, ◌∙◌, List, ◌∷◌, ◌++◌, subst}
 use Rattle.jffs_node.specs.declared.node.Node.{Node}
 use Rattle.jffs_log.specs.Image.{past_of}
 use Rattle.jffs_core.specs.CoreState.{CoreState}
@@ -10,7 +9,7 @@ use Rattle.jffs_serve.specs.Replies.{Reply}
 use Rattle.jffs_serve.specs.Chain.{Chain, after_reply}
 use Rattle.jffs_serve.specs.ChainLaws.{EndsSo}
 use Rattle.jffs_serve.proofs.Chains.{chains_split}
-use Rattle.jffs_serve.proofs.ChainLaws.{chains_end_so, says_failed, still_failed, no_room_at_the_turn}
+use Rattle.jffs_serve.proofs.ChainLaws.{chains_end_so, fails_as, says_failed, no_room_at_the_turn}
 use Rattle.jffs_run.specs.Account.{Account}
 use Rattle.jffs_run.specs.Headline.{IsRun}
 use Rattle.jffs_run.specs.Turns.{InRun, NoSpaceMeansNoRoom, FailedStaysFailed, AnswersAreDurable}
@@ -42,18 +41,9 @@ failed_stays_failed before start account fresh run first later r are tells =
     let so : EndsSo mounted start at.was first at.taken = chains_end_so mounted mounted at.taken start at.was first fresh.stands at.so_far in
     says_failed at.replied (so.failed tells)
 
--- a core that works at the end works with each answer
-pub works_then :
-    {start : CoreState} {account : Account} (run : IsRun start account) (mounted : List Node) (first : List Reply) (r : Reply) (later : List Reply)
-    (turn : InRun run mounted first r later) → run.core.failed ≡ false → turn.within.now.failed ≡ false
-works_then run mounted first r later turn works =
-    let at = turn.within in
-    false_from_ne_true at.now.failed
-    (λ had. both_ways run.core.failed works (still_failed mounted (after_reply at.replied) turn.after at.now run.core later had at.rest))
-
 pub answers_are_durable : AnswersAreDurable
-answers_are_durable before start account fresh run works first later r are =
+answers_are_durable before start account fresh run first later r are tells =
     let mounted = past_of fresh.scanned.log in
     let turn = turn_in run mounted first r later fresh.stands are in
     let at = turn.within in
-    (turn, scans_find mounted (after_reply at.replied) at.now at.replied.answer.answers.stands (works_then run mounted first r later turn works))
+    (turn, scans_find mounted (after_reply at.replied) at.now at.replied.answer.answers.stands (fails_as at.replied ∙ tells))

@@ -126,7 +126,7 @@ module _ {start : CoreState} {account : Account} (run : IsRun start account) whe
   accepted_unmounts : (sender : ℕ) → AllByRecursion IsControls (account.accepted sender)
   accepted_unmounts sender =
       elim (eqb_tells sender 9) [
-        | inl nine ↦ subst (λ (s : ℕ). AllByRecursion IsControls (account.accepted s)) (sym nine.1) (of_copies (account.accepted 9) run.cleaner)
+        | inl nine ↦ subst (λ (s : ℕ). AllByRecursion IsControls (account.accepted s)) (sym nine.1) (of_copies (account.accepted 9) run.cleaner.0)
         | inr not_nine ↦ elim (eqb_tells sender 10) [
           | inl ten ↦ subst (λ (s : ℕ). AllByRecursion IsControls (account.accepted s)) (sym ten.1) (elim run.control [
             | inl none ↦ subst (AllByRecursion IsControls) (sym none) tt

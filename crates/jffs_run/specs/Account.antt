@@ -1,5 +1,5 @@
 -- What a run was given, and what came of it.
-use Rattle.std.specs.Prelude.{ℕ, List}
+use Rattle.std.specs.Prelude.{ℕ, List, Option}
 use Rattle.jffs_flash.specs.declared.flash.Flash as Flash
 use Rattle.jffs_line.specs.declared.request.Request.{Request}
 use Rattle.jffs_core.specs.declared.answer.Answer.{Answer}
@@ -11,10 +11,12 @@ use Rattle.jffs_run.specs.declared.outcome.Run.{Run}
 use Rattle.jffs_run.specs.declared.reader.ReaderEnd.{ReaderEnd}
 use Rattle.jffs_flash.specs.Device.{Device}
 
--- The writers and the readers' statements of a script; what each sender had accepted, all answers,
--- what waits, what became of each reader, what was served, and the device at the end.
+-- The writers, the cleaner's rounds and the readers' statements of a script; what each sender had
+-- accepted, all answers, what waits, what became of each reader, what was served, and the device at
+-- the end.
 pub record Account : Type 0 where
   pub script : List Writer
+  pub cleaner : Option ℕ
   pub statements : List ReaderStatement
   pub accepted : ℕ → List Request
   pub answers : List Answer
@@ -28,6 +30,7 @@ abbrev pub account_of : {F A : Type 0} → Flash.Ghosts F → Script → (ℕ �
     → Account
 account_of g script accepted run = record {
   script = script.writers.items;
+  cleaner = script.cleaner;
   statements = script.readers.items;
   accepted = accepted;
   answers = run.answers.items;

@@ -1,6 +1,6 @@
 -- What the threads of a run are given, and what comes back.
 use Rattle.std.specs.Prelude.{◌≡◌, ℕ, ◌≤◌, ◌⊎◌, List, [], ◌∷◌, ◌++◌, map, vec_len, vec_capacity}
-use Rattle.std.specs.Prelude.{Vec, length}
+use Rattle.std.specs.Prelude.{Vec, length, Option}
 use Rattle.std.specs.List.{All}
 use Rattle.jffs_tree.specs.declared.wish.Wish.TheVariants.{Unmount}
 use Rattle.jffs_line.specs.Line.{End, senders}
@@ -19,7 +19,7 @@ use Rattle.jffs_text.specs.declared.script.Writer.{Writer}
 use Rattle.jffs_run.specs.declared.crew.Crew.{Crew}
 use Rattle.jffs_run.specs.declared.crew.Finished.{Finished}
 use Rattle.jffs_run.specs.declared.promise.LogSide.{LogSide}
-use Rattle.jffs_run.specs.Ends.{EachFrom, AreCopies, end_of, HandedIn, HandedInAll}
+use Rattle.jffs_run.specs.Ends.{EachFrom, AskForCopies, end_of, HandedIn, HandedInAll}
 use Rattle.jffs_run.specs.Looking.{HaveSeen, IsWhole}
 use Rattle.jffs_text.specs.declared.script.TheConstants.{WRITERS_MAX}
 
@@ -44,13 +44,15 @@ module _ {H : Type 0} (g : Hand.Ghosts H) where
     pub looking : All (λ reader. index_of reader ≡ index) crew.readers.items
 
   -- the hands are those of the crew. Each writer's handed in the first of its commands, and all of
-  -- them where the control asked for the Unmount; the cleaner's asked for copies alone
-  pub record HasHandedIn (script : List Writer) (crew : Crew H) (hands : Hands H) : Type 0 where
+  -- them where the control asked for the Unmount; the cleaner's asked for copies alone, and for
+  -- nothing without rounds
+  pub record HasHandedIn (script : List Writer) (rounds : Option ℕ) (crew : Crew H)
+      (hands : Hands H) : Type 0 where
     pub ends : map (end_of g) (all_hands hands) ≡ map (end_of g) (crew_hands crew)
     pub first : EachFrom (HandedIn g script) 0 hands.writers.items
     pub whole : (g.accepted hands.control.hand ≡ [])
         ⊎ EachFrom (HandedInAll g script) 0 hands.writers.items
-    pub cleaner : AreCopies (g.accepted hands.cleaner)
+    pub cleaner : AskForCopies rounds (g.accepted hands.cleaner)
     pub control : (g.accepted hands.control.hand ≡ [])
         ⊎ (g.accepted hands.control.hand ≡ request (g.sender hands.control.hand) 1 Unmount ∷ [])
 
@@ -59,7 +61,7 @@ module _ {H T : Type 0} (hand : Hand.Ghosts H) (taker : Taker.Ghosts T) where
   -- the whole history, the taker has the ends that it had, and the log thread served
   pub record HasFinished {F W : Type 0} (script : Script) (crew : Crew H) (side : LogSide F T W)
       (finished : Finished H F T W) : Type 0 where
-    pub hands : HasHandedIn hand script.writers.items crew finished.hands
+    pub hands : HasHandedIn hand script.writers.items script.cleaner crew finished.hands
     pub readers : (history : History)
         → IsWhole (published finished.log.side.publisher)
         (length finished.log.side.session.core.answers) history

@@ -10,6 +10,7 @@ use Rattle.jffs_log.specs.Image.{past_of}
 use Rattle.jffs_core.specs.CoreState.{CoreState}
 use Rattle.jffs_core.specs.Past.{IsFresh}
 use Rattle.jffs_core.specs.Done.{done_by, IsFreeBy, ScanFinds}
+use Rattle.jffs_core.specs.Run.{is_failure}
 use Rattle.jffs_serve.specs.Replies.{Reply}
 use Rattle.jffs_run.specs.Account.{Account}
 use Rattle.jffs_run.specs.Headline.{IsRun}
@@ -48,13 +49,14 @@ RunsAreFree =
     (before : Device) (start : CoreState) (account : Account) (fresh : IsFresh before start)
     (run : IsRun start account) → AllFree (state_in fresh.scanned.tree) run.replies
 
--- In a run whose device works to the end, a scan of the image as it is with any one answer finds
--- what a scan found before the run, with the granted requests up to there done.
+-- A scan of the image as it is with any one answer that tells of no failure finds what a scan found
+-- before the run, with the granted requests up to there done.
 abbrev pub EachIsDone : Type 0
 EachIsDone =
     (before : Device) (start : CoreState) (account : Account) (fresh : IsFresh before start)
-    (run : IsRun start account) → run.core.failed ≡ false
+    (run : IsRun start account)
     → (first later : List Reply) (r : Reply) → run.replies ≡ first ++ r ∷ later
+    → is_failure r.step.outcome ≡ false
     → (turn : InRun run (past_of fresh.scanned.log) first r later)
     × ScanFinds (λ s. s ≡ granted_done fresh (first ++ r ∷ [])) turn.within.now.index.sectors
     turn.within.now.index.sector_size turn.within.now.image

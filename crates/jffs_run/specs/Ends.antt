@@ -1,6 +1,6 @@
 -- The hands of a run.
 use Rattle.std.specs.Prelude.{◌≡◌, ℕ, ◌+◌, ◌<◌, List, [], ◌∷◌, length, take, eqb, cond}
-use Rattle.std.specs.Prelude.{slice_index_or}
+use Rattle.std.specs.Prelude.{slice_index_or, Option, None}
 use Rattle.std.specs.List.{AllByRecursion}
 use Rattle.jffs_line.specs.Line.{End}
 use Rattle.jffs_line.specs.declared.request.Request.{Request}
@@ -19,6 +19,10 @@ EachFrom P n (x ∷ xs) = P n x × EachFrom P (n + 1) xs
 -- they ask for copies alone
 abbrev pub AreCopies : List Request → Type 0
 AreCopies requests = AllByRecursion (λ (r : Request). IsCopy r.wish) requests
+
+-- they ask for copies alone, and for nothing where a cleaner is given no rounds
+abbrev pub AskForCopies : Option ℕ → List Request → Type 0
+AskForCopies rounds requests = AreCopies requests × (rounds ≡ None → requests ≡ [])
 
 -- the element at this slot
 abbrev pub HasAt : {X : Type 0} → List X → ℕ → X → Type 0

@@ -13,10 +13,10 @@ use Rattle.jffs_log.specs.LogIndex.{HasSizes}
 use Rattle.jffs_serve.specs.Chain.{RunsTo}
 use Rattle.jffs_serve.specs.Answered.{ErasesSince}
 use Rattle.jffs_serve.specs.Replies.{Reply, AllReply, answer_in, any_closed, FitsServed}
-use Rattle.jffs_serve.specs.Stopping.{StopsAtFirst}
+use Rattle.jffs_serve.specs.Stopping.{EndsAs}
 use Rattle.jffs_text.specs.Wishes.{wishes_of}
 use Rattle.jffs_run.specs.Numbered.{numbered}
-use Rattle.jffs_run.specs.Ends.{commands_at, AreCopies}
+use Rattle.jffs_run.specs.Ends.{commands_at, AskForCopies}
 use Rattle.jffs_run.specs.Looking.{HaveSeen}
 use Rattle.jffs_core.specs.Past.{IsLeftBy}
 use Rattle.jffs_run.specs.Account.{Account}
@@ -36,11 +36,11 @@ numbers_of sender (answer ∷ answers) =
 -- Some order of the accepted requests was answered, each once, and what each sender has waiting is
 -- what it had accepted beyond that, so that its answers are numbered 1, 2, 3, ..
 -- Of each writer the first of its commands were accepted, and every one if an Unmount was; of the
--- control one Unmount at most, of the cleaner copies alone, and no others.
+-- control one Unmount at most, of the cleaner copies alone, if the script has one, and no others.
 -- From whatever history the core represented at the start, these requests were answered in a chain
 -- of turns, to the core at the end, which left the device as it is, of the same sizes, with so many
 -- erases at most.
--- What was served is determined by the answers, and the first that answers an Unmount is the last.
+-- How serving ended is what the answers say, of which the first that answers an Unmount is the last.
 -- There is an end for each reader's statement: it saw what its path reads after a beginning of the
 -- answers, from the tree at the start on, or counts as one that saw nothing.
 pub record IsRun (start : CoreState) (account : Account) : Type 0 where
@@ -61,7 +61,7 @@ pub record IsRun (start : CoreState) (account : Account) : Type 0 where
       → length (account.accepted (slot + 1)) ≡ length (commands_at account.script slot))
   pub control : (account.accepted CONTROL ≡ [])
       ⊎ (account.accepted CONTROL ≡ request CONTROL 1 Unmount ∷ [])
-  pub cleaner : AreCopies (account.accepted CLEANER)
+  pub cleaner : AskForCopies account.cleaner (account.accepted CLEANER)
   pub others : (sender : ℕ) → ((slot : ℕ) → slot < length account.script → sender ≢ slot + 1)
       → sender ≢ CLEANER → sender ≢ CONTROL → account.accepted sender ≡ []
   pub core : CoreState
@@ -71,6 +71,6 @@ pub record IsRun (start : CoreState) (account : Account) : Type 0 where
   pub lawful : (mounted past : List Node) → Represents mounted past start
       → RunsTo start core mounted past replies
   pub ending : FitsServed account.served (any_closed account.answers) replies
-  pub stops : StopsAtFirst replies
+  pub ends : EndsAs account.served replies
   pub seen : HaveSeen (record { opening = start.tree; steps = map (λ (r : Reply). r.step) replies })
       account.statements account.ends

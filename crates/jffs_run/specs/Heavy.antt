@@ -22,6 +22,26 @@ use Rattle.jffs_run.specs.Headline.{IsRun}
 use Rattle.jffs_run.specs.Turns.{InRun}
 
 -- The request asked for no Unmount, and if its node was fresh, the live records weighed the stated
+-- share of the volume at this turn.
+pub record WasHeavy {start : CoreState} {account : Account} {run : IsRun start account}
+    {mounted : List Node} {before : List Reply} {r : Reply} {later : List Reply}
+    (turn : InRun run mounted before r later) : Type 0 where
+  pub share : (n : NewNode)
+      → decision (turn_of turn.within.taken turn.within.was turn.within.now) r.request ≡ Ok n
+      → is_fresh (with n 0 0 0) ≡ true
+      → heavy start.index.sectors start.index.sector_size ≤ weight turn.within.taken
+  pub no_unmount : r.request.wish ≢ Unmount
+
+-- Where two sectors are erased when the request is taken, NoSpace is answered only so.
+abbrev pub TurnsHaveRoom : Type 0
+TurnsHaveRoom = (before : Device) (start : CoreState) (account : Account)
+    (fresh : IsFresh before start) (run : IsRun start account)
+    → (first later : List Reply) (r : Reply) → run.replies ≡ first ++ r ∷ later
+    → r.step.outcome ≡ Refused causes.NoSpace
+    → (turn : InRun run (past_of fresh.scanned.log) first r later)
+    × (HasTwo turn.within.was → WasHeavy turn)
+
+-- The request asked for no Unmount, and if its node was fresh, the live records weighed the stated
 -- share of the volume at its turn.
 pub record TakenWhenHeavy {start : CoreState} {account : Account} (run : IsRun start account)
     (mounted : List Node) (before : List Reply) (r : Reply) (later : List Reply) : Type 0 where
@@ -66,3 +86,14 @@ SpaceIsSure = (before : Device) (start : CoreState) (account : Account)
     → (first later : List Reply) (r : Reply) → HasTwo start → run.replies ≡ first ++ r ∷ later
     → all_keep_two first ≡ true
     → IsSureOfSpace run (past_of fresh.scanned.log) first r later
+
+-- Such is also each turn that finds two sectors erased.
+abbrev pub SpaceIsSureThen : Type 0
+SpaceIsSureThen = (before : Device) (start : CoreState) (account : Account)
+    (fresh : IsFresh before start) (run : IsRun start account)
+    → (first later : List Reply) (r : Reply) → run.replies ≡ first ++ r ∷ later
+    → (turn : InRun run (past_of fresh.scanned.log) first r later)
+    × (HasTwo turn.within.was → (n : NewNode) (cause : Cause)
+    → weight turn.within.taken < heavy start.index.sectors start.index.sector_size
+    → decision (turn_of turn.within.taken turn.within.was turn.within.now) r.request ≡ Ok n
+    → is_fresh (with n 0 0 0) ≡ true → r.step.outcome ≡ Refused cause → IsWant cause)

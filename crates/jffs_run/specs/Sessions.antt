@@ -8,6 +8,7 @@ use Rattle.jffs_log.specs.ScanFound.{scan_of}
 use Rattle.jffs_core.specs.CoreState.{CoreState}
 use Rattle.jffs_core.specs.Past.{IsFresh}
 use Rattle.jffs_core.specs.Done.{ScanFinds}
+use Rattle.jffs_serve.specs.Replies.{Reply}
 use Rattle.jffs_run.specs.Account.{Account}
 use Rattle.jffs_run.specs.Headline.{IsRun}
 use Rattle.jffs_run.specs.declared.fault.RunWhy.{RunWhy}
@@ -65,10 +66,19 @@ SessionsAreDone =
     (left_last device stretches).sectors (left_last device stretches).sector_size
     (left_last device stretches).image
 
--- A run over a device that was mounted is a session.
+-- the session is that of these replies, from one core to the other
+pub record IsThatOf (start : CoreState) (replies : List Reply) (core : CoreState)
+    {given left : Device} (session : HadSession given left) : Type 0 where
+  pub starts : session.start ≡ start
+  pub replies_are : session.turns.replies ≡ replies
+  pub core_is : session.turns.core ≡ core
+
+-- A run over a device that was mounted is a session, that of its own replies and its own core.
 abbrev pub RunsAreSessions : Type 0
 RunsAreSessions = (before : Device) (start : CoreState) (account : Account) → IsFresh before start
-    → IsRun start account → HadSession before account.device
+    → (run : IsRun start account)
+    → (session : HadSession before account.device)
+    × IsThatOf start run.replies run.core session
 
 -- So is a run that was given up, unless the device didn't mount: then it holds what it held.
 abbrev pub FaultsEndSessions : Type 0

@@ -1,5 +1,5 @@
 -- The threads that were started.
-use Rattle.std.specs.Prelude.{◌≡◌, ℕ, List, [], IfSome, IsTrue, map, vec_len}
+use Rattle.std.specs.Prelude.{◌≡◌, ◌≢◌, ℕ, List, [], Option, None, IfSome, IsTrue, map, vec_len}
 use Rattle.std.specs.declared.thread.PromisedHandle.{PromisedHandle}
 use Rattle.jffs_line.specs.Line.{End}
 use Rattle.jffs_line.specs.declared.hand.Hand as Hand
@@ -40,16 +40,17 @@ module _ {H : Type 0} (g : Hand.Ghosts H) where
   abbrev pub end_given : PromisedHandle (WriterEnd H) (Writes H) → End
   end_given handle = end_of g handle.promise.hand.value
 
-  -- the cleaner's hand, which has handed nothing in: here, or in a thread
-  abbrev pub IsCleaning : H → Cleaning H → Type 0
-  IsCleaning hand (Thread handle) = handle.promise.hand.value ≡ hand
-  IsCleaning hand (Rest there) = (there ≡ hand) × (g.accepted hand ≡ [])
+  -- the cleaner's hand, which has handed nothing in: here, or in a thread, where it is given rounds
+  abbrev pub IsCleaning : Option ℕ → H → Cleaning H → Type 0
+  IsCleaning rounds hand (Thread handle) = (handle.promise.hand.value ≡ hand) × (rounds ≢ None)
+  IsCleaning rounds hand (Rest there) = (there ≡ hand) × (g.accepted hand ≡ [])
 
   -- Each thread that was started is the crew's cleaner, or the reader or the writer at its slot of
   -- the script, and where all could be, none is left out. The control has asked for nothing so far,
   -- and there is room for what comes back.
   pub record IsRunning {F T W : Type 0} (running : Running H F T W) : Type 0 where
-    pub cleaning : IfSome running.cleaning (IsCleaning running.crew.value.cleaner.hand)
+    pub cleaning : IfSome running.cleaning
+        (IsCleaning running.script.now.cleaner running.crew.value.cleaner.hand)
     pub looking : EachFrom
         (IsLooking (publisher_index running.log.promise.side.value.publisher)
         running.script.now.readers.items) 0 running.looking.handles.items

@@ -8,6 +8,7 @@ use Rattle.jffs_log.specs.Image.{past_of}
 use Rattle.jffs_core.specs.CoreState.{CoreState}
 use Rattle.jffs_core.specs.Past.{IsFresh, FindsContents}
 use Rattle.jffs_core.specs.Step.{HadNoRoom}
+use Rattle.jffs_core.specs.Run.{is_failure}
 use Rattle.jffs_core.specs.Answering.{turn_of}
 use Rattle.jffs_flash.specs.Device.{Device}
 use Rattle.jffs_serve.specs.Replies.{Reply, answer_in}
@@ -39,12 +40,13 @@ FailedStaysFailed = (before : Device) (start : CoreState) (account : Account)
     → (first later : List Reply) (r : Reply) → run.replies ≡ first ++ r ∷ later
     → any_failure (map answer_in first) ≡ true → r.step.outcome ≡ Refused Failed
 
--- In a run whose device works to the end, a scan of the image as it is with an answer finds what
--- the fresh nodes up to there make.
+-- A scan of the image as it is with an answer that tells of no failure finds what the fresh nodes
+-- up to there make.
 abbrev pub AnswersAreDurable : Type 0
 AnswersAreDurable =
     (before : Device) (start : CoreState) (account : Account) (fresh : IsFresh before start)
-    (run : IsRun start account) → run.core.failed ≡ false
+    (run : IsRun start account)
     → (first later : List Reply) (r : Reply) → run.replies ≡ first ++ r ∷ later
+    → is_failure r.step.outcome ≡ false
     → (turn : InRun run (past_of fresh.scanned.log) first r later)
     × FindsContents (past_of fresh.scanned.log) (after_reply turn.within.replied) turn.within.now

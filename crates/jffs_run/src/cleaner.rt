@@ -1,7 +1,7 @@
 //! The cleaner's thread, where the script asks for one.
 
-ghost use Rattle.std.specs.Prelude.{◌≡◌, [], IfSome};
-ghost use Rattle.jffs_run.specs.Ends.{AreCopies};
+ghost use Rattle.std.specs.Prelude.{◌≡◌, ℕ, [], Option, IfSome};
+ghost use Rattle.jffs_run.specs.Ends.{AreCopies, AskForCopies};
 ghost use Rattle.jffs_run.specs.Started.{IsCleaning};
 
 use crate::promise::{Cleaner, Cleaning, Cleans};
@@ -43,7 +43,7 @@ pub(crate) fn start_cleaner<'s, E, R: Wait + Sync, H: Hand + Send + 's>(
     ended: &'s Ended,
 ) -> Option<Cleaning<H>>
     requires fresh { H.accepted cleaner.hand ≡ [] }
-    ensures cleaning { IfSome result (IsCleaning H.Hand cleaner.hand) }
+    ensures cleaning { IfSome result (IsCleaning H.Hand rounds cleaner.hand) }
 {
     let Some(rounds) = rounds else {
         return Some(Cleaning::Rest(cleaner.hand));
@@ -67,9 +67,9 @@ pub(crate) fn start_cleaner<'s, E, R: Wait + Sync, H: Hand + Send + 's>(
 
 /// The cleaner's hand, once its thread has ended. None where no thread could be made.
 pub(crate) fn join_cleaner<R: Threads, H: Hand>(rt: &R, cleaning: Option<Cleaning<H>>) -> Option<H>
-    ensures { (hand : _) → IfSome cleaning (IsCleaning H.Hand hand)
+    ensures { (rounds : Option ℕ) (hand : _) → IfSome cleaning (IsCleaning H.Hand rounds hand)
         → IfSome result (λ h. (H.sender h ≡ H.sender hand) × (H.line h ≡ H.line hand)
-        × AreCopies (H.accepted h)) }
+        × AskForCopies rounds (H.accepted h)) }
 {
     match cleaning {
         Some(Cleaning::Thread(handle)) => Some(handle.join(rt).hand),

@@ -1,7 +1,7 @@
 //! Laws over the definitions. The functions do nothing: their contracts are the laws.
 
 ghost use Rattle.jffs_run.specs.Done.{GrantedIsDone, RunsAreFree, EachIsDone, FailedIsDoneOrNot};
-ghost use Rattle.jffs_run.specs.Heavy.{RunsHaveRoom, SpaceIsSure};
+ghost use Rattle.jffs_run.specs.Heavy.{RunsHaveRoom, SpaceIsSure, SpaceIsSureThen, TurnsHaveRoom};
 ghost use Rattle.jffs_run.specs.Turns.{AnswersAreDurable, FailedStaysFailed, NoSpaceMeansNoRoom};
 ghost use Rattle.jffs_run.specs.Seen.{ReadersSeeAnswers};
 ghost use Rattle.jffs_run.specs.Sessions.{FaultsEndSessions, RunsAreSessions, SessionsAreDone};
@@ -33,20 +33,22 @@ pub fn runs_without_faults()
     ensures { RunsWithoutFaults }
 {}
 
-/// From a mount on that found two sectors erased, up to the first answer Closed, Memory,
-/// VersionsSpent or Device: what
-/// `run_threads` answers NoSpace is no Unmount, and a fresh node only where the live records weigh
-/// (S - 4)(3Z/4 - 64) bytes when its request is taken.
+/// Where two sectors are erased when a request is taken, what `run_threads` answers NoSpace is no
+/// Unmount, and a fresh node only where the live records weigh (S - 4)(3Z/4 - 64) bytes then. Two
+/// are from a mount on that found two, up to the first answer Closed, Memory, VersionsSpent or
+/// Device.
 pub fn runs_have_room()
-    ensures { RunsHaveRoom }
+    ensures mounted { RunsHaveRoom }
+    ensures at_turn { TurnsHaveRoom }
 {}
 
-/// From a mount on that found two sectors erased, up to the first answer Closed, Memory,
-/// VersionsSpent or Device: where the live records weigh less than (S - 4)(3Z/4 - 64) bytes,
+/// Where two sectors are erased when a request is taken, as they are in the turns that
+/// `runs_have_room` names, and the live records weigh less than (S - 4)(3Z/4 - 64) bytes,
 /// `run_threads` refuses a fresh node that the tree allows for want of memory, of versions or of a
 /// device that works, and for nothing else.
 pub fn space_is_sure()
-    ensures { SpaceIsSure }
+    ensures mounted { SpaceIsSure }
+    ensures at_turn { SpaceIsSureThen }
 {}
 
 /// What `run_threads` answers NoSpace had no room at that very turn: its node, the free bytes and
@@ -60,8 +62,8 @@ pub fn failed_stays_failed()
     ensures { FailedStaysFailed }
 {}
 
-/// In a run whose device works to the end, a scan of the device as it is with any one answer finds
-/// what the fresh nodes up to there make: a loss of power after it loses nothing that was answered.
+/// A scan of the device as it is with any one answer that tells of no failure finds what the fresh
+/// nodes up to there make: a loss of power after it loses nothing that was answered.
 pub fn answers_are_durable()
     ensures { AnswersAreDurable }
 {}
@@ -88,7 +90,8 @@ pub fn readers_see_answers()
 
 /// A scan after `run_threads` finds what a scan before it found, with the granted requests done, in
 /// the order of their answers and in words of files and directories, and nothing else; and so does
-/// a scan of the device as it is with any one answer, of those up to there. Where the device
+/// a scan of the device as it is with any one answer that tells of no failure, of those up to
+/// there, whatever becomes of the device later. Where the device
 /// failed, but not in an erase, the request that was answered Device may be done besides. A new
 /// entry never takes the place of another.
 pub fn granted_is_done()
@@ -101,7 +104,8 @@ pub fn granted_is_done()
 /// After any number of sessions on one device, each of which ended in order, for want of memory, or
 /// by a fault of the device that was no failed erase, a scan finds what the granted requests of all
 /// of them make of what a scan found at first; of each that a fault ended perhaps the request in
-/// hand besides. Each call of `run_threads` that mounted the device is a session.
+/// hand besides. Each call of `run_threads` that mounted the device is a session, that of the
+/// answers that it gave.
 pub fn sessions_are_done()
     ensures done { SessionsAreDone }
     ensures runs { RunsAreSessions }

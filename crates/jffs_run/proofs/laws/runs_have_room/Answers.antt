@@ -1,5 +1,5 @@
-use Rattle.jffs_run.proofs.Heavy.{runs_have_room}
+use Rattle.jffs_run.proofs.Heavy.{runs_have_room, turns_have_room}
 use Rattle.jffs_run.proofs.laws.runs_have_room.Goals as goal
 
 pub returns : goal.returns
-returns c = runs_have_room
+returns c = record { mounted = runs_have_room; at_turn = turns_have_room }

@@ -57,7 +57,7 @@ returns-clause-run g c =
     let stops = subst (λ (from : Option Unmounted). StopsAt from more.0 (ending_in (Some finished.log.served) finished.log.side.session.core finished.log.side.session.unsent)) owes more.2 in
     let opened = c.in-Ok.ensures.published in
     let count : vec_len script.writers ≡ length script.writers.items = let ok = script.writers.ok in omega arith in
-    let run = whole_run g.T.Of.Hand script.writers.items script.readers.items _ finished.hands
+    let run = whole_run g.T.Of.Hand script.writers.items script.cleaner script.readers.items _ finished.hands
     finished.log.side.session.core finished.log.side.session.unsent (published finished.log.side.publisher) (pending finished.log.side.publisher)
     start (g.T.Taker.taken finished.log.side.taker) more.0 c.in_ok-run.run'.waiting.items finished.readers.items finished.log.served _
     (let eight = line.eight in omega (arith, count)) (line.numbers ∙ ap senders count) ran.hands

@@ -30,8 +30,8 @@ shared_accepted h = accepted_of (view h.pass)
 abbrev pub shared_capacity : SharedHand → ℕ
 shared_capacity h = ruled_capacity (sends_on h.sends)
 
--- at one moment the line held as many requests as it may, and all that was accepted of sender w was
--- taken, or waited there
+-- What was accepted of sender w fits a line that held as many requests as it may: some of it was
+-- taken, and the rest waited there.
 abbrev pub WasFull : ℕ → ℕ → List Request → Type 0
 WasFull capacity w accepted =
     (taken : List Request) × (waiting : List Request) × (length waiting ≡ capacity)
@@ -54,6 +54,6 @@ pub record AreFirstWriters (line : Line) (capacity count : ℕ) (hands : List Sh
   pub ends : map shared_end hands ≡ map (λ w. (w, line)) (range_with_len 1 count)
   pub fresh : All (λ h. (shared_accepted h ≡ []) × (shared_capacity h ≡ capacity)) hands
 
--- at one moment the line held nothing
+-- what the taker knows fits a line that holds nothing
 abbrev pub WasEmpty : SharedTaker → Type 0
 WasEmpty t = Learned (view t.pass) []

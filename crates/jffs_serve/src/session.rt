@@ -15,7 +15,7 @@ pub enum Served {
     Closed,
     /// An Unmount was refused for this cause.
     NotClosed(Cause),
-    /// No hand is left, and nothing waits.
+    /// The taker gave no request: no hand is left, and nothing that it could take.
     Ended,
     /// Allocation failed. Nothing is lost, and serving again goes on.
     Memory,

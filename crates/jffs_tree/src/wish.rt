@@ -9,8 +9,9 @@ use std::alloc::AllocError;
 use thiserror::Error;
 
 /// Why a request is refused. The causes are tried in this order, and the first that holds is
-/// the answer. The first twelve say something about the tree or its numbers, and nothing is
-/// changed; what stands after the others is said where they are answered.
+/// the answer. The first eleven say something about the tree or its numbers, and nothing is
+/// changed. So it is with VersionsSpent, unless room was to be made first; what stands after the
+/// others is said where they are answered.
 #[derive(Clone, Copy, Debug, PartialEq, Eq, Error)]
 pub enum Cause {
     /// The root can't be made, removed or renamed, and nothing becomes the root.

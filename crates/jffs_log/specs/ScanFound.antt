@@ -11,11 +11,11 @@ use Rattle.jffs_log.specs.declared.folding.MadeTree.{MadeTree}
 use Rattle.jffs_log.specs.declared.log_index.LogIndex.{LogIndex}
 use Rattle.jffs_log.specs.declared.scanning.ScanWhy.{ScanWhy}
 use Rattle.jffs_log.specs.declared.scanning.ScanWhy.TheVariants.{Device, Memory}
-use Rattle.jffs_log.specs.Image.{Sector, past_of}
+use Rattle.jffs_log.specs.Image.{Sector, past_of, oldest_of, starts}
 use Rattle.jffs_log.specs.Room.{limits as limits_after}
 use Rattle.jffs_flash.specs.Device.{Device as FlashDevice}
 use Rattle.jffs_log.specs.LogState.{LogState}
-use Rattle.jffs_log.specs.Volume.{split}
+use Rattle.jffs_log.specs.Volume.{split, sectors_in}
 use Rattle.jffs_log.specs.LogIndex.{IsLogIndex, HasSizes, log_in}
 use Rattle.jffs_log.specs.Scan.{Scanned, scan}
 
@@ -45,7 +45,8 @@ pub record IsMadeBy (past : List Node) (made : MadeTree) : Type 0 where
   pub fit : each_fits past ≡ true
   pub sizes : made.has_sizes ≡ list_any (λ m. is_some m.size) past
 
--- the scan of the image, whose elements are bytes, with the index that describes it
+-- The scan of the image, whose elements are bytes, with the index that describes it. The log begins
+-- with its oldest sector, and where it has none, since all are erased, with sector 0.
 pub record IsFound (count len : ℕ) (image : List ℕ) (found : LogIndex) (tree : Tree) (clean : Bool)
     (limits : Limits) : Type 0 where
   pub answer : scan len (split count len image)
@@ -53,6 +54,7 @@ pub record IsFound (count len : ℕ) (image : List ℕ) (found : LogIndex) (tree
   pub index : IsLogIndex image found
   pub sizes : HasSizes count len found
   pub erases : found.erases ≡ 0
+  pub begins : found.first ≡ oldest_of (starts (sectors_in count len image))
   pub limits_are : limits ≡ limits_after len (past_of (log_in image found))
   pub bytes : AllByRecursion (λ bytes. (i : ℕ) → get_or bytes i 0 < 256) (split count len image)
 

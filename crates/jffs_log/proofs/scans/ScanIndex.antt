@@ -33,6 +33,7 @@ is_held s = not s.1.erased
 pub record IsLocated (sectors : List Sector) (first : ℕ) (held : List Numbered) : Type 0 where
   pub some : list_any (λ s. s.erased) sectors ≡ true
   pub run : is_one_run sectors ≡ true
+  pub begins : first ≡ oldest_of (starts sectors)
   pub blank : List Numbered
   pub ring : IsRing first sectors held blank
   pub log : log_sectors sectors ≡ held
@@ -61,6 +62,7 @@ located sectors first h =
     record {
       some = o.some;
       run = o.run;
+      begins = sym o.oldest;
       blank = f.blank;
       ring = subst (λ (xs : List Numbered). IsRing first sectors xs f.blank) (sym all.0 ∙ same) (subst (λ k. IsRing k sectors f.held f.blank) o.oldest f.ring);
       log = same;

@@ -223,6 +223,7 @@ returns-clause-found g c =
           (c.in_ok-records.ensures ∙ ap (λ (xs : List Numbered). map ref_of (flat_map records_in xs)) c.deref-4.ensures.value);
       sizes = (refl, refl);
       erases = refl;
+      begins = log.begins;
       limits_are =
           limits_are len (nodes_held held) c.limits.result c.in_ok-numbers.numbers.inode c.in_ok-numbers.numbers.version c.limits.ensures.data_max c.limits.ensures.inode c.limits.ensures.version inodes versions
           ∙ ap (λ (xs : List Node). limits_after len (reverse xs)) (sym (log_nodes count len image c.in_ok-first.first held all));

@@ -1,5 +1,5 @@
 -- What the calls that clean and erase leave.
-use Rattle.std.proofs.Common.{◌≡◌, ℕ, zero, suc, ◌≤◌, false, List, [], length, refl, sym, ap, subst, ◌∙◌, arith}
+use Rattle.std.proofs.Common.{◌≡◌, ℕ, zero, suc, ◌≤◌, false, List, [], length, refl, sym, ap, subst, arith}
 use Rattle.jffs_node.specs.declared.node.Node.{Node}
 use Rattle.jffs_tree.specs.declared.wish.Cause.{Cause}
 use Rattle.jffs_tree.specs.declared.wish.Cause.TheVariants as causes
@@ -11,11 +11,11 @@ use Rattle.jffs_core.specs.CoreState.{CoreState}
 use Rattle.jffs_core.specs.Run.{OnlyCopies}
 use Rattle.jffs_core.specs.declared.cleaning.Cleaned.{Cleaned}
 use Rattle.jffs_core.specs.declared.cleaning.Cleaned.TheVariants.{Erased, OneSector}
-use Rattle.jffs_core.specs.History.{IsOwnCopy, Grows}
+use Rattle.jffs_core.specs.History.{IsOwnCopy, MayFollow, Grows}
 use Rattle.jffs_core.specs.Past.{RepresentsWorking, RepresentsPast, Represents, gc_state}
-use Rattle.jffs_core.specs.Calls.{RefusedAt, KeepsTwo}
-use Rattle.jffs_core.specs.Cleaning.{HasCleaned, SectorStopped, DidClean, Cleans, Stops, StopIs, erased_times}
-use Rattle.jffs_core.proofs.Refusing.{by_refusal, works_past, copies_follow, refused_past}
+use Rattle.jffs_core.specs.Calls.{FailsIn, RefusedAt, KeepsTwo}
+use Rattle.jffs_core.specs.Cleaning.{HasCleaned, SectorStopped, DidClean, Cleans, Stops, StopIs, EraseStopIs, erased_times}
+use Rattle.jffs_core.proofs.Refusing.{by_refusal, works_past, fails_past, failed_more, copies_follow, refused_past}
 use Rattle.jffs_core.proofs.Full.{sizes_low}
 use Rattle.jffs_core.proofs.Contents.{grows_along, only_copies_grow}
 
@@ -77,9 +77,7 @@ did_stop mounted past cause old new works s h =
       wants = one.wants;
     }
 
-pub device_stop : (mounted past : List Node) (cause : Cause) (old new : CoreState) → old.failed ≡ false → Represents mounted past old → cause ≡ causes.Device → RefusedAt cause past old new → Represents mounted past new × StopIs cause past old new
+pub device_stop : (mounted past : List Node) (cause : Cause) (old new : CoreState) → old.failed ≡ false → Represents mounted past old → cause ≡ causes.Device → FailsIn (λ n. ⊥) past old new → Represents mounted past new × EraseStopIs cause past old new
 device_stop mounted past cause old new works s is h =
-    (record { grown = s.grown; stands = refused_past (IsOwnCopy past) past (copies_follow past) cause old new h }, stop_is cause past old new works h (λ e. absurd (other (sym e ∙ is))))
-  where
-    other : ◌≡◌ {A = Cause} causes.NoSpace causes.Device → ⊥
-    other e = cc
+    let left = failed_more (λ n. ⊥) (MayFollow past) (λ n none. absurd none) past new h.left in
+    (record { grown = s.grown; stands = fails_past past new h.fails left }, subst (λ c. EraseStopIs c past old new) (sym is) (works, h))

@@ -31,7 +31,7 @@ use Rattle.jffs_core.proofs.Refusing.{refused_along}
 use Rattle.jffs_core.specs.Erases.{Leaves}
 use Rattle.jffs_core.proofs.Erasing.{leaves_all}
 use Rattle.jffs_core.proofs.Full.{sizes_low}
-use Rattle.jffs_core.proofs.Sweeping.{oldest_is}
+use Rattle.jffs_core.proofs.Sweeping.{erase_refused, oldest_is}
 
 -- The first k of the oldest sector's records were handled.
 pub record IsCopying (nodes : List Node) (k copies : ℕ) (old now : CoreState) : Type 0 where
@@ -216,7 +216,7 @@ module _ (nodes past after : List Node) (copies : ℕ) (old middle : CoreState) 
         several = several;
         stopped = record {
           copies = h.added;
-          stands = refused_along (IsOwnCopy after) cause after old middle new h.stands.faults (e.history after h.stands.represents);
+          stands = refused_along (IsOwnCopy after) cause after old middle new h.stands.faults (erase_refused cause after middle new h.stands.represents e);
           no_room = λ is. absurd (other.0 is);
         };
         handled = record {

@@ -25,7 +25,7 @@ erased_left past old new tree limits clean h several e =
 
 -- What is left where the device failed in a call that appends nothing: an erase, of whose image nothing is known, or a read.
 pub erase_left : (past : List Node) (old new : LogState) (core : CoreState) (why : Cause) → IsPast past old.device.image old.index core.tree core.limits core.clean → EraseFailed why old new
-    → core.erase_failed ≡ new.device.erase_failed → HasFailed (IsOwnCopy past) past core
+    → core.erase_failed ≡ new.device.erase_failed → HasFailed (λ n. ⊥) past core
 erase_left past old new core why h f same = record {
   clean = λ is. clean_ends past old.device.image old.index core.tree core.limits core.clean h is;
   tree = inl h.tree_is;

@@ -89,8 +89,11 @@ refused_keeps P cause after old new h none k =
     cause h none k
 
 -- Seen from before the cleaning.
+pub fails_along : (P : Node → Type 0) (after : List Node) (old middle new : CoreState) → middle.faults ≡ old.faults → FailsIn P after middle new → FailsIn P after old new
+fails_along P after old middle new same d = record { fails = d.fails; faults = subst (λ k. k < new.faults) same d.faults; left = d.left }
+
 pub refused_along : (P : Node → Type 0) (cause : Cause) (after : List Node) (old middle new : CoreState) → middle.faults ≡ old.faults → RefusedWith P cause after middle new → RefusedWith P cause after old new
 refused_along P cause after old middle new same h =
     let works : WorksOn after middle new → WorksOn after old new = λ w. record { works = w.works; faults = w.faults ∙ same; represents = w.represents } in
     by_refusal P after middle new (λ c. RefusedWith P c after old new) (λ w none. (works w, none)) works works
-    (λ d. record { fails = d.fails; faults = subst (λ k. k < new.faults) same d.faults; left = d.left }) cause h
+    (λ d. fails_along P after old middle new same d) cause h

@@ -6,7 +6,6 @@ use Rattle.std.proofs.lemmas.List.{length-map}
 use Rattle.jffs_node.specs.declared.node.Node.{Node}
 use Rattle.jffs_node.specs.Record.{record_len}
 use Rattle.jffs_tree.specs.declared.wish.Cause.{Cause}
-use Rattle.jffs_tree.specs.declared.wish.Cause.TheVariants as causes
 use Rattle.jffs_tree.specs.declared.wish.Limits.{Limits}
 use Rattle.jffs_tree.specs.declared.wish.NewNode.{NewNode}
 use Rattle.jffs_tree.specs.State.{Entry, state_of_past}
@@ -34,15 +33,18 @@ use Rattle.jffs_log.proofs.rooms.Bound.{erasing_keeps_sound}
 use Rattle.jffs_core.specs.CoreState.{CoreState}
 use Rattle.jffs_core.specs.History.{IsOwnCopy}
 use Rattle.jffs_core.specs.Past.{IsPast, RepresentsWorking, is_clean_in, gc_state}
-use Rattle.jffs_core.specs.Calls.{FailsIn, RefusedAt}
+use Rattle.jffs_core.specs.Calls.{RefusedAt}
 use Rattle.jffs_core.specs.Appending.{MayPut, HasPut, PutRefused}
-use Rattle.jffs_core.specs.Cleaning.{HasHandled, CopyStopped}
+use Rattle.jffs_core.specs.Cleaning.{HasHandled, CopyStopped, EraseStopped}
 use Rattle.jffs_core.proofs.Deciding.{next_is_newest}
-use Rattle.jffs_core.proofs.Refusing.{refused_more}
+use Rattle.jffs_core.proofs.Refusing.{failed_more, refused_more}
 use Rattle.jffs_core.proofs.Asked.{known_version}
 
-pub refused_device : (cause : Cause) (past : List Node) (old new : CoreState) → cause ≡ causes.Device → FailsIn (IsOwnCopy past) past old new → RefusedAt cause past old new
-refused_device cause past old new is h = subst (λ c. RefusedAt c past old new) (sym is) h
+-- An erase that stopped is a refusal as others are.
+pub erase_refused : (cause : Cause) (past : List Node) (old new : CoreState) → RepresentsWorking past old → EraseStopped cause old new → RefusedAt cause past old new
+erase_refused cause past old new known stopped =
+    let d = stopped.history past known in
+    subst (λ c. RefusedAt c past old new) (sym stopped.cause_is) (record { fails = d.fails; faults = d.faults; left = failed_more (λ n. ⊥) (IsOwnCopy past) (λ n none. absurd none) past new d.left })
 
 -- The sectors of the log, and the oldest of them.
 pub held_is : (image : List ℕ) (b : LogIndex) → IsLogIndex image b → length (layout_in image b).sectors ≡ b.held

@@ -23,7 +23,6 @@ use Rattle.jffs_core.specs.CoreState.{CoreState}
 use Rattle.jffs_core.specs.History.{AreOwnCopies}
 use Rattle.jffs_core.specs.Past.{RepresentsWorking}
 use Rattle.jffs_core.specs.Run.{is_failure}
-use Rattle.jffs_core.specs.Calls.{RefusedAt}
 use Rattle.jffs_core.specs.Answering.{HasAnswered, KeepsAnswer}
 use Rattle.jffs_core.specs.Cleaning.{EraseStopped, HasErasedDead}
 use Rattle.jffs_core.specs.Nodes.{HasNode, listed}
@@ -168,5 +167,5 @@ pub tree_kept :
     → KeepsTree old new
 tree_kept past old new (Ok count) works known erased stopped = λ w. (works, (erased past known).stands.represents.tree_is ∙ sym known.tree_is)
 tree_kept past old new (Err cause) works known erased stopped = λ w.
-    let failed = subst (λ (c : Cause). RefusedAt c past old new) stopped.cause_is (stopped.history past known) in
+    let failed = stopped.history past known in
     absurd (both_ways new.failed w failed.fails)

@@ -20,7 +20,7 @@ use Rattle.jffs_core.specs.CoreState.{CoreState}
 use Rattle.jffs_core.specs.Run.{OnlyCopies}
 use Rattle.jffs_core.specs.Step.{room_can_be_made}
 use Rattle.jffs_core.specs.Past.{gc_state, Represents, RepresentsWorking}
-use Rattle.jffs_core.specs.Calls.{WorksOn, RefusedAt, KeepsTwo}
+use Rattle.jffs_core.specs.Calls.{WorksOn, FailsIn, RefusedAt, KeepsTwo}
 
 -- A record was handled at its turn: copied where it is live, and the copy had room, else skipped.
 pub record HasHandled (past : List Node) (source : Node) (copied : Bool) (old new : CoreState) :
@@ -91,10 +91,10 @@ pub record ErasesOldest (old new : CoreState) : Type 0 where
   pub log : layout_in new.image new.index ≡ erase_oldest (layout_in old.image old.index)
   pub history : (past : List Node) → RepresentsWorking past old → HasErased past old new
 
--- An erase stopped, since the device failed.
+-- An erase stopped, since the device failed; no node was in hand.
 pub record EraseStopped (cause : Cause) (old new : CoreState) : Type 0 where
   pub cause_is : cause ≡ Device
-  pub history : (past : List Node) → RepresentsWorking past old → RefusedAt cause past old new
+  pub history : (past : List Node) → RepresentsWorking past old → FailsIn (λ n. ⊥) past old new
 
 -- Room was made for a fresh record of `len` bytes, if that could be: copies were added, and the log
 -- is as after some cleanings.
@@ -169,7 +169,7 @@ pub record Cleans (mounted past : List Node) (done : Cleaned) (old new : CoreSta
   pub did : DidClean done past old new
   pub two : KeepsTwo old new
 
--- why a call that cleans or erases stopped
+-- why a cleaning stopped
 abbrev pub StopIs : Cause → List Node → CoreState → CoreState → Type 0
 StopIs Failed after old new = (old.failed ≡ true) × (new ≡ old)
 StopIs NoSpace after old new =
@@ -213,11 +213,17 @@ pub record ErasesDead (mounted past : List Node) (count : ℕ) (old new : CoreSt
   pub last : IsDeadOldest new → ⊥
   pub two : KeepsTwo old new
 
+-- why no more dead sectors were erased: the device failed with no node in hand, or had failed
+abbrev pub EraseStopIs : Cause → List Node → CoreState → CoreState → Type 0
+EraseStopIs Device past old new = (old.failed ≡ false) × FailsIn (λ n. ⊥) past old new
+EraseStopIs Failed past old new = (old.failed ≡ true) × (new ≡ old)
+EraseStopIs _ past old new = ⊥
+
 -- No more dead sectors were erased: the device failed, or had failed.
 pub record ErasingStopped (cause : Cause) (old new : CoreState) : Type 0 where
   pub either : (cause ≡ Device) ⊎ (cause ≡ Failed)
   pub history : (mounted past : List Node) → Represents mounted past old
-      → Represents mounted past new × StopIs cause past old new
+      → Represents mounted past new × EraseStopIs cause past old new
 
 -- the same of a core that works
 pub record HasErasedDead (count : ℕ) (past : List Node) (old new : CoreState) : Type 0 where

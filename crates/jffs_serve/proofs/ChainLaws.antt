@@ -175,7 +175,7 @@ ends_same mounted past start old new replies keeps so = record {
       (λ had. failed_but_capacity (InHandOf (volume_of start) replies past) past old new (keeps.failed had) (so.in_hand works had))
       (λ now.
       let f = keeps.fails now fails past (working now) in
-      failed_more (IsOwnCopy past) (InHandOf (volume_of start) replies past) (λ n copy. inl copy) past new f.left)
+      failed_more (λ n. ⊥) (InHandOf (volume_of start) replies past) (λ n none. absurd none) past new f.left)
       (cases_Bool old.failed);
 }
   where

@@ -6,10 +6,10 @@ use Rattle.jffs_tree.specs.declared.wish.Cause.{Cause}
 use Rattle.jffs_tree.specs.declared.wish.Cause.TheVariants as causes
 use Rattle.jffs_log.specs.LogIndex.{HasSizes}
 use Rattle.jffs_core.specs.CoreState.{CoreState, IsSameButCapacity}
-use Rattle.jffs_core.specs.History.{IsOwnCopy, MayFollow}
+use Rattle.jffs_core.specs.History.{MayFollow}
 use Rattle.jffs_core.specs.Past.{RepresentsWorking, Represents, HasFailed}
 use Rattle.jffs_core.specs.Calls.{FailsIn}
-use Rattle.jffs_core.specs.Cleaning.{ErasesDead, ErasingStopped, StopIs}
+use Rattle.jffs_core.specs.Cleaning.{ErasesDead, ErasingStopped, EraseStopIs}
 use Rattle.jffs_core.specs.Erases.{ErasesAtMost}
 use Rattle.jffs_core.specs.Jobs.{wants_cleaning, ReadRefused}
 use Rattle.jffs_log.proofs.erase.Wear.{turns_go_on}
@@ -90,7 +90,7 @@ keeps_along a b c h k = record {
       record {
         fails = f;
         faults = subst (λ (n : ℕ). a.faults < n) (sym (ap (λ (s : CoreState). s.faults) (k.failed had))) g.faults;
-        left = failed_but_capacity (IsOwnCopy past) past b c (k.failed had) g.left;
+        left = failed_but_capacity (λ n. ⊥) past b c (k.failed had) g.left;
       })
       (λ between.
       let g = k.fails between f past (represents_still a b h between past known) in
@@ -112,7 +112,7 @@ read_failed :
     (old new : CoreState) → old.failed ≡ false → new ≡ record old { failed = new.failed; faults = new.faults } → new.failed ≡ true → old.faults < new.faults
     → ((mounted past : List Node) → Represents mounted past old → Represents mounted past new) → KeepsHistory old new
 read_failed old new works same now risen stands =
-    let left : (past : List Node) → RepresentsWorking past old → HasFailed (IsOwnCopy past) past new = λ past k. subst (HasFailed (IsOwnCopy past) past) (sym same) (record {
+    let left : (past : List Node) → RepresentsWorking past old → HasFailed (λ n. ⊥) past new = λ past k. subst (HasFailed (λ n. ⊥) past) (sym same) (record {
       clean = λ is. clean_ends past old.image old.index old.tree old.limits old.clean k is;
       tree = inl k.tree_is;
       left = λ e. inl k.history;
@@ -173,11 +173,11 @@ erased_dead old new (Err cause) works opened sizes erased stopped erases =
       stands = λ mounted past s. (stopped.history mounted past s).0;
     }
   where
-    by_cause : (past : List Node) → StopIs cause past old new → FailsIn (IsOwnCopy past) past old new
+    by_cause : (past : List Node) → EraseStopIs cause past old new → FailsIn (λ n. ⊥) past old new
     by_cause past why = elim stopped.either [
-      | inl device ↦ (subst (λ (c : Cause). StopIs c past old new) device why).1
-      | inr failed ↦ absurd (both_ways old.failed works (subst (λ (c : Cause). StopIs c past old new) failed why).0)
+      | inl device ↦ (subst (λ (c : Cause). EraseStopIs c past old new) device why).1
+      | inr failed ↦ absurd (both_ways old.failed works (subst (λ (c : Cause). EraseStopIs c past old new) failed why).0)
     ]
 
-    fell : (past : List Node) → RepresentsWorking past old → FailsIn (IsOwnCopy past) past old new
+    fell : (past : List Node) → RepresentsWorking past old → FailsIn (λ n. ⊥) past old new
     fell past known = by_cause past (stopped.history past past (represents_itself past old works known)).1

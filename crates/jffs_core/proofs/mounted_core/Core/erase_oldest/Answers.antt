@@ -13,7 +13,7 @@ use Rattle.jffs_log.proofs.Seen.{log_sizes}
 use Rattle.jffs_core.specs.CoreState.{CoreState}
 use Rattle.jffs_core.specs.Past.{RepresentsWorking}
 use Rattle.jffs_core.proofs.Handed.{erased_left, erase_left}
-use Rattle.jffs_core.proofs.Sweeping.{refused_device, held_is}
+use Rattle.jffs_core.proofs.Sweeping.{held_is}
 use Rattle.jffs_core.proofs.Erasing.{erased_one, erase_failed, leaves_one, one_fewer}
 use Rattle.jffs_core.proofs.mounted_core.Core.erase_oldest.Goals as goal
 
@@ -73,11 +73,11 @@ returns-clause-stopped g c = IfErr-weaker c.erase_oldest.result _ _ (λ why f. r
   history = λ past known.
       let new = c.erase_oldest.new.self in
       let h = subst (λ (v : CoreState). RepresentsWorking past v) (sym c.self.view_is) known in
-      refused_device why past c.args.self.now _ f.cause_is (record {
+      record {
         fails = f.failed;
         faults = subst (λ k. k < new.device.faults) (ap (λ (v : CoreState). v.faults) c.self.view_is) f.device.faults;
         left = erase_left past c.self.inside.log new _ why h f refl;
-      });
+      };
 })
     c.erase_oldest.ensures.failed
 

@@ -3,9 +3,8 @@ use Rattle.std.proofs.lemmas.Bool.{both_ways}
 use Rattle.std.proofs.lemmas.Result.{err_from_is_err_and}
 use Rattle.jffs_log.specs.LogIndex.{layout_in}
 use Rattle.jffs_log.specs.Cleaning.{Layout}
-use Rattle.jffs_core.specs.History.{IsOwnCopy}
 use Rattle.jffs_core.specs.Cleaning.{IsDeadOldest}
-use Rattle.jffs_core.proofs.Refusing.{refused_along}
+use Rattle.jffs_core.proofs.Refusing.{fails_along}
 use Rattle.jffs_core.proofs.Erasing.{erased_none, erased_along, erasing_goes_on, leaves_within, one_fewer}
 use Rattle.jffs_core.proofs.mounted_core.Core.erase_while_dead.Goals as goal
 
@@ -36,7 +35,7 @@ returns-in_err-erase_oldest-clause-stopped g c =
       cause_is = stopped.cause_is;
       history = λ past known.
           let d = c.loop-self.invariant.done past known in
-          refused_along (IsOwnCopy past) _ past c.args.self.now c.loop-self.self c.erase_oldest.new.self d.faults (stopped.history past d.represents);
+          fails_along (λ n. ⊥) past c.args.self.now c.loop-self.self c.erase_oldest.new.self d.faults (stopped.history past d.represents);
     })
 
 pub returns-in_err-erase_oldest-clause-leaves : goal.returns-in_err-erase_oldest-clause-leaves

@@ -61,6 +61,15 @@ pub(crate) enum CallFault<'a> {
     /// A plain word after the last that is wanted.
     #[error("unexpected word '{0}'; --help tells more")]
     Extra(&'a str),
+    /// A word beside one that stands alone.
+    #[error("unexpected word '{word}' beside '{alone}', which stands alone")]
+    Beside {
+        word: &'a str,
+        alone: &'a str,
+    },
+    /// A word without bytes.
+    #[error("an empty word; --help tells which words there are")]
+    Empty,
     /// The option that the next word belongs to is the last word.
     #[error("a word is wanted after '{0}'")]
     NoValue(&'a str),
@@ -142,10 +151,11 @@ impl Usage {
     }
 
     /// What the words ask for, of which the first is the program's own name. They are read from the
-    /// left; after `--help` or `--version` no more are looked at.
+    /// left; `--help`, or `-h`, and `--version` stand alone.
     ///
-    /// `Option`, `Extra`, `Twice` or `NoValue` with the first word that is wrong; `Memory` if
-    /// allocation failed.
+    /// `Option`, `Extra`, `Twice` or `NoValue` with the first word that is wrong, `Empty` for an
+    /// empty one; `Beside` with the first word that stands beside `--help` or `--version`; `Memory`
+    /// if allocation failed.
     pub(crate) fn call<'a>(
         &self,
         alloc: Global,
@@ -156,13 +166,15 @@ impl Usage {
         let mut open = None;
         for word in words.iter().skip(1) {
             let word = word.as_str();
-            if open.is_some() {
+            if word.is_empty() {
+                return Err(CallFault::Empty);
+            } else if open.is_some() {
                 value = Some(word);
                 open = None;
-            } else if word == "--help" {
-                return Ok(Call::Help);
+            } else if word == "--help" || word == "-h" {
+                return alone(words, word, Call::Help);
             } else if word == "--version" {
-                return Ok(Call::Version);
+                return alone(words, word, Call::Version);
             } else if self.option == Some(word) {
                 if value.is_some() {
                     return Err(CallFault::Twice(word));
@@ -185,4 +197,19 @@ impl Usage {
             })),
         }
     }
+}
+
+/// What a word asks for that stands alone in a call. `Beside` with the first other word.
+fn alone<'a>(
+    words: &'a [String],
+    asked: &'a str,
+    call: Call<'a>,
+) -> Result<Call<'a>, CallFault<'a>> {
+    for word in words.iter().skip(1) {
+        let word = word.as_str();
+        if word != asked {
+            return Err(CallFault::Beside { word, alone: asked });
+        }
+    }
+    Ok(call)
 }

@@ -238,11 +238,12 @@ fn volume_sizes(mut words: Words<'_>) -> Result<(u32, u32), Mistake> {
     }
     line.as_many(3, VOLUME_FORM, ())?;
     let sectors = words.take_number(0, u32::MAX)?;
+    if sectors < MIN_SECTORS || MAX_SECTORS < sectors {
+        return Err(Mistake::Sectors(sectors));
+    }
     let sector_size = words.take_number(0, u32::MAX)?;
     if is_geometry(sectors, sector_size) {
         Ok((sectors, sector_size))
-    } else if sectors < MIN_SECTORS || MAX_SECTORS < sectors {
-        Err(Mistake::Sectors(sectors))
     } else {
         Err(Mistake::SectorSize(sector_size))
     }

@@ -60,8 +60,29 @@ fn a_word_that_is_wrong_is_named(rt: HostRuntime) -> Result<(), Fail> {
             ["a", "--on", "--help", "b"].as_slice(),
             "2 words, on --help",
         ),
-        (["a", "--help", "--bad"].as_slice(), "0 tool [WORD] [WORD]"),
+        (["--help"].as_slice(), "0 tool [WORD] [WORD]"),
+        (["-h"].as_slice(), "0 tool [WORD] [WORD]"),
         (["--version"].as_slice(), "0 tool 0.1.0\n"),
+        (
+            ["a", "--help", "--bad"].as_slice(),
+            "2 tool: unexpected word 'a' beside '--help', which stands alone\n",
+        ),
+        (
+            ["--version", "-"].as_slice(),
+            "2 tool: unexpected word '-' beside '--version', which stands alone\n",
+        ),
+        (
+            ["a", "-"].as_slice(),
+            "2 tool: unknown option '-'; options are --on WORD, --help and --version\n",
+        ),
+        (
+            ["a", ""].as_slice(),
+            "2 tool: an empty word; --help tells which words there are\n",
+        ),
+        (
+            ["--on", ""].as_slice(),
+            "2 tool: an empty word; --help tells which words there are\n",
+        ),
         (
             ["--bad", "--help"].as_slice(),
             "2 tool: unknown option '--bad'; options are --on WORD, --help and --version\n",

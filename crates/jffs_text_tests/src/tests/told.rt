@@ -85,6 +85,7 @@ fn a_volume_of_wrong_sizes_is_told_of(rt: HostRuntime) -> Result<(), Fail> {
         ("volume 8 1k", "number expected, got '1k'"),
         ("volume 5 1024", "a volume has 6 to 64 sectors, got 5"),
         ("volume 65 1000", "a volume has 6 to 64 sectors, got 65"),
+        ("volume 5 x", "a volume has 6 to 64 sectors, got 5"),
         (
             "volume 8 512",
             "a sector has 1024, 2048, 4096, 8192 or 16384 bytes, got 512",

@@ -171,6 +171,12 @@ pub enum CallFault<'a> {
     /// No word stands after `--sector-size`.
     #[error("--sector-size wants a number")]
     NoNumber,
+    /// A word beside one that stands alone.
+    #[error("unexpected word '{word}' beside '{alone}', which stands alone")]
+    Beside { word: &'a str, alone: &'a str },
+    /// A word without bytes.
+    #[error("an empty word; --help tells which words there are")]
+    Empty,
     /// Allocation failed.
     #[error("out of memory")]
     Memory,
@@ -206,8 +212,8 @@ impl Options {
     }
 }
 
-/// Reads the words of a call, the program's own name first. A word of two bytes or more that begins
-/// with `-` is an option.
+/// Reads the words of a call, the program's own name first. A word that begins with `-` is an
+/// option; `--help`, or `-h`, and `--version` stand alone.
 pub(crate) fn call_of<'a>(alloc: Global, words: &'a [String]) -> Result<Call<'a>, CallFault<'a>> {
     let mut plain: Vec<&'a str> = Vec::new(alloc);
     let mut options = Options {
@@ -219,19 +225,22 @@ pub(crate) fn call_of<'a>(alloc: Global, words: &'a [String]) -> Result<Call<'a>
     let mut wants_number = false;
     for word in words.iter().skip(1) {
         let word = word.as_str();
+        if word.is_empty() {
+            return Err(CallFault::Empty);
+        }
         if wants_number {
             options.sector_size = Some(number_of(word)?);
             wants_number = false;
             continue;
         }
         match word {
-            "--help" => return Ok(Call::Help),
-            "--version" => return Ok(Call::Version),
+            "--help" | "-h" => return alone(words, word, Call::Help),
+            "--version" => return alone(words, word, Call::Version),
             "--sector-size" => wants_number = true,
             "-l" => options.long = true,
             "-r" => options.recursive = true,
             "--svg" => options.svg = true,
-            _ if word.len() > 1 && word.starts_with('-') => return Err(CallFault::Option(word)),
+            _ if word.starts_with('-') => return Err(CallFault::Option(word)),
             _ => plain.push(word)?,
         }
     }
@@ -239,6 +248,21 @@ pub(crate) fn call_of<'a>(alloc: Global, words: &'a [String]) -> Result<Call<'a>
         return Err(CallFault::NoNumber);
     }
     work_of(&plain, options).map(Call::Do)
+}
+
+/// What a word asks for that stands alone in a call. `Beside` with the first other word.
+fn alone<'a>(
+    words: &'a [String],
+    asked: &'a str,
+    call: Call<'a>,
+) -> Result<Call<'a>, CallFault<'a>> {
+    for word in words.iter().skip(1) {
+        let word = word.as_str();
+        if word != asked {
+            return Err(CallFault::Beside { word, alone: asked });
+        }
+    }
+    Ok(call)
 }
 
 /// A command with the words that follow it.

@@ -2,6 +2,7 @@
 
 use crate::fault::VolumeFault;
 use crate::looking::file_at;
+use crate::rooming::{Needed, make_room};
 use crate::session::Session;
 use crate::walking::below;
 use jffs_flash::Flash;
@@ -15,10 +16,14 @@ use std::io::Read;
 pub(crate) const UNFINISHED: &str = ".put.new";
 
 /// Puts bytes into a file at a path, instead of one that stands there: into a new file beside it,
-/// then the old one is removed and the new one renamed. `FileLong` where no file is so long,
-/// `Reserved` where the path is that of an unfinished file, `Left` where an unfinished file stands
-/// there already, `Directory` where a directory stands at the path, `Refused` where a request was
-/// refused; then the new file is removed, if that can be.
+/// then the old one is removed and the new one renamed.
+///
+/// `FileLong` where no file is so long, `Reserved` where the path is that of an unfinished file,
+/// `Left` where an unfinished file stands there already, `Directory` where a directory stands at
+/// the path, `NoSpace` where the log has no room for all of it, which is seen before it begins: no
+/// file is changed. `Refused` where a request was refused: the file at the path is as it was, and
+/// the new file is removed. Where that was refused too, `Part`: it stays with what was written.
+/// `Whole` where the old file was removed, and the rename refused: it stays with all its bytes.
 pub(crate) fn put<F: Flash>(
     alloc: Global,
     session: &mut Session<F>,
@@ -42,18 +47,46 @@ pub(crate) fn put<F: Flash>(
         Err(VolumeFault::Nothing) => false,
         Err(fault) => return Err(fault),
     };
-    let written = write_file(alloc, session, &unfinished, bytes);
-    if let Err(fault) = written {
-        let _ = session.ask(Wish::Remove(unfinished));
-        return Err(fault);
+    let needed = Needed {
+        bytes: bytes.len() as u32,
+        piece: session.write_max().max(1),
+    };
+    make_room(session, needed)?;
+    if let Err(fault) = write_file(alloc, session, &unfinished, bytes) {
+        return Err(taken_away(session, unfinished, fault));
     }
     if replaces {
-        session.ask(Wish::Remove(path.clone()?))?;
+        if let Err(fault) = session.ask(Wish::Remove(path.clone()?)) {
+            return Err(taken_away(session, unfinished, fault));
+        }
     }
-    session.ask(Wish::Rename {
+    let renamed = session.ask(Wish::Rename {
         from: unfinished,
         to: path,
-    })
+    });
+    match renamed {
+        Err(VolumeFault::NoSpace) if replaces => Err(VolumeFault::Whole(Cause::NoSpace)),
+        Err(VolumeFault::Refused(cause)) if replaces => Err(VolumeFault::Whole(cause)),
+        renamed => renamed,
+    }
+}
+
+/// Removes what a put has written, and gives what the put ends with: the fault that ended it, or
+/// `Part` where a part of the new file stays.
+fn taken_away<F: Flash>(
+    session: &mut Session<F>,
+    unfinished: Path,
+    fault: VolumeFault,
+) -> VolumeFault {
+    if session.tree().resolve(&unfinished).is_none() {
+        return fault;
+    }
+    match (session.ask(Wish::Remove(unfinished)), fault) {
+        (Ok(()), _) => fault,
+        (Err(_), VolumeFault::Refused(cause)) => VolumeFault::Part(cause),
+        (Err(_), VolumeFault::NoSpace | VolumeFault::Stuck) => VolumeFault::Part(Cause::NoSpace),
+        (Err(_), _) => fault,
+    }
 }
 
 /// The path of the unfinished file in the directory of a path.

@@ -3,6 +3,7 @@
 ghost use Rattle.std.specs.Prelude.{◌≡◌, ◌⊎◌};
 
 use jffs_file::{FileFault, StoreFault};
+use jffs_flash::{MAX_SECTORS, MIN_SECTORS, VOLUME_MAX};
 use jffs_log::ScanWhy;
 use jffs_node::{NoMemory, PathFault};
 use jffs_tree::Cause;
@@ -28,12 +29,31 @@ pub enum VolumeFault {
     /// There is no flash in the file.
     #[error("{0}")]
     File(FileFault),
+    /// The file can't be read.
+    #[error("the file can't be read")]
+    Unread,
+    /// The file has more bytes than any volume.
+    #[error("the file has more than {VOLUME_MAX} bytes, which no volume has")]
+    Large,
+    /// The file has so many bytes, which are no whole number of sectors of this size.
+    #[error("the file has {found} bytes, which are no whole number of sectors of {size} bytes")]
+    Length { found: u64, size: u32 },
+    /// A volume may not have so many sectors.
+    #[error("a volume has {MIN_SECTORS} to {MAX_SECTORS} sectors, got {0}")]
+    Sectors(u32),
+    /// A sector may not have so many bytes.
+    #[error("a sector has 1024, 2048, 4096, 8192 or 16384 bytes, got {0}")]
+    SectorSize(u32),
     /// More than one size of the sectors makes a volume of the file.
     #[error("the file is a volume with sectors of more than one size: give --sector-size")]
     Sizes,
     /// No size of the sectors makes a volume of the file.
     #[error("no volume, whatever the size of its sectors: --sector-size tells why not")]
     NoSize,
+    /// The file has so many bytes, as no volume has.
+    #[error("no volume has {0} bytes: it has {MIN_SECTORS} to {MAX_SECTORS} sectors of 1024, 2048, \
+    4096, 8192 or 16384")]
+    NoLength(u64),
     /// There is no volume in the file.
     #[error("no volume: {0}")]
     NoVolume(ScanWhy),
@@ -46,10 +66,23 @@ pub enum VolumeFault {
     /// A directory stands at the path, where a file was wanted.
     #[error("a directory stands at the path")]
     Directory,
-    /// A file of a put that was cut off stands in the directory.
-    #[error("a put was cut off, and left what it had in the file '.put.new' beside the \
+    /// A file of a put that wasn't finished stands in the directory.
+    #[error("a put wasn't finished, and left what it had in the file '.put.new' beside the \
     path: mv it or rm it")]
     Left,
+    /// A put was refused, for this cause, and so was the removal of what it had written.
+    #[error("{0}; a part of the new file is left as '.put.new' beside the path")]
+    Part(Cause),
+    /// A put was refused, for this cause, after the file at its path was removed.
+    #[error("{0}; the new file is left whole as '.put.new' beside the path: mv it")]
+    Whole(Cause),
+    /// The log has no room.
+    #[error("the log has no room: rm what can go, and ask again; df tells how full it is")]
+    NoSpace,
+    /// The log has no room for a removal.
+    #[error("the log has no room, not even to remove something: save it, and load it into a \
+    larger volume")]
+    Stuck,
     /// The path is one that an unfinished put has.
     #[error("the name '.put.new' is kept for puts that aren't finished")]
     Reserved,
@@ -99,6 +132,11 @@ impl VolumeFault {
                 BROKEN
             }
             VolumeFault::File(_)
+            | VolumeFault::Unread
+            | VolumeFault::Large
+            | VolumeFault::Length { .. }
+            | VolumeFault::Sectors(_)
+            | VolumeFault::SectorSize(_)
             | VolumeFault::Sizes
             | VolumeFault::Path(_)
             | VolumeFault::Reserved
@@ -108,15 +146,27 @@ impl VolumeFault {
             | VolumeFault::HostMake
             | VolumeFault::Special
             | VolumeFault::Dots => { MISUSED },
-            VolumeFault::NoSize | VolumeFault::NoVolume(_) => NO_VOLUME,
-            VolumeFault::Refused(Cause::Memory | Cause::Device | Cause::Failed) => BROKEN,
+            VolumeFault::NoSize | VolumeFault::NoLength(_) | VolumeFault::NoVolume(_) => NO_VOLUME,
+            VolumeFault::Refused(cause) | VolumeFault::Part(cause) | VolumeFault::Whole(cause) => {
+                status_of(cause)
+            }
             VolumeFault::Nothing
             | VolumeFault::Directory
             | VolumeFault::Left
-            | VolumeFault::Refused(_) => REFUSED,
+            | VolumeFault::NoSpace
+            | VolumeFault::Stuck => { REFUSED },
             VolumeFault::Medium | VolumeFault::Read | VolumeFault::Write | VolumeFault::Memory => {
                 BROKEN
             }
+        }
+    }
+
+    /// What an error of the volume's file ends a command with that only reads it.
+    pub fn of_file_read(error: io::Error) -> VolumeFault {
+        match error.kind() {
+            ErrorKind::OutOfMemory => VolumeFault::Memory,
+            ErrorKind::NotFound => VolumeFault::File(FileFault::Missing),
+            _ => VolumeFault::Unread,
         }
     }
 
@@ -158,6 +208,14 @@ impl VolumeFault {
     }
 }
 
+/// The status of a command that was refused for this cause.
+fn status_of(cause: Cause) -> u8 {
+    match cause {
+        Cause::Memory | Cause::Device | Cause::Failed => BROKEN,
+        _ => REFUSED,
+    }
+}
+
 /// An error of standard output.
 impl From<io::Error> for VolumeFault {
     ghost use Rattle.jffs_manage.specs.declared.fault.VolumeFault.TheVariants.{Memory, Write};
@@ -174,7 +232,10 @@ impl From<io::Error> for VolumeFault {
 
 impl From<FileFault> for VolumeFault {
     fn from(fault: FileFault) -> VolumeFault {
-        VolumeFault::File(fault)
+        match fault {
+            FileFault::Length => VolumeFault::Large,
+            _ => VolumeFault::File(fault),
+        }
     }
 }
 

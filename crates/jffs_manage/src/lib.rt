@@ -4,7 +4,8 @@
 //! It stands on `jffs_core` for the volume and on `jffs_file` for the file. [`run_volume`] is the
 //! program; `arguments` reads its words, `mounting` opens the file, `looking`, `mapping` and
 //! `drawing` write what is there, `changing` does what is asked, in a `session` that ends with an
-//! unmount, and `hosting` carries whole trees from and to a directory of the host.
+//! unmount, `rooming` sees that a put has room before it begins, and `hosting` carries whole trees
+//! from and to a directory of the host.
 #![tactic(auto)]
 
 mod arguments;
@@ -17,6 +18,7 @@ mod looking;
 mod mapping;
 mod mounting;
 mod program;
+mod rooming;
 mod session;
 mod walking;
 

@@ -196,16 +196,23 @@ fn usage_of<F: Flash>(core: &Core<F>) -> Usage
     ensures sure { result.sure ≡ heavy core.now.index.sectors core.now.index.sector_size }
 {
     let log = core.log();
-    let sectors = log.sectors();
-    let sector_size = log.sector_size();
-    let of_each = (u64::from(sector_size) * 3 / 4).saturating_sub(HEADER_LEN as u64);
     Usage {
-        sectors,
-        sector_size,
+        sectors: log.sectors(),
+        sector_size: log.sector_size(),
         erased: log.erased(),
         weight: log.live_weight(core.tree()),
-        sure: u64::from(sectors.saturating_sub(4)) * of_each,
+        sure: sure_weight(core),
     }
+}
+
+/// The weight of the live records, in bytes, below which no operation is refused for want of room
+/// while two sectors are erased.
+pub(crate) fn sure_weight<F: Flash>(core: &Core<F>) -> u64
+    ensures { result ≡ heavy core.now.index.sectors core.now.index.sector_size }
+{
+    let log = core.log();
+    let of_each = (u64::from(log.sector_size()) * 3 / 4).saturating_sub(HEADER_LEN as u64);
+    u64::from(log.sectors().saturating_sub(4)) * of_each
 }
 
 /// Writes how full a volume is: its sectors and their size in bytes, how many are erased, what its

@@ -1,72 +1,126 @@
 //! The volume in a file.
 
+ghost use Rattle.std.specs.Prelude.{◌≡◌, ◌*◌, IfOk};
+
 use crate::fault::VolumeFault;
 use jffs_core::Core;
-use jffs_file::{FileFlash, FileImage, FileStore, open_image};
-use jffs_flash::{SECTOR_SIZES, is_geometry};
+use jffs_file::{FileFlash, FileStore, open_image};
+use jffs_flash::{MemoryFlash, SECTOR_SIZES, VOLUME_MAX, is_geometry};
 use jffs_log::ScanWhy;
 use std::alloc::Global;
-use std::io::{Seek, Write};
+use std::fs::File;
+use std::io::Read;
 use std::rt::Files;
 
 /// A mounted volume in a file.
 pub(crate) type FileCore<Rt> = Core<FileFlash<FileStore<<Rt as Files>::File>>>;
 
-/// Mounts the volume in a file, of sectors of this size, in bytes; where none is given, of the one
-/// size that makes a volume of the file. `File` where the file can't be used, `NoVolume` where
-/// there is none in it, `NoSize` where there is none of any size, `Sizes` where there is one of
-/// several, `Memory`. The file stays as it is.
+/// Mounts the volume in a file, to change it, of sectors of this size, in bytes; where none is
+/// given, of the one size that makes a volume of the file.
+///
+/// `File` or `Large` where the file can't be used, `SectorSize` or `Length` where sectors of this
+/// size can't be its own, `NoVolume` where there is none in it, `NoSize` or `NoLength` where there
+/// is none of any size, `Sizes` where there is one of several, `Memory`. The file stays as it is.
 pub(crate) fn mount<Rt: Files + AllocGlobal>(
     rt: &Rt,
     file: &str,
     sector_size: Option<u32>,
 ) -> Result<FileCore<Rt>, VolumeFault> {
     let image = open_image(rt, file)?;
-    match sector_size {
-        Some(size) => mount_as(rt.alloc(), image, size),
-        None => mount_of_one_size(rt, file, image.bytes().len()),
-    }
-}
-
-/// Mounts a file with sectors of this size.
-fn mount_as<F: Write + Seek + Drop>(
-    alloc: Global,
-    image: FileImage<F>,
-    size: u32,
-) -> Result<Core<FileFlash<FileStore<F>>>, VolumeFault> {
-    let sectors = sectors_in(image.bytes().len(), size);
-    match Core::mount(alloc, image.into_flash(sectors, size)?) {
+    let size = match sector_size {
+        Some(size) => size,
+        None => find_volume(rt.alloc(), image.bytes())?.0,
+    };
+    let sectors = sectors_of(image.bytes().len(), size)?;
+    match Core::mount(rt.alloc(), image.into_flash(sectors, size)?) {
         Ok(core) => Ok(core),
         Err(fault) => Err(refused(fault.why)),
     }
 }
 
-/// Mounts a file of so many bytes with each size of the sectors that may be its own, and gives the
-/// one volume that is found. The file is opened for each anew, and so scanned once with each.
-fn mount_of_one_size<Rt: Files + AllocGlobal>(
+/// Mounts a copy of the volume in a file, to look at it, as [`mount`] does; the file need not be
+/// one that can be written. `Unread` where it can't be read.
+pub(crate) fn mount_copy<Rt: Files + AllocGlobal>(
     rt: &Rt,
     file: &str,
-    len: usize,
-) -> Result<FileCore<Rt>, VolumeFault> {
+    sector_size: Option<u32>,
+) -> Result<Core<MemoryFlash>, VolumeFault> {
+    let bytes = read_image(rt, file)?;
+    match sector_size {
+        Some(size) => mount_bytes(rt.alloc(), bytes, size),
+        None => Ok(find_volume(rt.alloc(), &bytes)?.1),
+    }
+}
+
+/// The bytes of a file, which are no more than a volume has.
+fn read_image<Rt: Files + AllocGlobal>(rt: &Rt, file: &str) -> Result<Vec<u8>, VolumeFault> {
+    let opened = File::open(rt, file).map_err(VolumeFault::of_file_read)?;
+    let mut bytes = Vec::new(rt.alloc());
+    opened
+        .take(VOLUME_MAX + 1)
+        .read_to_end(&mut bytes)
+        .map_err(VolumeFault::of_file_read)?;
+    if bytes.len() as u64 > VOLUME_MAX {
+        return Err(VolumeFault::Large);
+    }
+    Ok(bytes)
+}
+
+/// Mounts a copy of these bytes with each size of the sectors that may be theirs, and gives the one
+/// volume that is found, after the size of its sectors.
+fn find_volume(alloc: Global, bytes: &[u8]) -> Result<(u32, Core<MemoryFlash>), VolumeFault> {
     let mut found = None;
+    let mut fits = false;
     for &size in SECTOR_SIZES.iter() {
-        if !may_have(len, size) {
+        if !may_have(bytes.len(), size) {
             continue;
         }
-        match mount_as(rt.alloc(), open_image(rt, file)?, size) {
+        fits = true;
+        match mount_bytes(alloc, bytes.to_vec(alloc)?, size) {
             Ok(_) if found.is_some() => return Err(VolumeFault::Sizes),
-            Ok(core) => found = Some(core),
+            Ok(core) => found = Some((size, core)),
             Err(VolumeFault::NoVolume(_)) => {}
             Err(fault) => return Err(fault),
         }
     }
+    if !fits {
+        return Err(VolumeFault::NoLength(bytes.len() as u64));
+    }
     found.ok_or(VolumeFault::NoSize)
+}
+
+/// Mounts flash in memory that holds these bytes, of sectors of this size.
+fn mount_bytes(alloc: Global, bytes: Vec<u8>, size: u32) -> Result<Core<MemoryFlash>, VolumeFault> {
+    let sectors = sectors_of(bytes.len(), size)?;
+    match Core::mount(alloc, MemoryFlash::from_bytes(sectors, size, bytes)) {
+        Ok(core) => Ok(core),
+        Err(fault) => Err(refused(fault.why)),
+    }
 }
 
 /// Whether a volume of so many bytes may have sectors of this size.
 fn may_have(len: usize, size: u32) -> bool {
-    let sectors = sectors_in(len, size);
-    is_geometry(sectors, size) && len == sectors as usize * size as usize
+    match sectors_of(len, size) {
+        Ok(sectors) => is_geometry(sectors, size),
+        Err(_) => false,
+    }
+}
+
+/// How many sectors of this size `len` bytes are. `SectorSize` where no volume has such sectors,
+/// `Length` where they are no whole number of them.
+fn sectors_of(len: usize, size: u32) -> Result<u32, VolumeFault>
+    ensures whole { IfOk result (λ sectors. len ≡ sectors * size) }
+{
+    if !SECTOR_SIZES.contains(&size) {
+        return Err(VolumeFault::SectorSize(size));
+    }
+    let found = len as u64;
+    let most = u32::try_from(len).unwrap_or(u32::MAX);
+    let sectors = most.checked_div(size).unwrap_or(0);
+    if u64::from(sectors) * u64::from(size) != found {
+        return Err(VolumeFault::Length { found, size });
+    }
+    Ok(sectors)
 }
 
 fn refused(why: ScanWhy) -> VolumeFault {
@@ -74,12 +128,4 @@ fn refused(why: ScanWhy) -> VolumeFault {
         ScanWhy::Memory => VolumeFault::Memory,
         _ => VolumeFault::NoVolume(why),
     }
-}
-
-/// How many sectors of this size `len` bytes have room for.
-fn sectors_in(len: usize, sector_size: u32) -> u32 {
-    if sector_size == 0 {
-        return 0;
-    }
-    u32::try_from(len).unwrap_or(u32::MAX) / sector_size
 }

@@ -8,11 +8,11 @@ use crate::help::{HELP, VERSION};
 use crate::hosting::{load, save};
 use crate::looking::{check, file_at, list, show, write_usage};
 use crate::mapping::{Map, map_of};
-use crate::mounting::mount;
+use crate::mounting::{mount, mount_copy};
 use crate::session::Session;
 use jffs_core::Core;
 use jffs_file::create_image;
-use jffs_flash::Flash;
+use jffs_flash::{Flash, MAX_SECTORS, MIN_SECTORS, is_geometry};
 use jffs_node::Path;
 use jffs_tree::{Tree, Wish};
 use std::alloc::Global;
@@ -98,12 +98,13 @@ fn carry_out<Rt: Files + AllocGlobal + Clone + Drop, R: Read, W: Write>(
             sectors,
             sector_size,
         } => {
+            check_sizes(sectors, sector_size)?;
             let _ = create_image(rt, work.file, sectors, sector_size)?;
         }
         Task::Look(asked) => look(rt, &work, asked, out, coloured)?,
         Task::Change(asked) => change(rt, &work, asked, input, reached)?,
         Task::Save(directory) => {
-            let core = mount(rt, work.file, work.sector_size)?;
+            let core = mount_copy(rt, work.file, work.sector_size)?;
             save(rt, core.tree(), directory, reached)?;
         }
     }
@@ -111,7 +112,18 @@ fn carry_out<Rt: Files + AllocGlobal + Clone + Drop, R: Read, W: Write>(
     Ok(())
 }
 
-/// Mounts the volume and writes of it what is asked for. Nothing is changed.
+/// That a volume may have these sizes; `Sectors` or `SectorSize` with the first that it may not.
+fn check_sizes(sectors: u32, sector_size: u32) -> Result<(), VolumeFault> {
+    if is_geometry(sectors, sector_size) {
+        Ok(())
+    } else if sectors < MIN_SECTORS || MAX_SECTORS < sectors {
+        Err(VolumeFault::Sectors(sectors))
+    } else {
+        Err(VolumeFault::SectorSize(sector_size))
+    }
+}
+
+/// Mounts a copy of the volume and writes of it what is asked for. Nothing is changed.
 fn look<Rt: Files + AllocGlobal, W: Write>(
     rt: &Rt,
     work: &Work<'_>,
@@ -119,7 +131,7 @@ fn look<Rt: Files + AllocGlobal, W: Write>(
     out: &mut W,
     coloured: bool,
 ) -> Result<(), VolumeFault> {
-    let core = mount(rt, work.file, work.sector_size)?;
+    let core = mount_copy(rt, work.file, work.sector_size)?;
     let alloc = rt.alloc();
     match asked {
         Look::List { path, long } => list_at(alloc, &core, path, long, out),

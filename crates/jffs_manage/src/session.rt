@@ -3,9 +3,9 @@
 ghost use Rattle.std.specs.Prelude.{◌≡◌};
 
 use crate::fault::VolumeFault;
-use jffs_core::Core;
+use jffs_core::{Cleaned, Core};
 use jffs_flash::Flash;
-use jffs_line::Request;
+use jffs_line::{CONTROL, Request};
 use jffs_tree::{Cause, Limits, Outcome, Tree, Wish};
 
 /// The sender's number in the records.
@@ -32,6 +32,24 @@ impl<F: Flash> Session<F> {
         }
     }
 
+    /// The core as it is now.
+    pub fn core(&self) -> &Core<F>
+        ensures { result.now ≡ self.now.core }
+    {
+        &self.core
+    }
+
+    /// Cleans the oldest sector, as [`Core::clean_oldest`] does.
+    pub fn clean_oldest(&mut self) -> Result<Cleaned, Cause> {
+        self.core.clean_oldest()
+    }
+
+    /// Whether the bytes after the tail's records are known to be free: it was unmounted last, or
+    /// a record was appended in this session.
+    pub fn knows_tail(&self) -> bool {
+        self.core.clean() || self.core.limits() != self.begun
+    }
+
     /// The tree as it is now.
     pub fn tree(&self) -> &Tree
         ensures { result.now ≡ self.now.core.tree }
@@ -46,29 +64,44 @@ impl<F: Flash> Session<F> {
         self.core.limits().data_max
     }
 
-    /// Has one request answered, and erases what died by it. `Refused` where it wasn't granted: no
-    /// node was appended for it, unless the cause is Device. `Memory`: nothing was asked.
+    /// Has one request answered, and erases what died by it.
+    ///
+    /// `Refused` where it wasn't granted, in place of which `NoSpace` or, for a removal, `Stuck`
+    /// stands for want of room: no node was appended for it, unless the cause is Device. `Memory`:
+    /// nothing was asked.
     pub fn ask(&mut self, wish: Wish) -> Result<(), VolumeFault> {
+        let removes = matches!(&wish, Wish::Remove(_));
+        let seq = self.seq.saturating_add(1);
+        let outcome = self.answer(WRITER, seq, wish)?;
+        self.seq = seq;
+        match outcome {
+            Outcome::Refused(Cause::NoSpace) if removes => Err(VolumeFault::Stuck),
+            Outcome::Refused(Cause::NoSpace) => Err(VolumeFault::NoSpace),
+            Outcome::Refused(cause) => Err(VolumeFault::Refused(cause)),
+            _ => self.erase_dead(),
+        }
+    }
+
+    /// Has a request of this sender answered. `Memory`: nothing was asked.
+    fn answer(&mut self, writer: u16, seq: u32, wish: Wish) -> Result<Outcome, VolumeFault> {
         if self.core.reserve_answer().is_err() {
             return Err(VolumeFault::Memory);
         }
-        self.seq = self.seq.saturating_add(1);
-        let request = Request {
-            writer: WRITER,
-            seq: self.seq,
-            wish,
-        };
-        match self.core.answer(request) {
-            Outcome::Refused(cause) => Err(VolumeFault::Refused(cause)),
-            Outcome::Closed => Ok(()),
-            _ => self.erase_dead(),
-        }
+        Ok(self.core.answer(Request { writer, seq, wish }))
     }
 
     fn erase_dead(&mut self) -> Result<(), VolumeFault> {
         match self.core.erase_dead() {
             Ok(_) => Ok(()),
             Err(cause) => Err(VolumeFault::Refused(cause)),
+        }
+    }
+
+    /// Has the control ask for the unmount.
+    fn unmount(&mut self) -> Result<(), VolumeFault> {
+        match self.answer(CONTROL, 1, Wish::Unmount)? {
+            Outcome::Refused(cause) => Err(VolumeFault::Refused(cause)),
+            _ => Ok(()),
         }
     }
 
@@ -80,7 +113,7 @@ impl<F: Flash> Session<F> {
         } else if self.core.limits() == self.begun {
             Ok(())
         } else {
-            self.ask(Wish::Unmount)
+            self.unmount()
         };
         let Session {
             core,

@@ -1,6 +1,7 @@
 //! Calls of the program, each with its status and what it writes.
 
 mod faults;
+mod filling;
 mod images;
 mod maps;
 mod streams;
@@ -79,7 +80,7 @@ fn what_is_put_comes_back(rt: HostRuntime) -> Result<(), Fail> {
                 "put v.image /h",
                 "",
                 4,
-                "jffs_volume: v.image: /h: a put was cut off, and left what it had in the file \
+                "jffs_volume: v.image: /h: a put wasn't finished, and left what it had in the file \
                 '.put.new' beside the path: mv it or rm it\n",
             ),
             ("cat v.image /.put.new", "", 0, "second text"),

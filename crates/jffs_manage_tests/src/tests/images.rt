@@ -122,3 +122,33 @@ fn each_image_that_is_no_volume_has_its_text(rt: HostRuntime) -> Result<(), Fail
     fs::remove_file(&rt, "w.image")?;
     Ok(())
 }
+
+/// The record of an unmount with this version, which the control asked for as its first request.
+fn unmount(version: u32) -> [u8; 64] {
+    let mut record = [0u8; 64];
+    record[..8].copy_from_slice(b"JFF1\x03\x00\x00\x00");
+    record[16..20].copy_from_slice(&version.to_be_bytes());
+    record[33] = 10;
+    record[35] = 1;
+    record[39] = 1;
+    record
+}
+
+#[test]
+fn the_control_ends_each_session(rt: HostRuntime) -> Result<(), Fail> {
+    let _ = fs::remove_file(&rt, "e.image");
+    plays(
+        &rt,
+        &[
+            ("format e.image 6 1024", "", 0, ""),
+            ("mkdir e.image /d", "", 0, ""),
+            ("mkdir e.image /e", "", 0, ""),
+        ],
+    )?;
+    let image = fs::read(&rt, "e.image")?;
+    for (at, version) in [(64, 2), (192, 4)] {
+        assert_eq!(rt; image.get(at..at + 64), Some(unmount(version).as_slice()));
+    }
+    fs::remove_file(&rt, "e.image")?;
+    Ok(())
+}

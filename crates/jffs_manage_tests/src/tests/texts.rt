@@ -44,6 +44,10 @@ fn what_fails_on_the_machine_has_its_text(rt: HostRuntime) -> Result<(), Fail> {
             VolumeFault::Refused(Cause::Failed),
             "the flash failed earlier",
         ),
+        (
+            VolumeFault::Part(Cause::Device),
+            "the flash failed; a part of the new file is left as '.put.new' beside the path",
+        ),
     ] {
         has_text(&rt, rt.alloc(), fault, 1, wanted)?;
     }
@@ -62,6 +66,23 @@ fn what_no_command_meets_has_its_text(rt: HostRuntime) -> Result<(), Fail> {
         3,
         "no volume: the flash failed",
     )?;
+    for (fault, wanted) in [
+        (
+            VolumeFault::Part(Cause::VersionsSpent),
+            "no version is left; a part of the new file is left as '.put.new' beside the path",
+        ),
+        (
+            VolumeFault::Whole(Cause::VersionsSpent),
+            "no version is left; the new file is left whole as '.put.new' beside the path: mv it",
+        ),
+        (
+            VolumeFault::Stuck,
+            "the log has no room, not even to remove something: save it, and load it into a \
+            larger volume",
+        ),
+    ] {
+        has_text(&rt, rt.alloc(), fault, 4, wanted)?;
+    }
     for (cause, wanted) in [
         (Cause::DataLong, "the data is too long for one node"),
         (Cause::NotNeeded, "no live node has this version"),

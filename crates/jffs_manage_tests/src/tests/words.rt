@@ -21,6 +21,27 @@ fn each_word_that_is_wrong_has_its_line(rt: HostRuntime) -> Result<(), Fail> {
                 "unknown option '--all'; options are -l, -r, --svg, --sector-size, --help and \
                 --version",
             ),
+            (
+                "ls -",
+                2,
+                "unknown option '-'; options are -l, -r, --svg, --sector-size, --help and \
+                --version",
+            ),
+            (
+                "ls r.image --help",
+                2,
+                "unexpected word 'ls' beside '--help', which stands alone",
+            ),
+            (
+                "--version r.image",
+                2,
+                "unexpected word 'r.image' beside '--version', which stands alone",
+            ),
+            (
+                "ls  r.image",
+                2,
+                "an empty word; --help tells which words there are",
+            ),
             ("cat r.image /f /g", 2, "unexpected word '/g'"),
             ("mv r.image /f", 2, "words are missing: mv FILE PATH PATH"),
             (

@@ -5,6 +5,7 @@ pub mod Mounting
 pub mod Putting
 pub mod Deciding
 pub mod Refusing
+pub mod Unchanged
 pub mod Asked
 pub mod Full
 pub mod Stepping

@@ -162,7 +162,7 @@ pub put_failed : (room : Room) (n : Node) (cause : Cause) (old new : CoreState) 
 put_failed room n cause old new device fails faults left = subst (λ c. PutRefused room n c old new) (sym device) (record {
   stands = λ past known may. record { fails = fails; faults = faults; left = left past known may };
   no_room = λ is. absurd (other is);
-  kept = λ is. absurd (other is);
+  same = λ is. absurd (is refl);
 })
   where
     other : ◌≡◌ {A = Cause} Device NoSpace → ⊥

@@ -25,7 +25,7 @@ use Rattle.jffs_core.specs.RoomSteps.{UnmountsHaveRoom}
 use Rattle.jffs_core.specs.Past.{RepresentsWorking, RepresentsPast, HasFailed, gc_state, has_room_for}
 use Rattle.jffs_core.specs.Calls.{RefusedWith, KeepsTwo}
 use Rattle.jffs_core.specs.Appending.{MayPut, HasPut, PutRefused}
-use Rattle.jffs_core.specs.Answering.{IsNodeOf, HasAnswered, AnswersWith, KeepsAnswer, keeps_two, turn_of}
+use Rattle.jffs_core.specs.Answering.{IsNodeOf, HasAnswered, AnswersWith, DoesNothing, KeepsAnswer, keeps_two, turn_of}
 use Rattle.jffs_log.specs.Cleaning.{GcState, Layout, used}
 use Rattle.jffs_log.specs.Work.{live_and_free}
 use Rattle.jffs_log.proofs.rooms.Bound.{fresh_keeps_two}
@@ -33,6 +33,7 @@ use Rattle.jffs_core.proofs.Deciding.{is_of_tree}
 use Rattle.jffs_core.proofs.Contents.{grows_along, step_grows}
 use Rattle.jffs_core.proofs.Mounting.{clean_ends}
 use Rattle.jffs_core.proofs.Refusing.{works_past, by_refusal, refused_past, fails_as, works_on_faults, same_cause, device_left, refused_keeps}
+use Rattle.jffs_core.proofs.Unchanged.{none_changed, kept_unchanged, layout_unchanged, does_something}
 use Rattle.jffs_core.proofs.Asked.{decision_is, unmount_is, its_version, its_room, by_length, own_in_hand}
 use Rattle.jffs_core.proofs.RoomMade.{room_at_once}
 use Rattle.jffs_core.proofs.Working.{none_is_little}
@@ -56,6 +57,9 @@ no_failure : (cause : Cause) → is_of_tree cause ≡ true → is_failure (Refus
 no_failure causes.Device h = cc
 no_failure causes.Failed h = cc
 no_failure _ h = refl
+
+pub not_for_room : (cause : Cause) → cause ≡ causes.NoSpace → cause ≡ causes.Device → ⊥
+not_for_room cause full device = let same = sym full ∙ device in cc
 
 -- Two sectors stay erased.
 pub fresh_put_keeps : (node : Node) (old new : CoreState) → HasPut rooms.Fresh node old new → KeepsTwo old new
@@ -112,6 +116,7 @@ module _ (past : List Node) (old new : CoreState) (q : Request) (works : old.fai
     faults = λ w. ap (λ (c : CoreState). c.faults) same;
     in_hand = λ e. cc;
     two = λ k. absurd (both_ways (keeps_two Closed) refl k);
+    same = λ none. none_changed old new same;
   }
 
   -- by the decision, or for want of memory
@@ -130,6 +135,7 @@ module _ (past : List Node) (old new : CoreState) (q : Request) (works : old.fai
         faults = λ w. ap (λ (c : CoreState). c.faults) same;
         in_hand = λ e. absurd (elim why [ inl memory ↦ memory_only (ap (λ c. Refused c) (sym memory.0) ∙ e) | inr tree ↦ not_device cause tree.0 e ]);
         two = λ k e. subst (λ (c : CoreState). 2 ≤ (layout_in c.image c.index).erased) (sym same) e;
+        same = λ none. none_changed old new same;
       }
     where
       memory_only : ◌≡◌ {A = Outcome} (Refused causes.Memory) (Refused causes.Device) → ⊥
@@ -147,6 +153,7 @@ module _ (past : List Node) (old new : CoreState) (q : Request) (works : old.fai
     faults = λ w. h.faults;
     in_hand = λ e. cc;
     two = λ k. fresh_put_keeps node old new h;
+    same = λ none. absurd none;
   }
 
   pub put_unmount : (node : Node) (of : IsNodeOf old q node) → is_unmount_wish q.wish ≡ true → rooms.Unmount ≡ room_of of.new → MayPut past old.index.sector_size rooms.Unmount node → HasPut rooms.Unmount node old new → HasAnswered past old new q Closed (Some node)
@@ -160,6 +167,7 @@ module _ (past : List Node) (old new : CoreState) (q : Request) (works : old.fai
     faults = λ w. h.faults;
     in_hand = λ e. cc;
     two = λ k. absurd (both_ways (keeps_two Closed) refl k);
+    same = λ clean. absurd (both_ways old.clean dirty clean);
   }
     where
       dirty : old.clean ≡ false
@@ -183,7 +191,8 @@ module _ (past : List Node) (old new : CoreState) (q : Request) (works : old.fai
         fails = fails_as P cause past old new stands;
         faults = works_on_faults P cause past old new stands;
         in_hand = device_left P (IsInHand (turn_of past old new) q past) (λ m same. subst (IsInHand (turn_of past old new) q past) (sym same) (own_in_hand past old q known node node of past new of.is has_next)) cause past old new stands;
-        two = λ k. refused_keeps P cause past old new stands (λ e two. subst (λ (l : Layout). 2 ≤ l.erased) (sym (h.kept e)) two) k;
+        two = λ k. refused_keeps P cause past old new stands (λ e two. subst (λ (l : Layout). 2 ≤ l.erased) (sym (layout_unchanged old new (h.same (not_for_room cause e)))) two) k;
+        same = λ none. h.same (does_something cause (turn_of past old new) q none);
       }
     where
       P : Node → Type 0
@@ -221,6 +230,7 @@ module _ (past : List Node) (old new : CoreState) (q : Request) (works : old.fai
         faults = λ w. no_fault;
         in_hand = λ e. cc;
         two = λ k. two;
+        same = λ none. absurd none;
       }
 
   -- a fresh record was put, after own copies
@@ -236,6 +246,7 @@ module _ (past : List Node) (old new : CoreState) (q : Request) (works : old.fai
     faults = λ w. no_fault;
     in_hand = λ e. cc;
     two = λ k. two;
+    same = λ none. absurd none;
   }
 
   -- room couldn't be made
@@ -253,6 +264,7 @@ module _ (past : List Node) (old new : CoreState) (q : Request) (works : old.fai
         faults = works_on_faults P cause after old new r;
         in_hand = device_left P (IsInHand (turn_of past old new) q after) (λ m h. (in_hand m h).0) cause after old new r;
         two = λ k. refused_keeps P cause after old new r two k;
+        same = λ none. absurd (room_was_made cause r none);
       }
     where
       no_room : HadNoRoom (turn_of past old new) q of.new
@@ -260,6 +272,11 @@ module _ (past : List Node) (old new : CoreState) (q : Request) (works : old.fai
 
       made : MakesRoom (turn_of past old new) q
       made = (of.new, no_room, fresh)
+
+      room_was_made : (c : Cause) → RefusedWith P c after old new → DoesNothing (Refused c) (turn_of past old new) q → ⊥
+      room_was_made c r =
+          by_refusal P after old new (λ c. DoesNothing (Refused c) (turn_of past old new) q → ⊥)
+          (λ w spent none. none made) (λ w none. none made) (λ w none. none made) (λ d none. none) c r
 
       by_cause : (c : Cause) → RefusedWith P c after old new → (c ≡ causes.NoSpace → 2 ≤ (layout_in old.image old.index).erased → heavy old.index.sectors old.index.sector_size ≤ weight past) → (c ≡ causes.NoSpace → gets_room (turn_of past old new) of.new ≡ false)
           → IsStep (turn_of past old new) q (Refused c) (copies.copies ++ past)
@@ -302,6 +319,7 @@ failed_answer past c q fails h = record {
   faults = λ w. refl;
   in_hand = λ e. cc;
   two = λ k e. e;
+  same = λ none. none_changed c c refl;
 }
 
 -- An answer is kept, and nothing else is changed.
@@ -331,6 +349,7 @@ answered writer seq o node mounted past old middle new q grown h kept =
             subst (λ t. HasFailed (IsInHand t q h.after) h.after new) same
             (subst (HasFailed (IsInHand (turn_of past old middle) q h.after) h.after) (sym kept) (record { clean = b.clean; tree = b.tree; left = b.left }));
         two = λ k e. subst (λ (c : CoreState). 2 ≤ (layout_in c.image c.index).erased) (sym kept) (h.two k e);
+        same = λ none. kept_unchanged writer seq o old middle new kept (h.same (subst (λ t. DoesNothing o t q) (sym same) none));
       };
       own = step.1;
     }

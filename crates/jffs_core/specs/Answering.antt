@@ -1,9 +1,9 @@
 -- One request, one answer.
 use Rattle.std.specs.Prelude.{◌≡◌, ℕ, ◌<◌, ◌^◌, Bool, true, false, ◌&&◌, ◌||◌, nat_lt, List, []}
-use Rattle.std.specs.Prelude.{◌∷◌, ◌++◌, Option, Some, None, Result, Ok, Err}
+use Rattle.std.specs.Prelude.{◌∷◌, ◌++◌, Option, Some, None, Result, Ok, Err, IsTrue}
 use Rattle.jffs_node.specs.declared.node.Node.{Node}
 use Rattle.jffs_tree.specs.declared.wish.Cause.{Cause}
-use Rattle.jffs_tree.specs.declared.wish.Cause.TheVariants.{VersionsSpent, Memory, Device}
+use Rattle.jffs_tree.specs.declared.wish.Cause.TheVariants.{VersionsSpent, Memory, NoSpace, Device}
 use Rattle.jffs_tree.specs.declared.wish.NewNode.{NewNode}
 use Rattle.jffs_tree.specs.declared.wish.Outcome.{Outcome}
 use Rattle.jffs_tree.specs.declared.wish.Outcome.TheVariants.{Closed, Refused}
@@ -13,10 +13,10 @@ use Rattle.jffs_tree.specs.Deciding.{IsWish}
 use Rattle.jffs_line.specs.declared.request.Request.{Request}
 use Rattle.jffs_log.specs.LogIndex.{layout_in}
 use Rattle.jffs_core.specs.declared.answer.Answered.{Answered}
-use Rattle.jffs_core.specs.CoreState.{CoreState}
+use Rattle.jffs_core.specs.CoreState.{CoreState, IsSameButAnswers}
 use Rattle.jffs_core.specs.Run.{is_failure}
 use Rattle.jffs_core.specs.Past.{RepresentsWorking, HasFailed, RepresentsPast, Represents}
-use Rattle.jffs_core.specs.Step.{Turn, IsStep, IsInHand}
+use Rattle.jffs_core.specs.Step.{Turn, IsStep, IsInHand, MakesRoom}
 use Rattle.jffs_core.specs.Nodes.{listed}
 use Rattle.jffs_core.specs.Calls.{KeepsTwo}
 
@@ -60,10 +60,22 @@ turn_of past old new = record {
   device_faulted = nat_lt old.faults new.faults;
 }
 
+-- Whether nothing is done for a request that is answered so. It is refused for a cause of the tree,
+-- or since the core had failed; for want of versions, memory or room, unless room was to be made
+-- for its node; or it is an Unmount of a clean log.
+abbrev pub DoesNothing : Outcome → Turn → Request → Type 0
+DoesNothing Closed t q = IsTrue t.clean
+DoesNothing (Refused VersionsSpent) t q = MakesRoom t q → ⊥
+DoesNothing (Refused Memory) t q = MakesRoom t q → ⊥
+DoesNothing (Refused NoSpace) t q = MakesRoom t q → ⊥
+DoesNothing (Refused Device) t q = ⊥
+DoesNothing (Refused _) t q = Unit {0}
+DoesNothing _ t q = ⊥
+
 -- The answer is a lawful step from this history to another, which the core has then, and this node
 -- is what it appended for the request itself. The core has failed exactly where the answer is
 -- Device or Failed, and while it works the device failed no call. After Device only the node in
--- hand may stand besides that history.
+-- hand may stand besides that history. Where nothing is done, nothing but the answers is changed.
 pub record HasAnswered (past : List Node) (old new : CoreState) (q : Request) (o : Outcome)
     (node : Option Node) : Type 0 where
   pub after : List Node
@@ -74,6 +86,7 @@ pub record HasAnswered (past : List Node) (old new : CoreState) (q : Request) (o
   pub faults : new.failed ≡ false → new.faults ≡ old.faults
   pub in_hand : o ≡ Refused Device → HasFailed (IsInHand (turn_of past old new) q after) after new
   pub two : keeps_two o ≡ true → KeepsTwo old new
+  pub same : DoesNothing o (turn_of past old new) q → IsSameButAnswers old new
 
 -- so is what was carried out, or why nothing was
 abbrev pub HasActed : List Node → CoreState → CoreState → Request → Result Answered Cause → Type 0
@@ -96,6 +109,7 @@ pub record Answers (mounted past : List Node) (old new : CoreState) (q : Request
   pub faults : new.failed ≡ false → new.faults ≡ old.faults
   pub in_hand : o ≡ Refused Device → HasFailed (IsInHand (turn_of past old new) q after) after new
   pub two : keeps_two o ≡ true → KeepsTwo old new
+  pub same : DoesNothing o (turn_of past old new) q → IsSameButAnswers old new
 
 -- the answer with the node that was appended for the request itself
 pub record AnswersWith (mounted past : List Node) (old new : CoreState) (q : Request) (o : Outcome)

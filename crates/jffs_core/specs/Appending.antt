@@ -3,13 +3,13 @@ use Rattle.std.specs.Prelude.{◌≡◌, ℕ, ◌≤◌, ◌/◌, true, false, L
 use Rattle.jffs_node.specs.declared.node.Node.{Node}
 use Rattle.jffs_node.specs.Record.{record_len}
 use Rattle.jffs_tree.specs.declared.wish.Cause.{Cause}
-use Rattle.jffs_tree.specs.declared.wish.Cause.TheVariants.{NoSpace}
+use Rattle.jffs_tree.specs.declared.wish.Cause.TheVariants.{NoSpace, Device}
 use Rattle.jffs_log.specs.declared.room.Room.{Room}
 use Rattle.jffs_log.specs.LogIndex.{layout_in}
 use Rattle.jffs_log.specs.History.{KeepsRules}
 use Rattle.jffs_log.specs.Cleaning.{put}
 use Rattle.jffs_log.specs.RoomLaws.{suits_room}
-use Rattle.jffs_core.specs.CoreState.{CoreState}
+use Rattle.jffs_core.specs.CoreState.{CoreState, IsSameButAnswers}
 use Rattle.jffs_core.specs.History.{HasNextVersion, MayFollow}
 use Rattle.jffs_core.specs.Past.{RepresentsWorking, has_room_for}
 use Rattle.jffs_core.specs.Calls.{RefusedWith}
@@ -37,4 +37,4 @@ pub record PutRefused (room : Room) (n : Node) (cause : Cause) (old new : CoreSt
   pub stands : (past : List Node) → RepresentsWorking past old
       → MayPut past old.index.sector_size room n → RefusedWith (λ m. m ≡ n) cause past old new
   pub no_room : cause ≡ NoSpace → has_room_for old room (record_len n) ≡ false
-  pub kept : cause ≡ NoSpace → layout_in new.image new.index ≡ layout_in old.image old.index
+  pub same : (cause ≡ Device → ⊥) → IsSameButAnswers old new

@@ -3,6 +3,7 @@ use Rattle.std.specs.Prelude.{◌≡◌, ℕ, Bool, List}
 use Rattle.jffs_tree.specs.Origin.{Tree}
 use Rattle.jffs_tree.specs.declared.wish.Limits.{Limits}
 use Rattle.jffs_log.specs.declared.log_index.LogIndex.{LogIndex}
+use Rattle.jffs_log.specs.LogIndex.{IsSameLogIndex}
 use Rattle.jffs_core.specs.declared.answer.Answer.{Answer}
 
 -- The image of the device, how often it failed, whether an erase was among that, the log's index,
@@ -23,6 +24,18 @@ pub record CoreState : Type 0 where
 -- the same in all but the capacity reserved for answers
 abbrev pub IsSameButCapacity : CoreState → CoreState → Type 0
 IsSameButCapacity old new = new ≡ record old { capacity = new.capacity }
+
+-- The same in all but what was answered and the capacities: the image, the device's faults, the
+-- index with its erases, the tree, the numbers, and whether the core works.
+pub record IsSameButAnswers (old new : CoreState) : Type 0 where
+  pub index : IsSameLogIndex old.index new.index
+  pub rest : new
+      ≡ record old {
+        index = new.index;
+        closed = new.closed;
+        answers = new.answers;
+        capacity = new.capacity;
+      }
 
 -- the answers, their capacity, and whether the session is over, are the same
 pub record SameAnswers (old new : CoreState) : Type 0 where

@@ -40,12 +40,12 @@ impl<F: Flash> Core<F> {
     /// Answers a request and keeps the answer. Precondition: memory for an answer is reserved.
     ///
     /// The answer is a lawful step from the history before to the one after. A request that is
-    /// refused for a cause from RootFixed to InodesSpent adds no node; VersionsSpent, Memory and
-    /// NoSpace add at most copies, which change no file. After Device the core is failed, and the
-    /// image holds the history, or it and the node in hand: a copy that was to make room, or the
-    /// node that was decided for the request. Once an erase failed, nothing is known of the image.
-    /// A core that had failed answers Failed: no call of the device is made, and nothing but the
-    /// answers is changed.
+    /// refused for a cause from RootFixed to InodesSpent, or Failed since the core had failed,
+    /// changes nothing but the answers. So does VersionsSpent, Memory or NoSpace, but for a change
+    /// for which room was to be made: then copies may stay that were made for it and sectors that
+    /// were erased, and no file is changed. After Device the core is failed, and the image holds
+    /// the history, or it and the node in hand: a copy that was to make room, or the node that was
+    /// decided for the request. Once an erase failed, nothing is known of the image.
     pub fn answer(&mut self, request: Request) -> Outcome
         requires reserved { length self.old.answers < self.old.capacity }
         ensures kept { AddsAnswer request.writer request.seq result self.old self.new }

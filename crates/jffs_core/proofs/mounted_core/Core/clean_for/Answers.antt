@@ -12,10 +12,11 @@ use Rattle.jffs_core.specs.Step.{IsInHand}
 use Rattle.jffs_core.specs.Past.{has_room_for}
 use Rattle.jffs_core.specs.Answering.{turn_of}
 use Rattle.jffs_core.proofs.Refusing.{copies_follow, works_past, refused_along}
+use Rattle.jffs_core.proofs.Unchanged.{layout_unchanged}
 use Rattle.jffs_core.proofs.Asked.{own_in_hand, known_version, may_later, its_makes_room, its_len, its_short, its_full, its_gets, its_past, fresh_is, fresh_room}
 use Rattle.jffs_core.proofs.Full.{turn_was_full}
 use Rattle.jffs_core.proofs.Working.{made_is_little}
-use Rattle.jffs_core.proofs.Stepping.{answers_same, make_stopped, later_put_keeps, put_fresh, none_left}
+use Rattle.jffs_core.proofs.Stepping.{answers_same, make_stopped, later_put_keeps, not_for_room, put_fresh, none_left}
 use Rattle.jffs_core.proofs.Erasing.{leaves_along}
 use Rattle.jffs_core.proofs.mounted_core.Core.clean_for.Goals as goal
 
@@ -103,7 +104,7 @@ returns-in_err-append-clause-acted g c = let p = err_from_is_err_and c.from_resi
     (λ is two. turn_was_full c.record_len.result past m.0 _ c.make_room.new.self known h (subst (λ k. k ≤ c.args.self.now.index.sector_size / 4) (sym len) (its_short past _ q n known d))
     (subst (λ k. has_room_for c.make_room.new.self rooms.Fresh k ≡ false) (sym len) (r.no_room is)) two)
     (λ is. its_gets past _ q n known d c.append.new.self c.record_len.result false len (h.room ∙ ap (has_room_for c.make_room.new.self rooms.Fresh) len ∙ r.no_room is))
-    (λ is two. subst (λ (l : Layout). 2 ≤ l.erased) (sym (r.kept is)) (h.two two))
+    (λ is two. subst (λ (l : Layout). 2 ≤ l.erased) (sym (layout_unchanged c.make_room.new.self _ (r.same (not_for_room _ is)))) (h.two two))
 
 pub returns-clause-leaves : goal.returns-clause-leaves
 returns-clause-leaves g c =

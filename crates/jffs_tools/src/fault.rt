@@ -35,21 +35,31 @@ pub enum ToolFault {
     /// A request to a core that was unmounted.
     #[error("the core is closed")]
     Closed,
+    /// There is no such file.
+    #[error("there is no file {0}")]
+    Missing(Quote),
     /// A file that can't be read.
-    #[error("the file can't be read")]
-    File,
-    /// An image that isn't as long as its sectors together.
-    #[error("the image has another length than its sectors")]
-    Length,
+    #[error("the file {0} can't be read")]
+    File(Quote),
+    /// An image of fewer bytes than its sectors have together.
+    #[error("the image has {found} bytes, and its sectors have {wanted} together")]
+    Short { found: u64, wanted: u64 },
+    /// An image of more bytes than its sectors have together, which are so many.
+    #[error("the image is longer than its sectors, which have {0} bytes together")]
+    Long(u64),
     /// The digest of flash that is larger than any volume, whose bytes aren't kept.
     #[error("the flash is larger than any volume")]
     Large,
     /// A call has fewer words than two.
-    #[error("SECTORS and SECTOR_SIZE are wanted, two numbers")]
+    #[error("SECTORS and SECTOR_SIZE are wanted, two numbers; the image comes on standard input")]
     Few,
     /// A word of a call isn't a number.
-    #[error("SECTORS and SECTOR_SIZE are wanted, two numbers, got {0}")]
+    #[error("SECTORS and SECTOR_SIZE are wanted, two numbers, got {0}; the image comes on \
+    standard input")]
     Word(Quote),
+    /// A call has a word after its two numbers.
+    #[error("unexpected word {0}: the image comes on standard input")]
+    Extra(Quote),
     /// Standard input can't be read.
     #[error("standard input can't be read")]
     Read,
@@ -77,9 +87,13 @@ impl ToolFault {
         ToolFault::of_stream(error, ToolFault::Read)
     }
 
-    /// What an error of a file ends a tool with.
-    pub(crate) fn of_file(error: io::Error) -> ToolFault {
-        ToolFault::of_stream(error, ToolFault::File)
+    /// What an error of the file of this name ends a tool with.
+    pub(crate) fn of_file(file: &str, error: io::Error) -> ToolFault {
+        let file = Quote::of(file);
+        match error.kind() {
+            ErrorKind::NotFound => ToolFault::Missing(file),
+            _ => ToolFault::of_stream(error, ToolFault::File(file)),
+        }
     }
 
     /// Memory where allocation failed, which is no fault of the stream, and else the stream's own

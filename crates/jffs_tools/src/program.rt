@@ -7,26 +7,36 @@ use crate::operation::Operation;
 use crate::reading::{read_image, read_line};
 use crate::replay::{Replay, image_of};
 use crate::texts::answered_text;
+use jffs_flash::is_geometry;
 use jffs_text::{Mistake, Quote, Usage, Words, line_text};
 use std::alloc::Global;
+use std::fs;
 use std::io::{BufRead, BufReader, Read, Write};
 use std::rt::Files;
-use std::{fs, io};
 
 const IMAGE: Usage = Usage {
     program: "jffs_image",
     help: "jffs_image SECTORS SECTOR_SIZE < IMAGE
 
-Shows what is on the image of a volume, which it reads from standard input: whether it is clean,
-the numbers that come next, the sectors that hold the log, its records and the tree.
+Shows what is on the image of a volume, which it reads from standard input. A volume has 6 to 64
+sectors of 1024, 2048, 4096, 8192 or 16384 bytes.
+
+  mounted clean|unclean      whether it was unmounted, and nothing was programmed after that
+  next VERSION INODE         the numbers that come next, or none
+  sectors N N ..             the sectors that hold the log, the oldest first
+  record SECTOR POSITION LENGTH VERSION live|dead
+                             each record of the log: where it stands, its bytes, its node's version
+  d PATH, f PATH SIZE HEX    the tree: directories, and files with their bytes
+  refused WHY                in place of all these: no volume is there
 
   jffs_image 6 1024 < notes.image
 
-Status: 0, 3 where no volume is there (`refused WHY`), 2 after a wrong call, 1 after a fault.
+Status: 0; 3 where no volume is there; 2 after a wrong call, or where the image has another length;
+1 after a fault of memory or a stream. docs/TOOLS.md has more.
 ",
     option: None,
     options: "--help and --version",
-    most: 2,
+    most: 3,
 };
 
 const REPLAY: Usage = Usage {
@@ -36,10 +46,16 @@ const REPLAY: Usage = Usage {
 Drives a core operation by operation, and writes one line for each:
   flash S Z | image FILE S Z | fuse CALLS Writes|All Nothing|Half | mount
   request WRITER SEQ COMMAND | clean_oldest | erase_dead | image
+COMMAND is one of a script, or another that only a request has:
+  mkdir PATH | create PATH | write PATH OFFSET HEX | fill PATH OFFSET COUNT HH
+  truncate PATH SIZE | rename PATH PATH | remove PATH
+  copy SOURCE PARENT NAME OFFSET HEX | unmount
+A volume has 6 to 64 sectors S of 1024, 2048, 4096, 8192 or 16384 bytes Z.
 
   printf '%s\\n' 'flash 6 1024' mount 'request 1 1 create /f' | jffs_replay
 
-Status: 0, 2 after a wrong call or a line that is no operation, 1 after a fault.
+Status: 0; 2 after a wrong call, or a line that is no operation or can't be done; 1 after a fault of
+memory or a stream. docs/SCRIPT.md has more.
 ",
     option: None,
     options: "--help and --version",
@@ -61,7 +77,7 @@ pub fn run_image<R: Read, W: Write, E: Write>(
     errors: &mut E,
 ) -> u8 {
     match IMAGE.work(alloc, words, out, errors) {
-        Ok(work) => match show_image(alloc, &work.words, input, out) {
+        Ok(work) => match show_image(alloc, &work.words, input, out, errors) {
             Ok(status) => status,
             Err(fault) => {
                 let _ = writeln!(errors, "jffs_image: {fault}");
@@ -72,26 +88,34 @@ pub fn run_image<R: Read, W: Write, E: Write>(
     }
 }
 
-fn show_image<R: Read, W: Write>(
+fn show_image<R: Read, W: Write, E: Write>(
     alloc: Global,
     words: &[&str],
     input: &mut R,
     out: &mut W,
+    errors: &mut E,
 ) -> Result<u8, ToolFault> {
     let (sectors, sector_size) = image_sizes(words)?;
     let bytes = read_image(alloc, sectors, sector_size, input).map_err(ToolFault::of_input)?;
     let seen = show(alloc, image_of(sectors, sector_size, bytes)?, out)?;
     out.flush()?;
+    if is_geometry(sector_size, sectors) {
+        let _ = errors.write_all(TURNED.as_bytes());
+    }
     Ok(match seen {
         Seen::Mounted => DONE,
         Seen::Refused => REFUSED,
     })
 }
 
-/// The two numbers that a call has.
+/// What people are told where the two numbers would be those of a volume the other way round.
+const TURNED: &str = "jffs_image: SECTORS comes first, and SECTOR_SIZE after it\n";
+
+/// The two numbers that a call has. `Few`, `Extra` or `Word` where it has none such.
 fn image_sizes(words: &[&str]) -> Result<(u32, u32), ToolFault> {
     match words {
         [sectors, size] => Ok((number_of(*sectors)?, number_of(*size)?)),
+        [_, _, extra, ..] => Err(ToolFault::Extra(Quote::of(*extra))),
         _ => Err(ToolFault::Few),
     }
 }
@@ -245,7 +269,7 @@ fn run_operation<Rt: Files + AllocGlobal, W: Write>(
             sectors,
             sector_size,
         } => {
-            let bytes = read_file(rt, file, sectors, sector_size).map_err(ToolFault::of_file)?;
+            let bytes = read_file(rt, file, sectors, sector_size)?;
             replay.begin(sectors, sector_size, bytes)?;
             out.write_all(b"ready")?;
         }
@@ -262,15 +286,22 @@ fn run_operation<Rt: Files + AllocGlobal, W: Write>(
     Ok(())
 }
 
-/// The image that stands in a file, for a device of these sizes.
+/// The image that stands in a file, for a device of these sizes. `Missing` or `File` with the name
+/// of a file that isn't there or can't be read, `Memory`.
 fn read_file<Rt: Files + AllocGlobal>(
     rt: &Rt,
     file: &str,
     sectors: u32,
     sector_size: u32,
-) -> io::Result<Vec<u8>> {
-    let mut opened = fs::open(rt, file)?;
-    read_image(rt.alloc(), sectors, sector_size, &mut opened)
+) -> Result<Vec<u8>, ToolFault> {
+    let mut opened = match fs::open(rt, file) {
+        Ok(opened) => opened,
+        Err(error) => return Err(ToolFault::of_file(file, error)),
+    };
+    match read_image(rt.alloc(), sectors, sector_size, &mut opened) {
+        Ok(bytes) => Ok(bytes),
+        Err(error) => Err(ToolFault::of_file(file, error)),
+    }
 }
 
 fn write_answered<Rt: AllocGlobal, W: Write>(

@@ -1,6 +1,6 @@
 //! A core that is driven operation by operation.
 
-ghost use Rattle.std.specs.Prelude.{◌≡◌, ◌≢◌, ◌*◌, ◌↔◌, vec_len, IfOk, IsErrOf};
+ghost use Rattle.std.specs.Prelude.{◌≡◌, ◌*◌, vec_len};
 ghost use Rattle.jffs_flash.specs.Device.{device_of};
 
 use crate::did::{Answered, Did};
@@ -67,7 +67,7 @@ impl Replay {
     /// and the flash are larger than any volume they aren't kept, and a mount refuses the flash as
     /// Geometry.
     ///
-    /// `Length` if they aren't as many as the sectors have together: nothing is changed.
+    /// `Short` or `Long` if they aren't as many as the sectors have together: nothing is changed.
     pub fn begin(
         &mut self,
         sectors: u32,
@@ -208,25 +208,28 @@ pub(crate) enum Image {
     Flash(MemoryFlash),
 }
 
-/// What `read_image` read for a device of these sizes. `Length` where it isn't as long as the
-/// sectors together; where both are larger than any volume they aren't compared.
+/// What `read_image` read for a device of these sizes. `Short` or `Long` where it isn't as long as
+/// the sectors together; where both are larger than any volume they aren't compared.
 pub(crate) fn image_of(sectors: u32, sector_size: u32, bytes: Vec<u8>) -> Result<Image, ToolFault> {
-    let length = device_length(sectors, sector_size);
-    if length > VOLUME_MAX && bytes.len() as u64 > VOLUME_MAX {
-        return Ok(Image::Large);
+    let wanted = device_length(sectors, sector_size);
+    let found = bytes.len() as u64;
+    if wanted > VOLUME_MAX && found > VOLUME_MAX {
+        Ok(Image::Large)
+    } else if found < wanted {
+        Err(ToolFault::Short { found, wanted })
+    } else if found > wanted {
+        Err(ToolFault::Long(wanted))
+    } else {
+        Ok(Image::Flash(flash_of(sectors, sector_size, bytes)))
     }
-    Ok(Image::Flash(flash_of(sectors, sector_size, bytes)?))
 }
 
-/// Flash that holds these bytes. `Length` where they aren't as many as the sectors have together.
-fn flash_of(sectors: u32, sector_size: u32, bytes: Vec<u8>) -> Result<MemoryFlash, ToolFault>
-    ensures flash { IfOk result (λ flash. flash ≡ device_of sectors sector_size bytes.items) }
-    ensures length { IsErrOf result ToolFault.Length ↔ (vec_len bytes ≢ sectors * sector_size) }
+/// Flash that holds these bytes, which are as many as the sectors have together.
+fn flash_of(sectors: u32, sector_size: u32, bytes: Vec<u8>) -> MemoryFlash
+    requires length { vec_len bytes ≡ sectors * sector_size }
+    ensures flash { result ≡ device_of sectors sector_size bytes.items }
 {
-    if bytes.len() as u64 != device_length(sectors, sector_size) {
-        return Err(ToolFault::Length);
-    }
-    Ok(MemoryFlash::from_bytes(sectors, sector_size, bytes))
+    MemoryFlash::from_bytes(sectors, sector_size, bytes)
 }
 
 /// The flash with its fuse; without one no call fails.

@@ -201,29 +201,42 @@ fn an_image_is_called_for_by_two_numbers(rt: HostRuntime) -> Result<(), Fail> {
         (
             ["jffs_image", "6", "1024"].as_slice(),
             2,
-            "jffs_image: the image has another length than its sectors\n",
+            "jffs_image: the image has 9 bytes, and its sectors have 6144 together\n",
+        ),
+        (
+            ["jffs_image", "0", "1024"].as_slice(),
+            2,
+            "jffs_image: the image is longer than its sectors, which have 0 bytes together\n",
         ),
         (
             ["jffs_image", "6", "1k"].as_slice(),
             2,
-            "jffs_image: SECTORS and SECTOR_SIZE are wanted, two numbers, got '1k'\n",
+            "jffs_image: SECTORS and SECTOR_SIZE are wanted, two numbers, got '1k'; the image \
+            comes on standard input\n",
         ),
         (
-            ["jffs_image", "6"].as_slice(),
+            ["jffs_image", "v.image"].as_slice(),
             2,
-            "jffs_image: SECTORS and SECTOR_SIZE are wanted, two numbers\n",
+            "jffs_image: SECTORS and SECTOR_SIZE are wanted, two numbers; the image comes on \
+            standard input\n",
         ),
         (
             ["jffs_image", "6", "1024", "v.image"].as_slice(),
             2,
-            "jffs_image: unexpected word 'v.image'; --help tells more\n",
+            "jffs_image: unexpected word 'v.image': the image comes on standard input\n",
         ),
         (
             ["jffs_image", "-6", "1024"].as_slice(),
             2,
             "jffs_image: unknown option '-6'; options are --help and --version\n",
         ),
+        (
+            ["jffs_image", "6", "--help"].as_slice(),
+            2,
+            "jffs_image: unexpected word '6' beside '--help', which stands alone\n",
+        ),
         (["jffs_image", "--help"].as_slice(), 0, ""),
+        (["jffs_image", "-h"].as_slice(), 0, ""),
         (["jffs_image", "--version"].as_slice(), 0, ""),
     ] {
         let called = called(alloc, words)?;
@@ -235,5 +248,22 @@ fn an_image_is_called_for_by_two_numbers(rt: HostRuntime) -> Result<(), Fail> {
         assert_eq!(rt; errors.as_slice(), wanted.as_bytes());
         assert_eq!(rt; out.is_empty(), status != 0);
     }
+    Ok(())
+}
+
+#[test]
+fn two_numbers_the_wrong_way_round_are_told_of(rt: HostRuntime) -> Result<(), Fail> {
+    let alloc = rt.alloc();
+    let words = called(alloc, &["jffs_image", "1024", "6"])?;
+    let image = image_of(alloc, &[], 6)?;
+    let mut out = Vec::new(alloc);
+    let mut errors = Vec::new(alloc);
+    let ended = run_image(alloc, &words, &mut image.as_slice(), &mut out, &mut errors);
+    assert_eq!(rt; ended, 3);
+    assert_eq!(rt; out.as_slice(), b"refused Geometry\n".as_slice());
+    assert_eq!(rt;
+        errors.as_slice(),
+        b"jffs_image: SECTORS comes first, and SECTOR_SIZE after it\n".as_slice()
+    );
     Ok(())
 }

@@ -209,7 +209,11 @@ fn what_is_no_operation_stops_a_replay(rt: HostRuntime) -> Result<(), Fail> {
                 "fuse 1 All Much",
                 "'Nothing' or 'Half' expected, got 'Much'",
             ),
-            ("image no_such_file 6 1024", "the file can't be read"),
+            (
+                "image no_such_file 6 1024",
+                "there is no file 'no_such_file'",
+            ),
+            ("image . 6 1024", "the file '.' can't be read"),
             (
                 "image f 6",
                 "a word is missing: image FILE S Z, or image alone",
@@ -261,5 +265,91 @@ fn a_closed_core_takes_no_request(rt: HostRuntime) -> Result<(), Fail> {
         2,
     )?;
     assert!(rt; out.as_str().ends_with("next 2 2\n"));
+    Ok(())
+}
+
+#[test]
+fn a_write_without_bytes_has_the_limit_of_a_file(rt: HostRuntime) -> Result<(), Fail> {
+    replays(
+        &rt,
+        "flash 6 1024\n\
+        mount\n\
+        request 1 1 create /f\n\
+        request 1 2 write /f 1048576 -\n\
+        request 1 3 write /f 1048577 -\n",
+        "ready\n\
+        mounted unclean next 1 2 | d /\n\
+        appended 2 1 at 0 ; erased 5 erases 0 weight 64 next 2 3\n\
+        appended 2 2 at 64 ; erased 5 erases 0 weight 64 next 3 3\n\
+        refused FileLong ; erased 5 erases 0 weight 64 next 3 3\n",
+    )
+}
+
+#[test]
+fn a_copy_of_a_directory_has_no_bytes_and_no_offset(rt: HostRuntime) -> Result<(), Fail> {
+    replays(
+        &rt,
+        "flash 6 1024\n\
+        mount\n\
+        clean_oldest\n\
+        request 1 1 mkdir /d\n\
+        request 9 1 copy 1 1 d 1 -\n\
+        request 9 2 copy 1 1 d 0 61\n\
+        request 9 3 copy 1 1 d 0 -\n",
+        "ready\n\
+        mounted unclean next 1 2 | d /\n\
+        one sector ; erased 6 erases 0 weight 0 next 1 2\n\
+        appended 2 1 at 0 ; erased 5 erases 0 weight 64 next 2 3\n\
+        refused Stale ; erased 5 erases 0 weight 64 next 2 3\n\
+        refused Stale ; erased 5 erases 0 weight 64 next 2 3\n\
+        copied 2 at 64 ; erased 5 erases 0 weight 64 next 3 3\n",
+    )
+}
+
+#[test]
+fn a_fuse_waits_for_the_next_mount(rt: HostRuntime) -> Result<(), Fail> {
+    replays(
+        &rt,
+        "fuse 7 All Half\n\
+        fuse 0 Writes Nothing\n\
+        flash 6 1024\n\
+        mount\n\
+        request 1 1 mkdir /d\n\
+        fuse 0 Writes Nothing\n\
+        flash 5 1024\n\
+        mount\n\
+        flash 6 1024\n\
+        mount\n\
+        request 1 1 mkdir /d\n",
+        "ready\n\
+        ready\n\
+        ready\n\
+        mounted unclean next 1 2 | d /\n\
+        refused Device\n\
+        ready\n\
+        ready\n\
+        refused Geometry\n\
+        ready\n\
+        mounted unclean next 1 2 | d /\n\
+        appended 2 1 at 0 ; erased 5 erases 0 weight 64 next 2 3\n",
+    )
+}
+
+#[test]
+fn a_closed_core_is_still_cleaned(rt: HostRuntime) -> Result<(), Fail> {
+    let mut script = String::from_str(
+        rt.alloc(),
+        "flash 6 1024\nmount\nrequest 1 1 mkdir /d\nrequest 1 2 create /f\n",
+    )?;
+    for seq in 3..17 {
+        script.push_str(format!(in rt.alloc(); "request 1 {seq} truncate /f 0\n")?.as_str())?;
+    }
+    script.push_str("request 10 1 unmount\nclean_oldest\nerase_dead\nmount\n")?;
+    let out = replayed(&rt, script.as_str(), 0)?;
+    let wanted = "closed at 1088 ; erased 4 erases 0 weight 128 next 18 4\n\
+        erased sector 0 copies 1 ; erased 5 erases 1 weight 128 next 19 4\n\
+        erased 0 ; erased 5 erases 1 weight 128 next 19 4\n\
+        mounted unclean next 19 4 | d / | d /d | f /f 0 -\n";
+    assert!(rt; out.as_str().ends_with(wanted), "got {out}");
     Ok(())
 }

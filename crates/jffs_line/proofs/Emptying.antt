@@ -1,5 +1,6 @@
 -- Rings are emptied from the last one on.
-use Rattle.std.proofs.Common.{◌≡◌, ◌≢◌, ℕ, suc, Bool, cond, eqb, List, [], ◌∷◌, ◌++◌, map, get_or, sym, refl, ap, ap₂, ◌∙◌, subst, append_assoc, append-nil, arith}
+use Rattle.std.proofs.Common.{◌≡◌, ◌≢◌, ℕ, suc, Bool, true, true≢false, Result, Ok, Err, cond, eqb, List, [], ◌∷◌, ◌++◌, map, get_or, sym, refl, ap, ap₂, ◌∙◌, subst, subst₂, append_assoc, append-nil, arith}
+use Rattle.std.specs.Prelude.{slice_index_or, is_ok, OnOk}
 use Rattle.std.specs.List.{All, Contains}
 use Rattle.std.proofs.lemmas.Bool.{eq-eqb, ne_eqb, cond-true, cond-false, cond_both}
 use Rattle.std.proofs.lemmas.List.{map-append}
@@ -9,11 +10,12 @@ use Rattle.jffs_line.specs.declared.request.Request.{Request}
 use Rattle.jffs_line.specs.declared.rings.Note.{Note}
 use Rattle.jffs_line.specs.declared.rings.Ring.{Ring}
 use Rattle.jffs_line.specs.declared.rings.RingHand.{RingHand}
-use Rattle.rtrb.specs.Ring.{sent}
+use Rattle.rtrb.specs.Ring.{sent, received}
 use Rattle.jffs_line.specs.Line.{End}
 use Rattle.jffs_line.specs.Requests.{of}
 use Rattle.jffs_line.specs.Rings.{as_request, ring_end, ring_hand_end, ring_taken, ring_accepted, taken_in, Apart}
-use Rattle.jffs_line.specs.Settling.{all_hands}
+use Rattle.jffs_line.specs.Numbered.{ring_numbered}
+use Rattle.jffs_line.specs.Settling.{IsSettled}
 use Rattle.jffs_line.proofs.Lists.{All-right, All-mapped}
 use Rattle.jffs_line.proofs.Ringing.{numbers}
 
@@ -67,6 +69,25 @@ last_ends (q ∷ rs) r (g ∷ hs) h e =
     let rest : map ring_end (rs ++ r ∷ []) ≡ map ring_hand_end (hs ++ h ∷ []) = cc in
     let more = last_ends rs r hs h rest in
     (ap₂ (λ (x : End) (l : List End). x ∷ l) first more.0, more.1)
+
+-- what is so of an Ok
+pub on_ok : {T E : Type 0} (r : Result T E) (P : Type 0) → is_ok r ≡ true → OnOk r P → P
+on_ok (Ok x) P ok p = p
+on_ok (Err e) P ok p = absurd (true≢false (sym ok))
+
+-- two rings are taken from the end
+pub rings_two : (all_rings one two : List Ring) (of_control of_cleaner : Ring) (ends : List End) → all_rings ≡ one ++ of_control ∷ [] → one ≡ two ++ of_cleaner ∷ []
+    → map ring_end all_rings ≡ ends → map ring_end ((two ++ of_cleaner ∷ []) ++ of_control ∷ []) ≡ ends
+rings_two all_rings one two of_control of_cleaner ends first second is =
+    ap (map ring_end) (ap (λ (l : List Ring). l ++ of_control ∷ []) (sym second) ∙ sym first) ∙ is
+
+-- the ends of the control's ring and of the cleaner's
+pub ends_two : (rs : List Ring) (of_cleaner of_control : Ring) (hs : List RingHand) (cleaner control : RingHand)
+    → map ring_end ((rs ++ of_cleaner ∷ []) ++ of_control ∷ []) ≡ map ring_hand_end (hs ++ cleaner ∷ control ∷ [])
+    → (ring_end of_control ≡ ring_hand_end control) × (ring_end of_cleaner ≡ ring_hand_end cleaner)
+ends_two rs of_cleaner of_control hs cleaner control e =
+    let both = last_ends (rs ++ of_cleaner ∷ []) of_control (hs ++ cleaner ∷ []) control (e ∙ ap (map ring_hand_end) (sym (append_assoc hs (cleaner ∷ []) (control ∷ [])))) in
+    (both.1, (last_ends rs of_cleaner hs cleaner both.0).1)
 
 taken_there : (rs : List Ring) (r : Ring) (gone : List Ring) (hs : List RingHand) → map ring_end rs ≡ map ring_hand_end hs → All (λ (h : RingHand). h.number ≢ r.number) hs
     → taken_in r.number (rs ++ r ∷ gone) ≡ ring_taken r
@@ -133,6 +154,17 @@ module _ (all_rings : List Ring) (all_hands : List RingHand) (apart : Apart (han
         others = λ w none. kept w (All-head (IsNot w) h old.done none) ∙ old.others w (All-tail (IsNot w) h old.done none);
       }
 
+  -- the control's ring is emptied first, and then the cleaner's
+  pub emptied_two : (rs : List Ring) (of_cleaner of_control : Ring) (hs : List RingHand) (cleaner control : RingHand) (first second : List Request)
+      → all_rings ≡ (rs ++ of_cleaner ∷ []) ++ of_control ∷ [] → all_hands ≡ hs ++ cleaner ∷ control ∷ [] → map ring_end all_rings ≡ map ring_hand_end all_hands
+      → ring_taken of_control ++ first ≡ ring_accepted control → ring_taken of_cleaner ++ second ≡ ring_accepted cleaner
+      → AreEmptied all_rings all_hands rs hs (first ++ second)
+  emptied_two rs of_cleaner of_control hs cleaner control first second rings_are hands_are ends of_first of_second =
+      let before : AreEmptied all_rings all_hands ((rs ++ of_cleaner ∷ []) ++ of_control ∷ []) ((hs ++ cleaner ∷ []) ++ control ∷ []) [] =
+      subst₂ (λ (a : List Ring) (b : List RingHand). AreEmptied all_rings all_hands a b []) rings_are
+      (hands_are ∙ sym (append_assoc hs (cleaner ∷ []) (control ∷ []))) (emptied_none all_rings all_hands ends) in
+      emptied_more rs of_cleaner hs cleaner first second (emptied_more (rs ++ of_cleaner ∷ []) of_control (hs ++ cleaner ∷ []) control [] first before of_first) of_second
+
 pub not_there : (hs : List RingHand) (w : ℕ) → ¬ (Contains (hand_numbers hs) w) → All (IsNot w) hs
 not_there [] w none = All-nil (IsNot w)
 not_there (h ∷ hs) w none =
@@ -146,6 +178,24 @@ none_taken (r ∷ rs) (h ∷ hs) w e none =
     let rest : map ring_end rs ≡ map ring_hand_end hs = cc in
     let other : r.number ≢ w = λ same. All-head (IsNot w) h hs none (sym (ap (λ (x : End). x.0) first) ∙ same) in
     cond-false _ _ _ (ne_eqb r.number w other) ∙ none_taken rs hs w rest (All-tail (IsNot w) h hs none)
+
+-- where all rings are empty, all is settled
+pub all_emptied : (all_rings rs : List Ring) (all_hands : List RingHand) (waiting : List Request) → map ring_end all_rings ≡ map ring_hand_end all_hands
+    → AreEmptied all_rings all_hands rs [] waiting → IsSettled (λ (h : RingHand). h.number) ring_accepted all_hands (λ w. taken_in w all_rings) waiting
+all_emptied all_rings rs all_hands waiting ends emptied = record {
+  each = subst (All (λ (h : RingHand). taken_in h.number all_rings ++ of h.number waiting ≡ ring_accepted h)) (sym emptied.hands_are) emptied.settled;
+  numbered = λ k d below. ring_numbered (slice_index_or all_hands k d);
+  others = λ w none.
+      let far = not_there all_hands w none in
+      ap₂ (λ (a b : List Request). a ++ b) (none_taken all_rings all_hands w ends far) (emptied.others w (subst (All (IsNot w)) emptied.hands_are far));
+}
+
+-- a ring's two ends: what waits there is what was handed in beyond what was taken
+pub left_in : (r : Ring) (h : RingHand) (notes : List Note) → r.number ≡ h.number → received r.consumer ++ notes ≡ sent h.producer
+    → ring_taken r ++ map (as_request r.number) notes ≡ ring_accepted h
+left_in r h notes number whole =
+    sym (map-append (as_request r.number) (received r.consumer) notes)
+    ∙ (ap (map (as_request r.number)) whole ∙ ap (λ (w : ℕ). map (as_request w) (sent h.producer)) number)
 
 pub numbers_are : (rs : List Ring) (hs : List RingHand) → map ring_end rs ≡ map ring_hand_end hs → numbers rs ≡ hand_numbers hs
 numbers_are rs hs e = sym (map-map (λ (x : End). x.0) ring_end rs) ∙ ap (map (λ (x : End). x.0)) e ∙ map-map (λ (x : End). x.0) ring_hand_end hs

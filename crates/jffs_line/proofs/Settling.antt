@@ -1,6 +1,7 @@
 -- The end of a shared line.
 use Rattle.std.proofs.Common.{◌≡◌, ℕ, zero, suc, ◌+◌, ◌-◌, ◌<◌, ◌≤◌, ◌⊎◌, Bool, true, List, [], ◌∷◌, ◌++◌, map, eqb, sym, refl, ap, ap₂, ◌∙◌, subst, inl, inr, ⊎_elim, append_assoc, append-nil, eq-or-lt_of_le, lt_of_not-le, lit<, arith}
 use native.Mathlib.Decide.{dec_le}
+use Rattle.std.specs.Prelude.{slice_index_or}
 use Rattle.std.specs.List.{All, Contains, range_with_len}
 use Rattle.std.proofs.lemmas.List.{map-append}
 use Rattle.std.proofs.lemmas.List.Elements.{All-nil, All-cons, All-head, All-tail, All-weaker, filter-append, Contains-append_left, Contains-append_right}
@@ -20,8 +21,9 @@ use Rattle.jffs_line.specs.InOrder.{knows, sent_by, silent, joined, Told, Learne
 use Rattle.jffs_line.specs.Line.{Line, End, senders}
 use Rattle.jffs_line.specs.declared.hand.Hands.{Hands}
 use Rattle.jffs_line.specs.declared.shared.SharedTaker.{SharedTaker}
-use Rattle.jffs_line.specs.Shared.{channel_line, shared_line, shared_end, shared_ends, shared_accepted, hand_sent}
-use Rattle.jffs_line.specs.Settling.{all_hands}
+use Rattle.jffs_line.specs.Shared.{channel_line, shared_line, shared_end, shared_ends, shared_accepted, shared_taken, hand_sent}
+use Rattle.jffs_line.specs.Numbered.{shared_numbered}
+use Rattle.jffs_line.specs.Settling.{all_hands, WasSettled}
 use Rattle.jffs_line.proofs.Lists.{All-left, All-right, All-mapped}
 use Rattle.jffs_line.proofs.Making.{numbers_all}
 
@@ -102,6 +104,18 @@ from_zero n w (no none) = let less : w < 1 = lt_of_not-le none in inl (inl (omeg
 
 range_of : (n w : ℕ) → IsStranger w ⊎ (Contains (senders n) w ⊎ ((n + 1 ≤ w) × (w < 9)))
 range_of n w = from_zero n w (dec_le 1 w)
+
+-- what a pass learns before it takes what waits, it would have learned after that
+pub learned_before : (v : Knows) (waiting : List Request) → v.takes ≡ true → Learned v waiting → Learned (knows true (v.taken ++ waiting) v.sent) []
+learned_before v waiting takes before =
+    let all : List Request = before.taken ++ waiting in
+    let same : all ++ [] ≡ all = append-nil all in
+    record {
+      taken = all;
+      told = subst (λ (l : List Request). Told l v.sent) (sym same) before.told;
+      strangers = λ w far. ap (of w) same ∙ before.strangers w far;
+      same = λ _. ap (λ (l : List Request). l ++ waiting) (before.same takes);
+    }
 
 module _ (taken waiting : List Request) (spare : List Sent) (hs : List SharedHand) (last : Learned (knows true (taken ++ waiting) (spare ++ map hand_sent hs)) []) where
   all_is : last.taken ++ [] ≡ taken ++ waiting
@@ -193,3 +207,20 @@ module _ (hands : Hands SharedHand) (taker : SharedTaker) (r : SharedHand) (is :
     others_settled w none =
         let numbers = numbers_all (channel_line (receives_on taker.receives)) (all_hands hands) taker.writers (sym ends) in
         others taken waiting spare (writers ++ hands.cleaner ∷ r ∷ []) learned taker.writers taker.few refl w (subst (λ (l : List ℕ). ¬ (Contains l w)) numbers none)
+
+  -- what was taken of each hand, and what the passes that came together learn to wait
+  pub was_settled :
+      (waiting : List Request) (a b e : Knows) → a ≡ knows (view taker.pass).takes (view taker.pass).taken ((view taker.pass).sent ++ map hand_sent writers)
+      → b ≡ joined a (view hands.cleaner.pass) → e ≡ joined b (view r.pass) → Learned e waiting
+      → WasSettled (λ (h : SharedHand). h.number) shared_accepted (all_hands hands) (shared_taken taker)
+  was_settled waiting a b e all_in cleaner_in control_in before =
+      let takes : Knows → Bool = λ v. v.takes in
+      let may : e.takes ≡ true = ap takes control_in ∙ (ap takes cleaner_in ∙ (ap takes all_in ∙ ap takes taker.known)) in
+      let last = learned_before e waiting may before in (
+        waiting,
+        record {
+          each = all_settled waiting a b e all_in cleaner_in control_in last;
+          numbered = λ k d below. shared_numbered (slice_index_or (all_hands hands) k d);
+          others = others_settled waiting a b e all_in cleaner_in control_in last;
+        },
+      )

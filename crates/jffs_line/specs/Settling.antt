@@ -17,3 +17,8 @@ module _ {H : Type 0} (sender : H → ℕ) (accepted : H → List Request) where
     pub each : All (λ hand. taken (sender hand) ++ of (sender hand) waiting ≡ accepted hand) hands
     pub numbered : All (λ hand. IsNumbered (accepted hand)) hands
     pub others : (w : ℕ) → (Contains (map sender hands) w → ⊥) → taken w ++ of w waiting ≡ []
+
+  -- So it was with some requests that are gone now: what was taken of each hand is a beginning of
+  -- what it accepted.
+  abbrev pub WasSettled : List H → (ℕ → List Request) → Type 0
+  WasSettled hands taken = (waiting : List Request) × IsSettled hands taken waiting

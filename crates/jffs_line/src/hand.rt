@@ -3,7 +3,7 @@ ghost use Rattle.std.specs.Prelude.{◌≡◌, ℕ, ◌+◌, ◌↔◌, List, []
 ghost use Rattle.std.specs.Prelude.{Contains, IfOk, IfErr, IsErr, IsErrAnd, IfSome, IfNone};
 ghost use Rattle.jffs_line.specs.Line.{Line, End};
 ghost use Rattle.jffs_line.specs.Requests.{of, request, IsNumbered};
-ghost use Rattle.jffs_line.specs.Settling.{all_hands, IsSettled};
+ghost use Rattle.jffs_line.specs.Settling.{all_hands, IsSettled, WasSettled};
 ghost use Rattle.jffs_line.specs.declared.request.Request.{Request};
 ghost use Rattle.jffs_line.specs.declared.request.Why.TheVariants.{Spent};
 
@@ -183,7 +183,8 @@ pub trait Settle: Taker {
     /// here after that. Precondition: `hands` and the taker belong to one line, and no end of it is
     /// missing.
     ///
-    /// `Memory` alone, if allocation failed: the ends are then gone, with what waited.
+    /// `Memory` alone, if allocation failed: the ends are then gone, with what waited. Then too
+    /// what was taken of each hand is a beginning of what it accepted.
     fn settle<R: Wait>(
         self,
         rt: &R,
@@ -192,6 +193,8 @@ pub trait Settle: Taker {
     ) -> Result<Settled, SettleFault>
         requires { Self.ends self
             ≡ map (λ h. (Self.Of.sender h, Self.Of.line h)) (all_hands hands) }
-        ensures { IfOk result (λ s. IsSettled Self.Of.sender Self.Of.accepted (all_hands hands)
-            (Self.taken self) s.waiting.items) };
+        ensures settled { IfOk result (λ s. IsSettled Self.Of.sender Self.Of.accepted
+            (all_hands hands) (Self.taken self) s.waiting.items) }
+        ensures taken { WasSettled Self.Of.sender Self.Of.accepted (all_hands hands)
+            (Self.taken self) };
 }

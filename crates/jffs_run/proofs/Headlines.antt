@@ -58,7 +58,7 @@ same_numbers sender (reply ∷ replies) all =
     ]
 
 -- the first of numbers that are counted are counted
-counted_first : (n count : ℕ) (xs ys : List ℕ) → xs ++ ys ≡ range_with_len n count → xs ≡ range_with_len n (length xs)
+pub counted_first : (n count : ℕ) (xs ys : List ℕ) → xs ++ ys ≡ range_with_len n count → xs ≡ range_with_len n (length xs)
 counted_first n count [] ys is = refl
 counted_first n zero (x ∷ xs) ys is = absurd cc
 counted_first n (suc count) (x ∷ xs) ys is =
@@ -67,7 +67,7 @@ counted_first n (suc count) (x ∷ xs) ys is =
     ap (λ (k : ℕ). k ∷ xs) first ∙ ap (λ (tail : List ℕ). n ∷ tail) (counted_first (n + 1) count xs ys rest)
 
 -- the numbers of a writers' hands and those after them
-split_senders : {H : Type 0} (sender : H → ℕ) (a n : ℕ) (hands tail : List H) (others : List ℕ)
+pub split_senders : {H : Type 0} (sender : H → ℕ) (a n : ℕ) (hands tail : List H) (others : List ℕ)
     → length hands ≡ n → map sender (hands ++ tail) ≡ range_with_len a n ++ others
     → EachFrom (λ slot hand. sender hand ≡ slot + a) 0 hands × (map sender tail ≡ others)
 split_senders {H} sender a n hands tail others count is = by 0 a n hands (omega arith) count is

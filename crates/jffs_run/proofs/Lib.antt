@@ -1,10 +1,11 @@
 pub mod Slots
 pub mod Numbers
-pub mod Writers
 pub mod Headlines
 pub mod Seeing
 pub mod Crews
 pub mod Runs
+pub mod Asked
+pub mod Unstarted
 pub mod Faults
 pub mod Scanning
 pub mod Unmounting

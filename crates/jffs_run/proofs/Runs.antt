@@ -33,7 +33,7 @@ use Rattle.jffs_text.specs.declared.script.ReaderStatement.{ReaderStatement}
 use Rattle.jffs_run.specs.declared.reader.ReaderEnd.{ReaderEnd}
 use Rattle.jffs_run.specs.declared.crew.Crew.{Crew}
 use Rattle.jffs_run.specs.Ends.{end_of}
-use Rattle.jffs_run.specs.Crew.{HasHandedIn, crew_hands}
+use Rattle.jffs_run.specs.Crew.{HasHandedIn, UnmountsLast, crew_hands}
 use Rattle.jffs_run.specs.Looking.{HaveSeen, IsWhole}
 use Rattle.jffs_flash.specs.Device.{Device}
 use Rattle.jffs_core.specs.Past.{IsLeftBy}
@@ -42,7 +42,7 @@ use Rattle.jffs_run.proofs.Headlines.{account_with, is_run}
 
 module _ {H : Type 0} (g : Hand.Ghosts H) where
   -- hands with the same ends have the same senders
-  same_senders : (hands before : List H) → map (end_of g) hands ≡ map (end_of g) before → map g.sender hands ≡ map g.sender before
+  pub same_senders : (hands before : List H) → map (end_of g) hands ≡ map (end_of g) before → map g.sender hands ≡ map g.sender before
   same_senders hands before same =
       sym (map-map (λ (e : End). e.0) (end_of g) hands) ∙ (ap (map (λ (e : End). e.0)) same ∙ map-map (λ (e : End). e.0) (end_of g) before)
 
@@ -72,7 +72,7 @@ module _ {H : Type 0} (g : Hand.Ghosts H) where
       (core : CoreState) (unsent : Option PendingStep) (published : History) (pending : List Step)
       (start : Start) (taken : ℕ → List Request) (replies : List Reply) (waiting : List Request) (ends : List ReaderEnd) (served : Served) (device : Device)
       → length script ≤ 8 → map g.sender (crew_hands g crew) ≡ senders (length script)
-      → HasHandedIn g script rounds crew hands
+      → HasHandedIn g script rounds crew hands → UnmountsLast g script hands
       → ((w : ℕ) → start.taken w ≡ []) → start.core.answers ≡ [] → start.put ≡ [] → published.opening ≡ start.core.tree
       → HasReplied start core unsent (published.steps ++ pending) taken replies
       → All (λ hand. taken (g.sender hand) ++ of (g.sender hand) waiting ≡ g.accepted hand) (all_hands hands)
@@ -82,7 +82,7 @@ module _ {H : Type 0} (g : Hand.Ghosts H) where
       → IsLeftBy core device
       → StopsAt None replies (ending_in (Some served) core unsent)
       → IsRun start.core (account_with g script rounds statements hands core.answers waiting ends served device)
-  whole_run script rounds statements crew hands core unsent published pending start taken replies waiting ends served device eight numbers handed untaken unanswered unput_before opened_is has settled numbered others seen left stops =
+  whole_run script rounds statements crew hands core unsent published pending start taken replies waiting ends served device eight numbers handed whole_handed untaken unanswered unput_before opened_is has settled numbered others seen left stops =
       let answers_are : core.answers ≡ map answer_in replies = has.answered ∙ ap (λ (l : List Answer). l ++ map answer_in replies) unanswered in
       let taken_is : (w : ℕ) → taken w ≡ of w (requests_in replies) = λ w. has.all_taken w ∙ ap (λ (l : List Request). l ++ of w (requests_in replies)) (untaken w) in
       let now = same_senders (all_hands hands) (crew_hands g crew) handed.ends ∙ numbers in
@@ -99,7 +99,7 @@ module _ {H : Type 0} (g : Hand.Ghosts H) where
       subst (λ (answers : List Answer). IsRun start.core (account_with g script rounds statements hands answers waiting ends served device)) (sym answers_are)
       (is_run g start.core core script rounds statements hands replies waiting ends served device eight
       (count_writers hands.writers.items hands.cleaner hands.control.hand (length script) now) now
-      handed.first handed.whole handed.cleaner handed.control (stopped_in_order replies _ stops has.reply)
+      handed.first whole_handed handed.cleaner handed.control (stopped_in_order replies _ stops has.reply)
       (λ k d below. let w : ℕ = g.sender (get_or (all_hands hands) k d) in ap (λ (l : List Request). l ++ of w waiting) (sym (taken_is w)) ∙ settled k d below)
       numbered
       (λ w none. ap (λ (l : List Request). l ++ of w waiting) (sym (taken_is w)) ∙ others w none)

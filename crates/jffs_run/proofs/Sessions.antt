@@ -55,11 +55,11 @@ runs_are_sessions before start account fresh run = (
 )
 
 pub faults_end_sessions : FaultsEndSessions
-faults_end_sessions before why after given = ⊎_elim
+faults_end_sessions script before why after given = ⊎_elim
     (λ refused. let rest = refused.2.rest in inl (record {
       sectors_are = ap (λ (d : Device). d.sectors) rest;
       sizes_are = ap (λ (d : Device). d.sector_size) rest;
       images_are = ap (λ (d : Device). d.image) rest;
     }))
-    (λ had. inr (record { start = had.0; fresh = had.1; turns = had.2.1 }))
+    (λ had. inr (record { start = had.0; fresh = had.1; turns = had.2.turns }, had.2.asked))
     given

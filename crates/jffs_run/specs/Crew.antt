@@ -1,6 +1,6 @@
 -- What the threads of a run are given, and what comes back.
 use Rattle.std.specs.Prelude.{◌≡◌, ℕ, ◌≤◌, ◌⊎◌, List, [], ◌∷◌, ◌++◌, map, vec_len, vec_capacity}
-use Rattle.std.specs.Prelude.{Vec, length, Option}
+use Rattle.std.specs.Prelude.{Vec, length, Option, None, IfSome}
 use Rattle.std.specs.List.{All}
 use Rattle.jffs_tree.specs.declared.wish.Wish.TheVariants.{Unmount}
 use Rattle.jffs_line.specs.Line.{End, senders}
@@ -19,6 +19,7 @@ use Rattle.jffs_text.specs.declared.script.Writer.{Writer}
 use Rattle.jffs_run.specs.declared.crew.Crew.{Crew}
 use Rattle.jffs_run.specs.declared.crew.Finished.{Finished}
 use Rattle.jffs_run.specs.declared.promise.LogSide.{LogSide}
+use Rattle.jffs_run.specs.Why.{IsOfThreads}
 use Rattle.jffs_run.specs.Ends.{EachFrom, AskForCopies, end_of, HandedIn, HandedInAll}
 use Rattle.jffs_run.specs.Looking.{HaveSeen, IsWhole}
 use Rattle.jffs_text.specs.declared.script.TheConstants.{WRITERS_MAX}
@@ -43,29 +44,35 @@ module _ {H : Type 0} (g : Hand.Ghosts H) where
     pub readers : vec_len crew.readers ≡ vec_len script.readers
     pub looking : All (λ reader. index_of reader ≡ index) crew.readers.items
 
-  -- the hands are those of the crew. Each writer's handed in the first of its commands, and all of
-  -- them where the control asked for the Unmount; the cleaner's asked for copies alone, and for
-  -- nothing without rounds
+  -- the hands are those of the crew. Each writer's handed in the first of its commands; the
+  -- cleaner's asked for copies alone, and for nothing without rounds, and the control's for one
+  -- Unmount at most
   pub record HasHandedIn (script : List Writer) (rounds : Option ℕ) (crew : Crew H)
       (hands : Hands H) : Type 0 where
     pub ends : map (end_of g) (all_hands hands) ≡ map (end_of g) (crew_hands crew)
     pub first : EachFrom (HandedIn g script) 0 hands.writers.items
-    pub whole : (g.accepted hands.control.hand ≡ [])
-        ⊎ EachFrom (HandedInAll g script) 0 hands.writers.items
     pub cleaner : AskForCopies rounds (g.accepted hands.cleaner)
     pub control : (g.accepted hands.control.hand ≡ [])
         ⊎ (g.accepted hands.control.hand ≡ request (g.sender hands.control.hand) 1 Unmount ∷ [])
 
+  -- the control asked for nothing, or each writer's hand handed in all of its commands
+  abbrev pub UnmountsLast : List Writer → Hands H → Type 0
+  UnmountsLast script hands = (g.accepted hands.control.hand ≡ [])
+      ⊎ EachFrom (HandedInAll g script) 0 hands.writers.items
+
 module _ {H T : Type 0} (hand : Hand.Ghosts H) (taker : Taker.Ghosts T) where
-  -- all threads came back: the hands handed in what the script says, each reader saw a beginning of
-  -- the whole history, the taker has the ends that it had, and the log thread served
+  -- All threads came back: the hands handed in what the script says, the taker has the ends that it
+  -- had, and the log thread served. Where nothing went wrong with threads, the Unmount came last,
+  -- and each reader saw a beginning of the whole history.
   pub record HasFinished {F W : Type 0} (script : Script) (crew : Crew H) (side : LogSide F T W)
       (finished : Finished H F T W) : Type 0 where
     pub hands : HasHandedIn hand script.writers.items script.cleaner crew finished.hands
-    pub readers : (history : History)
+    pub whole : finished.fault ≡ None → UnmountsLast hand script.writers.items finished.hands
+    pub readers : finished.fault ≡ None → (history : History)
         → IsWhole (published finished.log.side.publisher)
         (length finished.log.side.session.core.answers) history
         → HaveSeen history script.readers.items finished.readers.items
+    pub named : IfSome finished.fault IsOfThreads
     pub ends : taker.ends finished.log.side.taker ≡ taker.ends side.taker
     pub served : HasServed side.session side.publisher (taker.taken side.taker)
         finished.log.side.session finished.log.side.publisher (taker.taken finished.log.side.taker)

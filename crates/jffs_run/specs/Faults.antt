@@ -1,25 +1,27 @@
--- What a run that was given up leaves of the device that it was given.
-use Rattle.std.specs.Prelude.{◌≡◌, ◌≢◌, ◌⊎◌, ℕ, List, length, Option, Some, None}
+-- What a run that was given up did, and what it leaves of the device that it was given.
+use Rattle.std.specs.Prelude.{◌≡◌, ◌≢◌, ◌⊎◌, ℕ, ◌+◌, ◌<◌, List, [], ◌∷◌, length, take, Some}
 use Rattle.jffs_flash.specs.Device.{Device}
-use Rattle.jffs_line.specs.declared.request.Request.{Request}
-use Rattle.jffs_line.specs.declared.hand.Taker as Taker
+use Rattle.jffs_tree.specs.declared.wish.Wish.TheVariants.{Unmount}
+use Rattle.jffs_line.specs.Requests.{of, request, IsNumbered}
+use Rattle.jffs_line.specs.declared.hand.TheConstants.{CLEANER, CONTROL}
 use Rattle.jffs_node.specs.declared.node.Node.{Node}
 use Rattle.jffs_log.specs.LogIndex.{HasSizes}
 use Rattle.jffs_log.specs.ScanFound.{IsRefused}
 use Rattle.jffs_log.specs.declared.scanning.ScanWhy.{ScanWhy}
 use Rattle.jffs_core.specs.CoreState.{CoreState}
 use Rattle.jffs_core.specs.Past.{Represents, IsFresh, IsLeftBy}
-use Rattle.jffs_index.specs.declared.step.Step.{Step}
-use Rattle.jffs_index.specs.Ends.{all_put}
-use Rattle.jffs_serve.specs.declared.session.Session.{Session}
-use Rattle.jffs_serve.specs.declared.session.Served.{Served}
 use Rattle.jffs_serve.specs.Replies.{Reply}
 use Rattle.jffs_serve.specs.Chain.{RunsTo}
-use Rattle.jffs_serve.specs.Answered.{ErasesSince, RepliesMore}
-use Rattle.jffs_run.specs.declared.promise.LogSide.{LogSide}
+use Rattle.jffs_serve.specs.Answered.{ErasesSince}
+use Rattle.jffs_serve.specs.Stopping.{StopsAtFirst}
+use Rattle.jffs_text.specs.declared.script.Writer.{Writer}
+use Rattle.jffs_text.specs.Wishes.{wishes_of}
+use Rattle.jffs_run.specs.Numbered.{numbered}
+use Rattle.jffs_run.specs.Ends.{commands_at, AreCopies}
+use Rattle.jffs_run.specs.Headline.{requests_in}
 use Rattle.jffs_run.specs.declared.fault.RunFault.{RunFault}
 use Rattle.jffs_run.specs.declared.fault.RunWhy.{RunWhy}
-use Rattle.jffs_run.specs.declared.fault.RunWhy.TheVariants.{Mount, Line, Spawn, Memory}
+use Rattle.jffs_run.specs.declared.fault.RunWhy.TheVariants.{Mount, Index}
 
 -- The device is as a core left it that was in this state at first: it answered these requests in a
 -- chain of turns, on a device of the same sizes, with so many erases at most.
@@ -32,42 +34,42 @@ pub record LeftByTurns (start : CoreState) (device : Device) : Type 0 where
   pub lawful : (mounted past : List Node) → Represents mounted past start
       → RunsTo start core mounted past replies
 
--- A run of a core that was in this state at first was given up, not for Mount.
-abbrev pub LeftByRun : CoreState → RunWhy → Device → Type 0
-LeftByRun start why device = (why ≢ Mount) × LeftByTurns start device
+-- Only what this script asks for was answered: of each writer the first of its commands, numbered
+-- 1, 2, 3, ..; of the cleaner copies alone, numbered so; of the control one Unmount at most, and of
+-- nobody else anything. The first answer to an Unmount is the last.
+pub record AskedBy (script : List Writer) (replies : List Reply) : Type 0 where
+  pub writers : (slot : ℕ) → slot < length script
+      → of (slot + 1) (requests_in replies)
+      ≡ numbered (slot + 1) 1
+      (take (length (of (slot + 1) (requests_in replies))) (wishes_of (commands_at script slot)))
+  pub cleaner : AreCopies (of CLEANER (requests_in replies))
+  pub counted : IsNumbered (of CLEANER (requests_in replies))
+  pub control : (of CONTROL (requests_in replies) ≡ [])
+      ⊎ (of CONTROL (requests_in replies) ≡ request CONTROL 1 Unmount ∷ [])
+  pub others : (sender : ℕ) → ((slot : ℕ) → slot < length script → sender ≢ slot + 1)
+      → sender ≢ CLEANER → sender ≢ CONTROL → of sender (requests_in replies) ≡ []
+  pub stops : StopsAtFirst replies
+
+-- A run of this script, of a core that was in this state at first, was given up, not for Mount: it
+-- answered only what the script asks for, and nothing where there was no index.
+pub record LeftByRun (script : List Writer) (start : CoreState) (why : RunWhy) (device : Device) :
+    Type 0 where
+  pub named : why ≢ Mount
+  pub turns : LeftByTurns start device
+  pub asked : AskedBy script turns.replies
+  pub unserved : why ≡ Index → turns.replies ≡ []
 
 -- A fault is named Mount where the device doesn't mount, and it is as scanning left it; it has
 -- another name where the device was mounted, and it is as the core that mounted it left it.
-abbrev pub IsGivenUp : Device → RunWhy → Device → Type 0
-IsGivenUp before why after = ((why ≡ Mount) × (reason : ScanWhy) × IsRefused before reason after)
-    ⊎ ((start : CoreState) × IsFresh before start × LeftByRun start why after)
-
--- What may go wrong with threads: one can't be started, a writer's last number is used, or
--- allocation failed.
-abbrev pub IsOfThreads : RunWhy → Type 0
-IsOfThreads why = (why ≡ Spawn) ⊎ ((why ≡ Line) ⊎ (why ≡ Memory))
+abbrev pub IsGivenUp : List Writer → Device → RunWhy → Device → Type 0
+IsGivenUp script before why after =
+    ((why ≡ Mount) × (reason : ScanWhy) × IsRefused before reason after)
+    ⊎ ((start : CoreState) × IsFresh before start × LeftByRun script start why after)
 
 module _ {F : Type 0} where
-  -- The fault hands back the device, which is so for its reason, unless a thread could not be
-  -- started.
+  -- The fault hands back the device, which is so for its reason.
   pub record GivesBack (device : F → Device) (IsSo : RunWhy → Device → Type 0)
       (fault : RunFault F) : Type 0 where
-    pub lost : fault.flash ≡ None → fault.why ≡ Spawn
-    pub so : (flash : F) → fault.flash ≡ Some flash → IsSo fault.why (device flash)
-
-  -- The device is as a session left it, which from this one on answered more requests.
-  pub record LeftByServing (old : Session F) (put : List Step) (taken : ℕ → List Request)
-      (device : Device) : Type 0 where
-    pub new : Session F
-    pub put_now : List Step
-    pub taken_now : ℕ → List Request
-    pub ending : Option Served
-    pub more : RepliesMore old put taken new put_now taken_now ending
-    pub left : IsLeftBy new.core device
-
-module _ {T : Type 0} (g : Taker.Ghosts T) where
-  -- Something went wrong with threads, and the device is as the log thread left it, which began
-  -- with this.
-  abbrev pub LeftBySide : {F W : Type 0} → LogSide F T W → RunWhy → Device → Type 0
-  LeftBySide side why device = IsOfThreads why
-      × LeftByServing side.session (all_put side.publisher).steps (g.taken side.taker) device
+    pub flash : F
+    pub back : fault.flash ≡ Some flash
+    pub so : IsSo fault.why (device flash)

@@ -1,5 +1,6 @@
 pub mod Numbered
 pub mod Ends
+pub mod Why
 pub mod Started
 pub mod Crew
 pub mod Looking

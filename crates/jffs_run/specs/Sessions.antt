@@ -9,10 +9,11 @@ use Rattle.jffs_core.specs.CoreState.{CoreState}
 use Rattle.jffs_core.specs.Past.{IsFresh}
 use Rattle.jffs_core.specs.Done.{ScanFinds}
 use Rattle.jffs_serve.specs.Replies.{Reply}
+use Rattle.jffs_text.specs.declared.script.Writer.{Writer}
 use Rattle.jffs_run.specs.Account.{Account}
 use Rattle.jffs_run.specs.Headline.{IsRun}
 use Rattle.jffs_run.specs.declared.fault.RunWhy.{RunWhy}
-use Rattle.jffs_run.specs.Faults.{IsGivenUp, LeftByTurns}
+use Rattle.jffs_run.specs.Faults.{AskedBy, IsGivenUp, LeftByTurns}
 use Rattle.jffs_run.specs.Done.{done_by_all, IsDoneToo}
 
 -- The device was mounted, and is left as a core left it after some turns.
@@ -80,7 +81,9 @@ RunsAreSessions = (before : Device) (start : CoreState) (account : Account) → 
     → (session : HadSession before account.device)
     × IsThatOf start run.replies run.core session
 
--- So is a run that was given up, unless the device didn't mount: then it holds what it held.
+-- So is a run that was given up, that of what its script asks for, unless the device didn't mount:
+-- then it holds what it held.
 abbrev pub FaultsEndSessions : Type 0
-FaultsEndSessions = (before : Device) (why : RunWhy) (after : Device) → IsGivenUp before why after
-    → HoldSame before after ⊎ HadSession before after
+FaultsEndSessions = (script : List Writer) (before : Device) (why : RunWhy) (after : Device)
+    → IsGivenUp script before why after → HoldSame before after
+    ⊎ ((session : HadSession before after) × AskedBy script session.turns.replies)

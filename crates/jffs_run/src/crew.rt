@@ -1,5 +1,6 @@
 //! What the threads of a run are given, and what comes back from them.
 
+use crate::fault::RunWhy;
 use crate::promise::{Cleaner, LogEnd};
 use crate::reader::ReaderEnd;
 use jffs_flash::Flash;
@@ -23,4 +24,6 @@ pub(crate) struct Finished<H: Hand, F: Flash, T: Taker, W: Wait + Drop> {
     pub(crate) hands: Hands<H>,
     pub(crate) readers: Vec<ReaderEnd>,
     pub(crate) log: LogEnd<F, T, W>,
+    // Why it makes no run, if it makes none.
+    pub(crate) fault: Option<RunWhy>,
 }

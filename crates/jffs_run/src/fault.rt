@@ -37,13 +37,12 @@ impl From<NoMemory> for RunWhy {
     }
 }
 
-/// A run that was given up, with the device, where the log thread gave it back or was never
-/// started.
+/// A run that was given up, with the device.
 #[derive(Drop)]
 pub struct RunFault<F> {
     /// The first reason that was met.
     pub why: RunWhy,
-    /// The device; none only where a thread could not be started.
+    /// The device. `run_threads` gives it back whatever the reason is.
     pub flash: Option<F>,
 }
 

@@ -1,6 +1,8 @@
 //! Joining the writers and the readers.
 
-ghost use Rattle.std.specs.Prelude.{◌≡◌, ◌⊎◌, List, map, true, false, None, IfSome, vec_len};
+ghost use Rattle.std.specs.Prelude.{◌≡◌, ◌⊎◌, List, map, true, false, None, IfSome, IsTrue};
+ghost use Rattle.std.specs.Prelude.{vec_len};
+ghost use Rattle.jffs_text.specs.declared.command.Command.{Command};
 ghost use Rattle.jffs_text.specs.declared.script.Writer.{Writer};
 ghost use Rattle.jffs_text.specs.declared.script.ReaderStatement.{ReaderStatement};
 ghost use Rattle.jffs_index.specs.Ends.{index_of, known, published, publisher_index, told_of};
@@ -8,13 +10,14 @@ ghost use Rattle.jffs_index.specs.Ends.{told_index};
 ghost use Rattle.jffs_index.specs.declared.rule.History.{History};
 ghost use Rattle.jffs_index.specs.Histories.{view_of, BeginsWith};
 ghost use Rattle.jffs_run.specs.Crew.{HasRoom};
-ghost use Rattle.jffs_run.specs.Faults.{IsOfThreads};
+ghost use Rattle.jffs_run.specs.Why.{IsOfThreads};
 ghost use Rattle.jffs_run.specs.Ends.{EachFrom, HandedIn, HandedInAll, end_of};
 ghost use Rattle.jffs_run.specs.Looking.{HasSeen, IsWhole};
-ghost use Rattle.jffs_run.specs.Started.{IsStarted, IsLooking, end_given};
+ghost use Rattle.jffs_run.specs.Numbered.{Wrote};
+ghost use Rattle.jffs_run.specs.Started.{HasWriting, IsCalm, IsStarted, IsLooking, end_given};
 
 use crate::fault::RunWhy;
-use crate::promise::{ReaderHandle, WriterHandle};
+use crate::promise::{ReaderHandle, Writing};
 use crate::reader::{ReaderEnd, ReaderStop};
 use crate::writer::{Stop, WriterEnd};
 use jffs_index::{Publisher, Reader, Told, View};
@@ -27,6 +30,8 @@ use std::thread::Threads;
 pub(crate) struct Stops {
     /// A writer stopped since the log thread had ended.
     pub(crate) log_ended: bool,
+    /// A writer didn't begin, since a thread could not be made.
+    refused: bool,
     /// A writer found no memory for a wish.
     memory: bool,
     /// A writer's last number is used.
@@ -37,6 +42,7 @@ impl Stops {
     fn none() -> Stops {
         Stops {
             log_ended: false,
+            refused: false,
             memory: false,
             spent: false,
         }
@@ -44,23 +50,27 @@ impl Stops {
 
     /// Takes in how one more writer stopped.
     fn note(&mut self, stop: Stop)
-        ensures { self.new.log_ended ≡ false → self.new.memory ≡ false → self.new.spent ≡ false
-            → (self.old.log_ended ≡ false) × (self.old.memory ≡ false) × (self.old.spent ≡ false)
-            × (stop ≡ Stop.Done) }
+        ensures { self.new.log_ended ≡ false → IsCalm self.new
+            → (self.old.log_ended ≡ false) × IsCalm self.old × (stop ≡ Stop.Done) }
     {
         match stop {
             Stop::Done => {}
             Stop::LogEnded => self.log_ended = true,
+            Stop::Refused => self.refused = true,
             Stop::Memory => self.memory = true,
             Stop::Spent => self.spent = true,
         }
     }
 
-    /// Why the writers' ends make no run, if they don't.
-    pub(crate) fn fault(&self) -> Option<RunWhy>
-        ensures none { result ≡ None → (self.now.memory ≡ false) × (self.now.spent ≡ false) }
+    /// Why there is no run, if there is none: where all other threads could be made, the writers'
+    /// ends say it.
+    pub(crate) fn fault(&self, others_made: bool) -> Option<RunWhy>
+        ensures none { result ≡ None → IsTrue others_made × IsCalm self.now }
         ensures why { IfSome result IsOfThreads }
     {
+        if !others_made || self.refused {
+            return Some(RunWhy::Spawn);
+        }
         if self.memory {
             return Some(RunWhy::Memory);
         }
@@ -78,25 +88,38 @@ pub(crate) struct Joined<H> {
     pub(crate) stops: Stops,
 }
 
+fn join_writer<'s, R: Threads, H: Hand + Send + 's>(rt: &R, writing: Writing<'s, H>) -> WriterEnd<H>
+    ensures end { end_of H.Hand result.hand ≡ end_given H.Hand writing.entry }
+    ensures wrote { (commands : List Command) → HasWriting H.Hand commands writing.entry
+        → Wrote (H.sender result.hand) commands (H.accepted result.hand) result.stop }
+{
+    match writing {
+        Writing::Thread(handle) => handle.join(rt),
+        Writing::Refused(end) => end,
+    }
+}
+
 /// Joins the writers' threads. Their hands go into `hands`.
 pub(crate) fn join_writers<'s, R: Threads, H: Hand + Send + 's>(
     rt: &R,
-    handles: Vec<WriterHandle<'s, H>>,
+    writing: Vec<Writing<'s, H>>,
     hands: Vec<H>,
 ) -> Joined<H>
-    requires room { HasRoom (vec_len handles) hands }
+    requires room { HasRoom (vec_len writing) hands }
     ensures ends { map (end_of H.Hand) result.hands.items
-        ≡ map (end_given H.Hand) handles.entry.items }
-    ensures handed_in { (script : List Writer) → EachFrom (IsStarted script) 0 handles.entry.items
+        ≡ map (end_given H.Hand) writing.entry.items }
+    ensures handed_in { (script : List Writer)
+        → EachFrom (IsStarted H.Hand script) 0 writing.entry.items
         → EachFrom (HandedIn H.Hand script) 0 result.hands.items }
-    ensures whole { (script : List Writer) → EachFrom (IsStarted script) 0 handles.entry.items
-        → result.stops.log_ended ≡ false → result.stops.memory ≡ false → result.stops.spent ≡ false
+    ensures whole { (script : List Writer)
+        → EachFrom (IsStarted H.Hand script) 0 writing.entry.items
+        → result.stops.log_ended ≡ false → IsCalm result.stops
         → EachFrom (HandedInAll H.Hand script) 0 result.hands.items }
 {
     let mut hands = hands;
     let mut stops = Stops::none();
-    for handle in handles {
-        let WriterEnd { hand, stop } = handle.join(rt);
+    for one in writing {
+        let WriterEnd { hand, stop } = join_writer(rt, one);
         hands.push_reserved(hand);
         stops.note(stop);
     }

@@ -17,6 +17,7 @@ mod outcome;
 mod promise;
 mod reader;
 mod run;
+mod signals;
 mod starting;
 mod threads;
 mod writer;

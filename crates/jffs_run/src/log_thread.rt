@@ -1,10 +1,11 @@
 //! The log thread: it serves until an Unmount is answered.
 
-ghost use Rattle.std.specs.Prelude.{◌≡◌, IfSome};
+ghost use Rattle.std.specs.Prelude.{◌≡◌, IfOk, IfErr};
 ghost use Rattle.jffs_serve.specs.Showing.{CanServe};
 ghost use Rattle.jffs_serve.specs.Serving.{HasServed};
 
 use crate::promise::{LogEnd, LogHandle, LogSide, Serves};
+use crate::signals::Signals;
 use jffs_flash::Flash;
 use jffs_line::Taker;
 use jffs_serve::{Ended, Served, serve};
@@ -52,7 +53,39 @@ fn run_log<R: Wait, F: Flash, T: Taker, W: Wait + Drop>(
     }
 }
 
-/// Starts the log thread. None where no thread can be made; what it owns is then gone.
+/// The end of a log thread that served nothing, as where the first allocation failed.
+pub(crate) fn unserved<F: Flash, T: Taker, W: Wait + Drop>(
+    side: LogSide<F, T, W>,
+) -> LogEnd<F, T, W>
+    ensures ends { T.ends result.side.taker ≡ T.ends side.taker }
+    ensures served { HasServed side.session side.publisher (T.taken side.taker) result.side.session
+        result.side.publisher (T.taken result.side.taker) result.served }
+{
+    LogEnd {
+        side,
+        served: Served::Memory,
+    }
+}
+
+// The log thread. Where a thread could not be made, it gives its side back as it is.
+fn begin_log<R: Wait, F: Flash, T: Taker, W: Wait + Drop>(
+    rt: &R,
+    side: LogSide<F, T, W>,
+    signals: &Signals,
+) -> LogEnd<F, T, W>
+    requires ready { CanServe side.session side.publisher }
+    ensures ends { T.ends result.side.taker ≡ T.ends side.taker }
+    ensures served { HasServed side.session side.publisher (T.taken side.taker) result.side.session
+        result.side.publisher (T.taken result.side.taker) result.served }
+{
+    if signals.is_refused() {
+        signals.ended.tell();
+        return unserved(side);
+    }
+    run_log(rt, side, &signals.ended)
+}
+
+/// Starts the log thread. Where no thread can be made, all that it was given comes back.
 pub(crate) fn start_log<
     's,
     E,
@@ -64,10 +97,14 @@ pub(crate) fn start_log<
     rt: &'s R,
     scope: &'s Scope<'s, E>,
     side: LogSide<F, T, W>,
-    ended: &'s Ended,
-) -> Option<LogHandle<F, T, W>>
+    signals: &'s Signals,
+) -> Result<LogHandle<F, T, W>, LogEnd<F, T, W>>
     requires ready { CanServe side.session side.publisher }
-    ensures promise { IfSome result (λ handle. handle.promise.side.value ≡ side) }
+    ensures promise { IfOk result (λ handle. handle.promise.side.value ≡ side) }
+    ensures ends { IfErr result (λ end. T.ends end.side.taker ≡ T.ends side.taker) }
+    ensures served { IfErr result
+        (λ end. HasServed side.session side.publisher (T.taken side.taker) end.side.session
+        end.side.publisher (T.taken end.side.taker) end.served) }
 {
     let promise = Serves {
         side: Snapshot::of(&side),
@@ -79,7 +116,13 @@ pub(crate) fn start_log<
             ensures { (T.ends result.side.taker ≡ T.ends side.taker)
                 × HasServed side.session side.publisher (T.taken side.taker) result.side.session
                 result.side.publisher (T.taken result.side.taker) result.served }
-        { run_log(rt, side, ended) },
+        { begin_log(rt, side, signals) },
     );
-    started.ok()
+    match started {
+        Ok(handle) => Ok(handle),
+        Err(refused) => {
+            signals.refuse();
+            Err((refused.value)())
+        }
+    }
 }

@@ -29,8 +29,12 @@ impl<'a, H: Hand> Promise<WriterEnd<H>> for Writes<'a, H> {
         × Wrote (H.sender p.hand.value) p.commands.now (H.accepted r.hand) r.stop };
 }
 
-/// A writer's thread.
-pub(crate) type WriterHandle<'a, H> = PromisedHandle<WriterEnd<H>, Writes<'a, H>>;
+/// A writer: its thread, or what it gave back at once where no thread could be made.
+#[derive(Drop)]
+pub(crate) enum Writing<'a, H: Hand> {
+    Thread(PromisedHandle<WriterEnd<H>, Writes<'a, H>>),
+    Refused(WriterEnd<H>),
+}
 
 /// What a reader's thread promises: its end fits the last view that it looked at.
 #[derive(Drop)]
@@ -74,11 +78,20 @@ impl<H: Hand> Promise<Cleaner<H>> for Cleans<H> {
         × AreCopies (H.accepted r.hand) };
 }
 
-/// The cleaner, in a thread of its own, or its hand, where the script asks for none.
+/// The cleaner in a thread of its own; or its hand, where the script asks for none, or where no
+/// thread could be made.
 #[derive(Drop)]
 pub(crate) enum Cleaning<H: Hand> {
     Thread(PromisedHandle<Cleaner<H>, Cleans<H>>),
     Rest(H),
+    Refused(H),
+}
+
+impl<H: Hand> Cleaning<H> {
+    /// Whether its thread could not be made.
+    pub(crate) fn is_refused(&self) -> bool {
+        matches!(self, Cleaning::Refused(_))
+    }
 }
 
 /// All that the log thread owns.

@@ -1,6 +1,6 @@
 //! A run of a script in threads.
 
-ghost use Rattle.std.specs.Prelude.{◌≡◌, ◌⊎◌, [], map, false, IfOk, IfErr, vec_len};
+ghost use Rattle.std.specs.Prelude.{◌≡◌, ◌⊎◌, [], map, false, None, Some, IfOk, IfErr, vec_len};
 ghost use Rattle.std.specs.List.{All};
 ghost use Rattle.jffs_index.specs.Histories.{opening_of};
 ghost use Rattle.jffs_index.specs.Ends.{published, pending, publisher_index, index_of};
@@ -13,7 +13,7 @@ ghost use Rattle.jffs_run.specs.Headline.{IsRun};
 ghost use Rattle.jffs_run.specs.declared.fault.RunWhy.TheVariants.{Index, Memory, Settle};
 ghost use Rattle.jffs_run.specs.Faults.{GivesBack, IsGivenUp, LeftByRun};
 ghost use Rattle.jffs_run.specs.Accepted.{accepted_of};
-ghost use Rattle.jffs_line.specs.Settling.{all_hands, IsSettled};
+ghost use Rattle.jffs_line.specs.Settling.{all_hands, IsSettled, WasSettled};
 
 use crate::crew::{Crew, Finished};
 use crate::fault::{RunFault, RunWhy};
@@ -96,7 +96,7 @@ where
     requires line { IsNewLine T.Of.Hand (T.ends line.taker) (T.taken line.taker) line.hands
         (vec_len script.now.writers) }
     requires core { (core.answers ≡ []) × (core.closed ≡ false) }
-    ensures fault { IfErr result (GivesBack F.device (LeftByRun core)) }
+    ensures fault { IfErr result (GivesBack F.device (LeftByRun script.now.writers.items core)) }
     ensures run { IfOk result
         (λ r. IsRun core (account_of F.Flash script.now
         (λ sender. accepted_by T.Of.Hand sender (all_hands r.0.value)) r.1)) }
@@ -128,13 +128,13 @@ where
         publisher,
         jobs,
     };
-    let finished = run_all(rt, alloc, script, crew, side, gate)?;
+    let finished = run_all(rt, alloc, script, crew, side, gate);
     let accepted = Snapshot::of(&finished.hands);
     let run = settle_all(rt, alloc, finished)?;
     Ok((accepted, run))
 }
 
-/// Takes all ends back.
+/// Takes all ends back, whether it was a run or was given up.
 fn settle_all<R: Wait, F: Flash + Drop, T: Settle, W: Wait + Drop>(
     rt: &R,
     alloc: Global,
@@ -143,13 +143,17 @@ fn settle_all<R: Wait, F: Flash + Drop, T: Settle, W: Wait + Drop>(
     requires ends { T.ends finished.log.side.taker
         ≡ map (end_of T.Of.Hand) (all_hands finished.hands) }
     ensures fault { IfErr result (GivesBack F.device
-        (λ why device. (why ≡ Settle) × IsLeftBy finished.log.side.session.core device)) }
+        (λ why device. ((finished.fault ≡ Some why) ⊎ (why ≡ Settle))
+        × IsLeftBy finished.log.side.session.core device)) }
     ensures rest { IfOk result
         (λ run. (run.answers.items ≡ finished.log.side.session.core.answers)
-        × (run.readers ≡ finished.readers) × (run.served ≡ finished.log.served)) }
+        × (run.readers ≡ finished.readers) × (run.served ≡ finished.log.served)
+        × (finished.fault ≡ None)) }
     ensures settled { IfOk result
         (λ run. IsSettled T.Of.sender T.Of.accepted (all_hands finished.hands)
         (T.taken finished.log.side.taker) run.waiting.items) }
+    ensures taken { WasSettled T.Of.sender T.Of.accepted (all_hands finished.hands)
+        (T.taken finished.log.side.taker) }
     ensures left { IfOk result
         (λ run. IsLeftBy finished.log.side.session.core (F.device run.flash)) }
 {
@@ -157,10 +161,15 @@ fn settle_all<R: Wait, F: Flash + Drop, T: Settle, W: Wait + Drop>(
         hands,
         readers,
         log,
+        fault,
     } = finished;
     let LogEnd { side, served } = log;
     let (flash, answers) = side.session.into_core().into_parts();
-    match side.taker.settle(rt, alloc, hands) {
+    let settled = side.taker.settle(rt, alloc, hands);
+    if let Some(why) = fault {
+        return Err(RunFault::with_flash(why, flash));
+    }
+    match settled {
         Ok(settled) => Ok(Run {
             accepted: (),
             answers,
@@ -177,9 +186,9 @@ fn settle_all<R: Wait, F: Flash + Drop, T: Settle, W: Wait + Drop>(
 /// cleaner where the script asks for it; and joins them all. `gate` is called for each wish in its
 /// writer's thread. The device may hold a volume already: the script's own sizes are not looked at.
 ///
-/// A fault has its reason, and hands the device back unless a thread could not be started: one that
-/// doesn't mount, which is Mount and nothing else, as scanning left it, any other as the mounted
-/// core left it after its last turn.
+/// A fault has its reason, and hands the device back: one that doesn't mount, which is Mount and
+/// nothing else, as scanning left it, any other as the mounted core left it after its last turn. In
+/// these turns only what the script asks for was answered, and nothing where there is no index.
 pub fn run_threads<R: Threads + Wait + Sync, F: Flash + Send + Drop, G: Gate + Sync>(
     rt: &R,
     alloc: Global,
@@ -187,7 +196,8 @@ pub fn run_threads<R: Threads + Wait + Sync, F: Flash + Send + Drop, G: Gate + S
     flash: F,
     gate: &G,
 ) -> Result<Run<F>, RunFault<F>>
-    ensures fault { IfErr result (GivesBack F.device (IsGivenUp (F.device flash))) }
+    ensures fault { IfErr result
+        (GivesBack F.device (IsGivenUp script.now.writers.items (F.device flash))) }
     ensures run { IfOk result
         (λ run. (start : CoreState) × IsFresh (F.device flash) start
         × IsRun start (account_of F.Flash script.now (accepted_of run.accepted) run)) }
@@ -210,7 +220,7 @@ fn run_mounted<R: Threads + Wait + Sync, F: Flash + Send + Drop, G: Gate + Sync>
     gate: &G,
 ) -> Result<Run<F>, RunFault<F>>
     requires core { (core.answers ≡ []) × (core.closed ≡ false) }
-    ensures fault { IfErr result (GivesBack F.device (LeftByRun core)) }
+    ensures fault { IfErr result (GivesBack F.device (LeftByRun script.now.writers.items core)) }
     ensures run { IfOk result
         (λ run. IsRun core (account_of F.Flash script.now (accepted_of run.accepted) run)) }
 {

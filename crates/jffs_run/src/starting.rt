@@ -9,24 +9,24 @@ ghost use Rattle.jffs_run.specs.Numbered.{Wrote};
 ghost use Rattle.jffs_run.specs.Looking.{FitsView};
 ghost use Rattle.jffs_run.specs.Crew.{AreNew, HasRoom};
 ghost use Rattle.jffs_run.specs.Ends.{EachFrom, end_of};
-ghost use Rattle.jffs_run.specs.Started.{IsStarted, IsLooking, end_given};
+ghost use Rattle.jffs_run.specs.Started.{HasWriting, IsStarted, IsLooking, end_given};
 
-use crate::promise::{Looks, ReaderHandle, WriterHandle, Writes};
+use crate::promise::{Looks, ReaderHandle, Writes, Writing};
 use crate::reader::{ReaderStop, run_reader};
-use crate::writer::{Gate, WriterEnd, run_writer};
+use crate::signals::Signals;
+use crate::writer::{Gate, WriterEnd, begin_writer};
 use jffs_index::Reader;
 use jffs_line::Hand;
-use jffs_serve::Ended;
 use jffs_text::{Command, ReaderStatement, Writer};
 use std::alloc::Global;
 use std::snapshot::Snapshot;
 use std::sync::Wait;
 use std::thread::Scope;
 
-/// The threads that were started, and whether all of them could be.
+/// The readers' threads that were started, and whether all of them could be.
 #[derive(Drop)]
-pub(crate) struct Started<X> {
-    pub(crate) handles: Vec<X>,
+pub(crate) struct Looking<'s> {
+    pub(crate) handles: Vec<ReaderHandle<'s>>,
     pub(crate) all: bool,
 }
 
@@ -38,12 +38,11 @@ fn start_writer<'s, E, R: Wait + Sync, H: Hand + Send + 's, G: Gate + Sync>(
     hand: H,
     commands: &'s [Command<'s>],
     gate: &'s G,
-    ended: &'s Ended,
-) -> Option<WriterHandle<'s, H>>
+    signals: &'s Signals,
+) -> Writing<'s, H>
     requires fresh { H.accepted hand ≡ [] }
-    ensures { IfSome result
-        (λ handle. (handle.promise.hand.value ≡ hand)
-        × (handle.promise.commands.now ≡ commands.entry.now)) }
+    ensures end { end_given H.Hand result ≡ end_of H.Hand hand }
+    ensures writes { HasWriting H.Hand commands.entry.now result }
 {
     let promise = Writes {
         hand: Snapshot::of(&hand),
@@ -55,44 +54,44 @@ fn start_writer<'s, E, R: Wait + Sync, H: Hand + Send + 's, G: Gate + Sync>(
             requires { H.accepted hand ≡ [] }
             ensures { (H.sender result.hand ≡ H.sender hand) × (H.line result.hand ≡ H.line hand)
                 × Wrote (H.sender hand) commands.entry.now (H.accepted result.hand) result.stop }
-        { run_writer(rt, alloc, number, hand, commands, gate, ended) },
+        { begin_writer(rt, alloc, number, hand, commands, gate, signals) },
     );
-    started.ok()
+    match started {
+        Ok(handle) => Writing::Thread(handle),
+        Err(refused) => {
+            signals.refuse();
+            Writing::Refused((refused.value)())
+        }
+    }
 }
 
-/// Starts a thread for each writer, as far as threads can be made.
+/// Starts a thread for each writer. Once one can't be made, no writer begins that hasn't begun.
 pub(crate) fn start_writers<'s, E, R: Wait + Sync, H: Hand + Send + 's, G: Gate + Sync>(
     rt: &'s R,
     scope: &'s Scope<'s, E>,
     alloc: Global,
-    handles: Vec<WriterHandle<'s, H>>,
+    writing: Vec<Writing<'s, H>>,
     hands: Vec<H>,
     writers: &'s [Writer<'s>],
     gate: &'s G,
-    ended: &'s Ended,
-) -> Started<WriterHandle<'s, H>>
-    requires room { HasRoom (vec_len hands) handles }
+    signals: &'s Signals,
+) -> Vec<Writing<'s, H>>
+    requires room { HasRoom (vec_len hands) writing }
     requires hands { AreNew H.Hand (length writers.now) hands }
-    ensures started { EachFrom (IsStarted writers.entry.now) 0 result.handles.items }
-    ensures count { vec_len result.handles ≤ vec_len hands }
-    ensures all { IsTrue result.all
-        → map (end_given H.Hand) result.handles.items ≡ map (end_of H.Hand) hands.items }
+    ensures started { EachFrom (IsStarted H.Hand writers.entry.now) 0 result.items }
+    ensures count { vec_len result ≡ vec_len hands }
+    ensures ends { map (end_given H.Hand) result.items ≡ map (end_of H.Hand) hands.items }
 {
-    let mut handles = handles;
+    let mut writing = writing;
     let mut number = 0;
     for hand in hands {
-        let commands = writers[handles.len()].commands.as_slice();
+        let commands = writers[writing.len()].commands.as_slice();
         number += 1;
-        let Some(handle) = start_writer(rt, scope, alloc, number, hand, commands, gate, ended)
-        else {
-            return Started {
-                handles,
-                all: false,
-            };
-        };
-        handles.push_reserved(handle);
+        writing.push_reserved(start_writer(
+            rt, scope, alloc, number, hand, commands, gate, signals,
+        ));
     }
-    Started { handles, all: true }
+    writing
 }
 
 fn start_reader<'s, E, R: Wait + Sync>(
@@ -101,7 +100,7 @@ fn start_reader<'s, E, R: Wait + Sync>(
     alloc: Global,
     reader: Reader,
     statement: &'s ReaderStatement,
-    ended: &'s Ended,
+    signals: &'s Signals,
 ) -> Option<ReaderHandle<'s>>
     ensures { IfSome result
         (λ handle. (handle.promise.reader.value ≡ reader)
@@ -116,8 +115,11 @@ fn start_reader<'s, E, R: Wait + Sync>(
         move || -> ReaderStop
             ensures { (index_of result.reader ≡ index_of reader)
                 × FitsView (view_of (known result.reader)) statement.entry.now result.end }
-        { run_reader(rt, alloc, reader, statement, ended) },
+        { run_reader(rt, alloc, reader, statement, &signals.ended) },
     );
+    if started.is_err() {
+        signals.refuse();
+    }
     started.ok()
 }
 
@@ -129,8 +131,8 @@ pub(crate) fn start_readers<'s, E, R: Wait + Sync>(
     handles: Vec<ReaderHandle<'s>>,
     readers: Vec<Reader>,
     statements: &'s [ReaderStatement],
-    ended: &'s Ended,
-) -> Started<ReaderHandle<'s>>
+    signals: &'s Signals,
+) -> Looking<'s>
     requires room { HasRoom (vec_len readers) handles }
     requires count { vec_len readers ≡ length statements.now }
     ensures started { (index : Index) → All (λ reader. index_of reader ≡ index) readers.items
@@ -141,13 +143,13 @@ pub(crate) fn start_readers<'s, E, R: Wait + Sync>(
     let mut handles = handles;
     for reader in readers {
         let statement = &statements[handles.len()];
-        let Some(handle) = start_reader(rt, scope, alloc, reader, statement, ended) else {
-            return Started {
+        let Some(handle) = start_reader(rt, scope, alloc, reader, statement, signals) else {
+            return Looking {
                 handles,
                 all: false,
             };
         };
         handles.push_reserved(handle);
     }
-    Started { handles, all: true }
+    Looking { handles, all: true }
 }

@@ -1,23 +1,22 @@
 //! All threads of a run, started and joined.
 
-ghost use Rattle.std.specs.Prelude.{◌≡◌, ◌⊎◌, ◌∷◌, [], IfOk, IfErr, IfSome, false, vec_len};
+ghost use Rattle.std.specs.Prelude.{◌≡◌, ◌⊎◌, ◌∷◌, [], Some, IfOk, false, vec_len};
 ghost use Rattle.jffs_index.specs.Ends.{publisher_index};
 ghost use Rattle.jffs_serve.specs.Showing.{CanServe};
 ghost use Rattle.jffs_tree.specs.declared.wish.Wish.TheVariants.{Unmount};
 ghost use Rattle.jffs_line.specs.Requests.{request};
 ghost use Rattle.jffs_run.specs.Crew.{IsFit, HasFinished};
 ghost use Rattle.jffs_run.specs.Started.{IsReserved, IsRunning};
-ghost use Rattle.jffs_run.specs.Faults.{GivesBack, LeftBySide};
-ghost use Rattle.jffs_core.specs.Past.{IsLeftBy};
 
 use crate::cleaner::{join_cleaner, start_cleaner};
 use crate::crew::{Crew, Finished};
-use crate::fault::{RunFault, RunWhy};
+use crate::fault::RunWhy;
 use crate::joining::{join_readers, join_writers};
-use crate::log_thread::start_log;
-use crate::promise::{Cleaning, LogHandle, LogSide, ReaderHandle, WriterHandle};
+use crate::log_thread::{start_log, unserved};
+use crate::promise::{Cleaner, Cleaning, LogEnd, LogHandle, LogSide, ReaderHandle, Writing};
 use crate::reader::ReaderEnd;
-use crate::starting::{Started, start_readers, start_writers};
+use crate::signals::Signals;
+use crate::starting::{Looking, start_readers, start_writers};
 use crate::writer::{Gate, offer_until};
 use jffs_flash::Flash;
 use jffs_line::{Control, Hand, Hands, Taker};
@@ -34,7 +33,7 @@ use std::thread::{Scope, Threads};
 /// no memory is needed.
 #[derive(Drop)]
 struct Reserved<'s, H: Hand> {
-    writers: Vec<WriterHandle<'s, H>>,
+    writers: Vec<Writing<'s, H>>,
     hands: Vec<H>,
     readers: Vec<ReaderHandle<'s>>,
     ends: Vec<ReaderEnd>,
@@ -62,24 +61,23 @@ struct Running<'s, H: Hand, F: Flash, T: Taker, W: Wait + Drop> {
     script: &'s Script<'s>,
     crew: Snapshot<Crew<H>>,
     log: LogHandle<F, T, W>,
-    cleaning: Option<Cleaning<H>>,
-    looking: Started<ReaderHandle<'s>>,
-    writing: Started<WriterHandle<'s, H>>,
+    cleaning: Cleaning<H>,
+    looking: Looking<'s>,
+    writing: Vec<Writing<'s, H>>,
     control: Control<H>,
     hands: Vec<H>,
     ends: Vec<ReaderEnd>,
 }
 
-/// Starts the log thread first, and then all others, as far as threads can be made. None where
-/// there is none for the log; what it owns is then gone.
+/// Starts all threads but the log's, which was started, as far as threads can be made.
 fn start_all<
     's,
     E,
     R: Threads + Wait + Sync,
     H: Hand + Send + 's,
-    F: Flash + Send + Drop + 's,
-    T: Taker + Send + 's,
-    W: Wait + Drop + Send + 's,
+    F: Flash,
+    T: Taker,
+    W: Wait + Drop,
     G: Gate + Sync,
 >(
     rt: &'s R,
@@ -87,22 +85,20 @@ fn start_all<
     alloc: Global,
     script: &'s Script<'s>,
     crew: Crew<H>,
-    side: LogSide<F, T, W>,
+    log: LogHandle<F, T, W>,
     reserved: Reserved<'s, H>,
     gate: &'s G,
-    ended: &'s Ended,
-) -> Option<Running<'s, H, F, T, W>>
-    requires crew { IsFit H.Hand script.now crew (publisher_index side.publisher) }
-    requires ready { CanServe side.session side.publisher }
+    signals: &'s Signals,
+) -> Running<'s, H, F, T, W>
+    requires crew { IsFit H.Hand script.now crew
+        (publisher_index log.promise.side.value.publisher) }
     requires room { IsReserved (vec_len crew.writers) (vec_len crew.readers) reserved }
-    ensures given { IfSome result
-        (λ running. (running.script.now ≡ script.entry.now) × (running.crew.value ≡ crew)
-        × (running.log.promise.side.value ≡ side)) }
-    ensures running { IfSome result (IsRunning H.Hand) }
+    ensures given { (result.script.now ≡ script.entry.now) × (result.crew.value ≡ crew)
+        × (result.log ≡ log) }
+    ensures running { IsRunning H.Hand result }
 {
     let given = Snapshot::of(&crew);
-    let log = start_log(rt, scope, side, ended)?;
-    let cleaning = start_cleaner(rt, scope, alloc, crew.cleaner, script.cleaner, ended);
+    let cleaning = start_cleaner(rt, scope, alloc, crew.cleaner, script.cleaner, signals);
     let looking = start_readers(
         rt,
         scope,
@@ -110,7 +106,7 @@ fn start_all<
         reserved.readers,
         crew.readers,
         &script.readers,
-        ended,
+        signals,
     );
     let writing = start_writers(
         rt,
@@ -120,9 +116,9 @@ fn start_all<
         crew.writers,
         &script.writers,
         gate,
-        ended,
+        signals,
     );
-    Some(Running {
+    Running {
         script,
         crew: given,
         log,
@@ -132,54 +128,75 @@ fn start_all<
         control: crew.control,
         hands: reserved.hands,
         ends: reserved.ends,
-    })
+    }
 }
 
 /// Joins the writers, has the control ask for the Unmount unless a writer found the log thread
 /// ended, and joins the log thread and the rest.
-fn join_all<'s, R: Threads + Wait, H: Hand + Send + 's, F: Flash + Drop, T: Taker, W: Wait + Drop>(
+fn join_all<'s, R: Threads + Wait, H: Hand + Send + 's, F: Flash, T: Taker, W: Wait + Drop>(
     rt: &R,
     running: Running<'s, H, F, T, W>,
     ended: &Ended,
-) -> Result<Finished<H, F, T, W>, RunFault<F>>
+) -> Finished<H, F, T, W>
     requires running { IsRunning H.Hand running }
-    ensures fault { IfErr result
-        (GivesBack F.device (LeftBySide T.Taker running.entry.log.promise.side.value)) }
-    ensures finished { IfOk result (HasFinished H.Hand T.Taker running.entry.script.now
-        running.entry.crew.value running.entry.log.promise.side.value) }
+    ensures finished { HasFinished H.Hand T.Taker running.entry.script.now
+        running.entry.crew.value running.entry.log.promise.side.value result }
 {
-    let writing = running.writing;
     let looking = running.looking;
-    let joined = join_writers(rt, writing.handles, running.hands);
+    let others_made = looking.all && !running.cleaning.is_refused();
+    let joined = join_writers(rt, running.writing, running.hands);
     let control = ask_unmount(rt, running.control, joined.stops.log_ended, ended);
     let log = running.log.join(rt);
     let answered = log.side.session.core().answers().len() as u64;
-    let ends = join_readers(
+    let readers = join_readers(
         rt,
         looking.handles,
         &log.side.publisher,
         answered,
         running.ends,
     );
-    let Some(cleaner) = join_cleaner(rt, running.cleaning) else {
-        return Err(RunFault::with_flash(RunWhy::Spawn, flash_of(log.side)));
-    };
-    if !looking.all || !writing.all {
-        return Err(RunFault::with_flash(RunWhy::Spawn, flash_of(log.side)));
-    }
-    if let Some(why) = joined.stops.fault() {
-        return Err(RunFault::with_flash(why, flash_of(log.side)));
-    }
     let hands = Hands {
         writers: joined.hands,
-        cleaner,
+        cleaner: join_cleaner(rt, running.cleaning),
         control,
     };
-    Ok(Finished {
+    Finished {
         hands,
-        readers: ends,
+        readers,
         log,
-    })
+        fault: joined.stops.fault(others_made),
+    }
+}
+
+/// What comes back where no thread was started but perhaps the log's, which served nothing.
+fn unstarted<H: Hand, F: Flash, T: Taker, W: Wait + Drop>(
+    alloc: Global,
+    crew: Crew<H>,
+    log: LogEnd<F, T, W>,
+    why: RunWhy,
+) -> Finished<H, F, T, W>
+    ensures hands { (result.hands.writers ≡ crew.writers)
+        × (result.hands.cleaner ≡ crew.cleaner.hand) × (result.hands.control ≡ crew.control) }
+    ensures log { result.log ≡ log }
+    ensures fault { result.fault ≡ Some why }
+{
+    let Crew {
+        writers,
+        cleaner,
+        control,
+        ..
+    } = crew;
+    let Cleaner { hand, .. } = cleaner;
+    Finished {
+        hands: Hands {
+            writers,
+            cleaner: hand,
+            control,
+        },
+        readers: Vec::new(alloc),
+        log,
+        fault: Some(why),
+    }
 }
 
 /// Starts all threads of a run in a scope, and joins them.
@@ -200,24 +217,21 @@ fn run_in<
     crew: Crew<H>,
     side: LogSide<F, T, W>,
     gate: &'s G,
-    ended: &'s Ended,
-) -> Result<Finished<H, F, T, W>, RunFault<F>>
+    signals: &'s Signals,
+) -> Finished<H, F, T, W>
     requires crew { IsFit H.Hand script.now crew (publisher_index side.publisher) }
     requires ready { CanServe side.session side.publisher }
-    ensures fault { IfErr result (GivesBack F.device (LeftBySide T.Taker side)) }
-    ensures finished { IfOk result (HasFinished H.Hand T.Taker script.entry.now crew side) }
+    ensures finished { HasFinished H.Hand T.Taker script.entry.now crew side result }
 {
     let Ok(reserved) = Reserved::reserve(alloc, crew.writers.len(), crew.readers.len()) else {
-        return Err(RunFault::with_flash(RunWhy::Memory, flash_of(side)));
+        return unstarted(alloc, crew, unserved(side), RunWhy::Memory);
     };
-    let Some(running) = start_all(rt, scope, alloc, script, crew, side, reserved, gate, ended)
-    else {
-        return Err(RunFault {
-            why: RunWhy::Spawn,
-            flash: None,
-        });
+    let log = match start_log(rt, scope, side, signals) {
+        Ok(log) => log,
+        Err(end) => return unstarted(alloc, crew, end, RunWhy::Spawn),
     };
-    join_all(rt, running, ended)
+    let running = start_all(rt, scope, alloc, script, crew, log, reserved, gate, signals);
+    join_all(rt, running, &signals.ended)
 }
 
 /// Has the control ask for the Unmount, until the line takes that in or the log thread is gone,
@@ -242,12 +256,6 @@ fn ask_unmount<R: Wait, H: Hand>(
     control
 }
 
-fn flash_of<F: Flash + Drop, T: Taker, W: Wait + Drop>(side: LogSide<F, T, W>) -> F
-    ensures { IsLeftBy side.session.core (F.device result) }
-{
-    side.session.into_core().into_flash()
-}
-
 /// Runs all threads of a run.
 pub(crate) fn run_all<
     R: Threads + Wait + Sync,
@@ -263,20 +271,19 @@ pub(crate) fn run_all<
     crew: Crew<H>,
     side: LogSide<F, T, W>,
     gate: &G,
-) -> Result<Finished<H, F, T, W>, RunFault<F>>
+) -> Finished<H, F, T, W>
     requires crew { IsFit H.Hand script.now crew (publisher_index side.publisher) }
     requires ready { CanServe side.session side.publisher }
-    ensures fault { IfErr result (GivesBack F.device (LeftBySide T.Taker side)) }
-    ensures finished { IfOk result (HasFinished H.Hand T.Taker script.now crew side) }
+    ensures finished { HasFinished H.Hand T.Taker script.now crew side result }
 {
-    let ended = Ended::new();
-    let ended = &ended;
+    let signals = Signals::new();
+    let signals = &signals;
     thread::scope(
         thread::scope_env(),
         rt,
-        |scope| -> Result<Finished<H, F, T, W>, RunFault<F>>
+        |scope| -> Finished<H, F, T, W>
             requires { IsFit H.Hand script.now crew (publisher_index side.publisher)
                 × CanServe side.session side.publisher }
-        { run_in(rt, scope, alloc, script, crew, side, gate, ended) },
+        { run_in(rt, scope, alloc, script, crew, side, gate, signals) },
     )
 }

@@ -4,6 +4,7 @@ ghost use Rattle.std.specs.Prelude.{◌≡◌, ◌≢◌, ◌+◌, ◌∷◌, �
 ghost use Rattle.jffs_line.specs.Requests.{request};
 ghost use Rattle.jffs_run.specs.Numbered.{Wrote};
 
+use crate::signals::Signals;
 use jffs_line::{Hand, NotTaken, Why};
 use jffs_serve::{Ended, Pauses};
 use jffs_text::Command;
@@ -40,6 +41,8 @@ pub(crate) enum Stop {
     Memory,
     /// The writer's last number is used.
     Spent,
+    /// A thread could not be made before it began.
+    Refused,
 }
 
 /// What a writer's thread gives back.
@@ -92,8 +95,31 @@ pub(crate) fn offer_until<R: Wait, H: Hand>(
     unreachable!()
 }
 
+/// A writer's thread. Where a thread could not be made, it gives the hand back as it is.
+pub(crate) fn begin_writer<R: Wait, H: Hand, G: Gate>(
+    rt: &R,
+    alloc: Global,
+    number: u16,
+    hand: H,
+    commands: &[Command<'_>],
+    gate: &G,
+    signals: &Signals,
+) -> WriterEnd<H>
+    requires fresh { H.accepted hand ≡ [] }
+    ensures end { (H.sender result.hand ≡ H.sender hand) × (H.line result.hand ≡ H.line hand) }
+    ensures wrote { Wrote (H.sender hand) commands.now (H.accepted result.hand) result.stop }
+{
+    if signals.is_refused() {
+        return WriterEnd {
+            hand,
+            stop: Stop::Refused,
+        };
+    }
+    run_writer(rt, alloc, number, hand, commands, gate, &signals.ended)
+}
+
 /// Hands a writer's commands in, each once the one before it was accepted.
-pub(crate) fn run_writer<R: Wait, H: Hand, G: Gate>(
+fn run_writer<R: Wait, H: Hand, G: Gate>(
     rt: &R,
     alloc: Global,
     number: u16,

@@ -1,11 +1,9 @@
 //! The end of all rings: what waits is taken out of each, beside its hand.
-ghost use Rattle.std.specs.Prelude.{◌≡◌, ◌≢◌, ℕ, ◌+◌, [], ◌++◌, map, All, Contains, IfOk, OnOk};
-ghost use Rattle.std.specs.Prelude.{List};
+ghost use Rattle.std.specs.Prelude.{◌≡◌, ◌++◌, List, map, IfOk, OnOk};
 ghost use Rattle.jffs_line.specs.declared.request.Request.{Request};
-ghost use Rattle.jffs_line.specs.Requests.{of, IsNumbered};
 ghost use Rattle.jffs_line.specs.Rings.{ring_end, ring_hand_end, ring_accepted, ring_taken};
 ghost use Rattle.jffs_line.specs.Rings.{rings_ends, rings_taken, taken_in, Apart};
-ghost use Rattle.jffs_line.specs.Settling.{all_hands, IsSettled};
+ghost use Rattle.jffs_line.specs.Settling.{all_hands, IsSettled, WasSettled};
 
 use super::{Ring, RingHand, RingTaker};
 use crate::hand::{Hands, Settle};
@@ -13,12 +11,11 @@ use crate::request::{Request, SettleFault, Settled};
 use std::alloc::{AllocError, Global};
 use std::sync::Wait;
 
-// Takes out what waits in a ring.
+// Takes out what waits in a ring. Where allocation failed, that is gone.
 fn empty(ring: Ring, hand: RingHand, waiting: &mut Vec<Request>) -> Result<(), AllocError>
     requires { ring_end ring ≡ ring_hand_end hand }
-    ensures { OnOk result
-        ((left : List Request) × (waiting.new.items ≡ waiting.old.items ++ left)
-        × (ring_taken ring ++ left ≡ ring_accepted hand)) }
+    ensures { (left : List Request) × (ring_taken ring ++ left ≡ ring_accepted hand)
+        × OnOk result (waiting.new.items ≡ waiting.old.items ++ left) }
 {
     let Ring {
         mut consumer,
@@ -39,59 +36,57 @@ fn empty(ring: Ring, hand: RingHand, waiting: &mut Vec<Request>) -> Result<(), A
     Ok(())
 }
 
-// Takes out what waits in each ring.
+// Takes out what waits in each ring, from the control's on. Where allocation failed, that is gone.
 fn empty_all(
     alloc: Global,
-    mut hands: Vec<RingHand>,
+    hands: Hands<RingHand>,
     mut rings: Vec<Ring>,
 ) -> Result<Vec<Request>, AllocError>
-    requires ends { map ring_end rings.items ≡ map ring_hand_end hands.items }
-    requires apart { Apart (map (λ h. h.number) hands.items) }
-    ensures settled { IfOk result
-        (λ waiting. All (λ h.
-        taken_in h.number rings.items ++ of h.number waiting.items ≡ ring_accepted h)
-        hands.items) }
-    ensures others { IfOk result
-        (λ waiting. (w : ℕ) → All (λ h. h.number ≢ w) hands.items → of w waiting.items ≡ []) }
-{
-    let mut waiting = Vec::new(alloc);
-    while let Some(hand) = hands.pop() {
-        let Some(ring) = rings.pop() else {
-            unreachable!()
-        };
-        empty(ring, hand, &mut waiting)?;
-    }
-    Ok(waiting)
-}
-
-// The writers' hands in order, the cleaner's and the control's.
-fn all(hands: Hands<RingHand>) -> Result<Vec<RingHand>, AllocError>
-    ensures { IfOk result (λ all. all.items ≡ all_hands hands) }
+    requires ends { map ring_end rings.items ≡ map ring_hand_end (all_hands hands) }
+    requires apart { Apart (map (λ h. h.number) (all_hands hands)) }
+    ensures { (left : List Request) × IsSettled (λ h. h.number) ring_accepted (all_hands hands)
+        (λ w. taken_in w rings.items) left × IfOk result (λ waiting. waiting.items ≡ left) }
 {
     let Hands {
         mut writers,
         cleaner,
         control,
     } = hands;
-    writers.push(cleaner)?;
-    writers.push(control.into_hand())?;
-    Ok(writers)
+    let mut waiting = Vec::new(alloc);
+    let Some(of_control) = rings.pop() else {
+        unreachable!()
+    };
+    let Some(of_cleaner) = rings.pop() else {
+        unreachable!()
+    };
+    let first = empty(of_control, control.into_hand(), &mut waiting);
+    let second = empty(of_cleaner, cleaner, &mut waiting);
+    let mut whole = first.is_ok() && second.is_ok();
+    while let Some(hand) = writers.pop() {
+        let Some(ring) = rings.pop() else {
+            unreachable!()
+        };
+        if empty(ring, hand, &mut waiting).is_err() {
+            whole = false;
+        }
+    }
+    if whole { Ok(waiting) } else { Err(AllocError) }
 }
 
 /// Takes all ends of a line back, and returns what was handed in and never taken. So all that a
 /// hand accepted was taken, or is in here after that. Precondition: `hands` and `taker` belong to
 /// one line, and no end of it is missing.
 ///
-/// `Memory` alone, if allocation failed: the ends are then gone, with what waited.
+/// `Memory` alone, if allocation failed: the ends are then gone, with what waited. Then too what
+/// was taken of each hand is a beginning of what it accepted.
 fn settle(alloc: Global, hands: Hands<RingHand>, taker: RingTaker) -> Result<Settled, SettleFault>
     requires ends { rings_ends taker ≡ map ring_hand_end (all_hands hands) }
-    ensures { IfOk result (λ s. IsSettled (λ h. h.number) ring_accepted (all_hands hands)
+    ensures settled { IfOk result (λ s. IsSettled (λ h. h.number) ring_accepted (all_hands hands)
         (rings_taken taker) s.waiting.items) }
+    ensures taken { WasSettled (λ h. h.number) ring_accepted (all_hands hands)
+        (rings_taken taker) }
 {
     let RingTaker { rings, .. } = taker;
-    let Ok(hands) = all(hands) else {
-        return Err(SettleFault::Memory);
-    };
     match empty_all(alloc, hands, rings) {
         Ok(waiting) => Ok(Settled { waiting }),
         Err(_) => Err(SettleFault::Memory),
@@ -108,8 +103,10 @@ impl Settle for RingTaker {
         hands: Hands<RingHand>,
     ) -> Result<Settled, SettleFault>
         requires { rings_ends self ≡ map ring_hand_end (all_hands hands) }
-        ensures { IfOk result (λ s. IsSettled (λ h. h.number) ring_accepted (all_hands hands)
-            (rings_taken self) s.waiting.items) }
+        ensures settled { IfOk result (λ s. IsSettled (λ h. h.number) ring_accepted
+            (all_hands hands) (rings_taken self) s.waiting.items) }
+        ensures taken { WasSettled (λ h. h.number) ring_accepted (all_hands hands)
+            (rings_taken self) }
     {
         settle(alloc, hands, self)
     }

@@ -6,7 +6,7 @@ ghost use Rattle.jffs_line.specs.InOrder.{Learned, knows, joined};
 ghost use Rattle.jffs_line.specs.Requests.{of, IsNumbered};
 ghost use Rattle.jffs_line.specs.Shared.{channel_line, shared_line, shared_end, shared_accepted};
 ghost use Rattle.jffs_line.specs.Shared.{shared_ends, shared_taken, hand_sent};
-ghost use Rattle.jffs_line.specs.Settling.{all_hands, IsSettled};
+ghost use Rattle.jffs_line.specs.Settling.{all_hands, IsSettled, WasSettled};
 
 use super::{Each, Receives, Sends, SharedHand, SharedPass, SharedTaker, Take};
 use crate::hand::{Hands, Settle};
@@ -57,7 +57,9 @@ fn drain<R: Wait>(
 /// hand accepted was taken, or is in here after that. Precondition: `hands` and `taker` belong to
 /// one line, and no end of it is missing.
 ///
-/// `Memory` alone, if allocation failed: the ends are then gone, with what waited.
+/// `Memory` alone, if allocation failed: the ends are then gone, with what waited. Then too what
+/// was taken of each hand is a beginning of what it accepted, which the rule tells before a request
+/// is taken out.
 fn settle<R: Wait>(
     rt: &R,
     alloc: Global,
@@ -65,8 +67,10 @@ fn settle<R: Wait>(
     taker: SharedTaker,
 ) -> Result<Settled, SettleFault>
     requires ends { shared_ends taker ≡ map shared_end (all_hands hands) }
-    ensures { IfOk result (λ s. IsSettled (λ h. h.number) shared_accepted (all_hands hands)
+    ensures settled { IfOk result (λ s. IsSettled (λ h. h.number) shared_accepted (all_hands hands)
         (shared_taken taker) s.waiting.items) }
+    ensures taken { WasSettled (λ h. h.number) shared_accepted (all_hands hands)
+        (shared_taken taker) }
 {
     let Hands {
         writers,
@@ -90,6 +94,7 @@ fn settle<R: Wait>(
     give_all_back(&sends, &mut pass, writers);
     sends.absorb::<Each>(&mut pass, of_cleaner);
     sends.absorb::<Each>(&mut pass, of_control);
+    sends.learn_as::<Take>(&mut pass);
     match drain(rt, alloc, &receives, &mut pass) {
         Ok(waiting) => Ok(Settled { waiting }),
         Err(_) => Err(SettleFault::Memory),
@@ -106,8 +111,10 @@ impl Settle for SharedTaker {
         hands: Hands<SharedHand>,
     ) -> Result<Settled, SettleFault>
         requires { shared_ends self ≡ map shared_end (all_hands hands) }
-        ensures { IfOk result (λ s. IsSettled (λ h. h.number) shared_accepted (all_hands hands)
-            (shared_taken self) s.waiting.items) }
+        ensures settled { IfOk result (λ s. IsSettled (λ h. h.number) shared_accepted
+            (all_hands hands) (shared_taken self) s.waiting.items) }
+        ensures taken { WasSettled (λ h. h.number) shared_accepted (all_hands hands)
+            (shared_taken self) }
     {
         settle(rt, alloc, hands, self)
     }

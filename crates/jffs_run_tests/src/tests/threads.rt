@@ -3,8 +3,9 @@
 ghost use Rattle.std.specs.Prelude.{◌≡◌, length, IfOk};
 
 use jffs_flash::MemoryFlash;
-use jffs_run::{Gate, NoGate, RunFault, RunWhy, Served, run_threads};
-use jffs_text::Script;
+use jffs_node::Path;
+use jffs_run::{AcceptedBy, Gate, NoGate, RunFault, RunWhy, Served, run_threads};
+use jffs_text::{READERS_MAX, ReaderStatement, Script};
 use std::alloc::{AllocError, Global};
 use std::io::Write;
 use std::process::Abort;
@@ -108,5 +109,67 @@ fn constructors_refuse(rt: HostRuntime) -> Result<(), Fail> {
     assert_eq!(rt; why, RunWhy::Mount);
     let flash = flash.ok_or("the device is gone")?;
     assert!(rt; flash.bytes() == image.as_slice());
+    Ok(())
+}
+
+/// Runs a script over an erased device, and looks that the run is given up for this reason, and
+/// hands the device back as it was.
+fn is_given_up<Rt: Abort + AllocGlobal + Threads + Wait + Sync>(
+    rt: &Rt,
+    script: &Script<'_>,
+    wanted: RunWhy,
+) -> Result<(), Fail> {
+    let erased = vec![in rt.alloc(); 0xFFu8; 8 * 1024]?;
+    let flash = MemoryFlash::from_bytes(8, 1024, erased.clone()?);
+    let RunFault { why, flash } = match run_threads(rt, rt.alloc(), script, flash, &NoGate) {
+        Ok(_) => return Err("it wasn't given up".into()),
+        Err(fault) => fault,
+    };
+    assert_eq!(rt; why, wanted);
+    let flash = flash.ok_or("the device is gone")?;
+    assert!(rt; flash.bytes() == erased.as_slice());
+    Ok(())
+}
+
+#[test]
+fn a_run_without_a_line_gives_its_device_back(rt: HostRuntime) -> Result<(), Fail> {
+    for text in ["line shared 1", "line rings 1"] {
+        let mut whole = Vec::new(rt.alloc());
+        writeln!(whole, "volume 8 1024\n{text}\nwriter\ncreate /f")?;
+        let mut script = Script::parse(rt.alloc(), &whole)?;
+        script.line.capacity = 0;
+        is_given_up(&rt, &script, RunWhy::Line)?;
+    }
+    Ok(())
+}
+
+#[test]
+fn a_run_without_an_index_gives_its_device_back(rt: HostRuntime) -> Result<(), Fail> {
+    let mut script = Script::parse(rt.alloc(), b"volume 8 1024\nwriter\ncreate /f\n")?;
+    // One more than a script's text may have.
+    for _ in 0..=READERS_MAX {
+        script.readers.push(ReaderStatement {
+            writer: 1,
+            seq: 1,
+            path: Path::parse(rt.alloc(), b"/f")?,
+        })?;
+    }
+    is_given_up(&rt, &script, RunWhy::Index)
+}
+
+#[test]
+fn a_run_has_the_line_of_its_script(rt: HostRuntime) -> Result<(), Fail> {
+    let alloc = rt.alloc();
+    for (line, is_shared) in [("shared", true), ("rings", false)] {
+        let mut text = Vec::new(alloc);
+        writeln!(text, "volume 8 1024\nline {line} 4\nwriter\ncreate /f")?;
+        let script = Script::parse(alloc, &text)?;
+        let flash = MemoryFlash::new(alloc, script.sectors, script.sector_size)?;
+        let run = run_threads(&rt, alloc, &script, flash, &NoGate);
+        let run = run.map_err(|fault| fault.why)?;
+        let has_shared = matches!(run.accepted, AcceptedBy::Shared(_));
+        assert_eq!(rt; has_shared, is_shared);
+        assert_eq!(rt; run.answers.len(), 2);
+    }
     Ok(())
 }

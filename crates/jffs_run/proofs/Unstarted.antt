@@ -1,5 +1,5 @@
 -- A run whose threads were not started.
-use Rattle.std.proofs.Common.{◌≡◌, ℕ, ◌+◌, List, [], ◌∷◌, length, take, map, inl, refl, sym, ◌∙◌, ap, ap₂, subst, Option, Some, IfSome}
+use Rattle.std.proofs.Common.{◌≡◌, ℕ, ◌+◌, List, [], ◌∷◌, length, take, map, inl, sym, ◌∙◌, ap, subst, Option, Some, IfSome}
 use Rattle.std.specs.List.{All}
 use Rattle.std.proofs.lemmas.List.Elements.{All-head, All-tail}
 use Rattle.std.proofs.lemmas.Option.{none-some}
@@ -19,7 +19,7 @@ use Rattle.jffs_run.specs.declared.fault.RunWhy.{RunWhy}
 use Rattle.jffs_run.specs.declared.promise.LogSide.{LogSide}
 use Rattle.jffs_run.specs.declared.promise.LogEnd.{LogEnd}
 use Rattle.jffs_run.specs.Ends.{EachFrom, HandedIn, AreCopies, commands_at, end_of}
-use Rattle.jffs_run.specs.Crew.{HasFinished, HasHandedIn, IsFit, crew_hands}
+use Rattle.jffs_run.specs.Crew.{HasFinished, HasHandedIn, IsFit}
 use Rattle.jffs_run.specs.Numbered.{numbered}
 use Rattle.jffs_run.specs.Why.{IsOfThreads}
 use Rattle.jffs_run.proofs.Crews.{same_ends}

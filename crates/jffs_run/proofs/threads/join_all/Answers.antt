@@ -1,4 +1,4 @@
-use Rattle.std.proofs.Common.{rules, refl, ◌≡◌, inl, inr, ℕ, List, [], length, sym, ◌∙◌, ap, subst, ◌∷◌, IsTrue, arith}
+use Rattle.std.proofs.Common.{rules, inl, inr, ℕ, List, [], length, sym, ◌∙◌, ap, subst, ◌∷◌, IsTrue, arith}
 use Rattle.jffs_text.specs.declared.script.Writer.{Writer}
 use Rattle.jffs_text.specs.declared.script.ReaderStatement.{ReaderStatement}
 use Rattle.jffs_core.specs.declared.answer.Answer.{Answer}

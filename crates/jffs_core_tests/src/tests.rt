@@ -10,6 +10,7 @@ mod metered;
 mod refusals;
 mod session;
 mod sweeps;
+mod unchanged;
 mod wear;
 mod wishes;
 mod work;

@@ -53,7 +53,7 @@ fn copies_never_clean(rt: HostRuntime) -> Result<(), Fail> {
 }
 
 /// The node of this version is copied, with the next one.
-fn copies_again(
+pub(super) fn copies_again(
     rt: &impl Abort,
     session: &mut Session<MemoryFlash>,
     source: u32,

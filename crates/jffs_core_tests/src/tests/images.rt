@@ -80,3 +80,17 @@ pub(super) fn image_of_old_form(alloc: Global) -> Result<Vec<u8>, AllocError> {
 pub(super) fn image_of_last_version(alloc: Global) -> Result<Vec<u8>, AllocError> {
     image_of(alloc, 6, &[(0, LAST.as_slice()), (45, [0; 19].as_slice())])
 }
+
+/// A volume of 6 sectors of 1024 bytes with a directory of the last inode, and of version 1.
+pub(super) fn image_of_last_inode(alloc: Global) -> Result<Vec<u8>, AllocError> {
+    image_of(
+        alloc,
+        6,
+        &[
+            (8, [0xFF; 4].as_slice()),
+            (16, [0, 0, 0, 1].as_slice()),
+            (0, LAST.as_slice()),
+            (45, [0; 19].as_slice()),
+        ],
+    )
+}

@@ -4,6 +4,7 @@
 use crate::reading::{InputFault, Unread};
 use jffs_file::FileFault;
 use jffs_flash::FlashNew;
+use jffs_log::ScanWhy;
 use jffs_run::RunWhy;
 use jffs_text::{DumpFault, ScriptMistake};
 use std::io;
@@ -25,10 +26,30 @@ pub(crate) enum Fault<'a> {
     Script(ScriptMistake),
     /// The script's file can't be read: no line, status 2, or 1 for want of memory.
     #[error("{path}: {why}")]
-    NoScript { path: &'a str, why: Unread },
+    NoScript {
+        path: &'a str,
+        why: Unread,
+    },
     /// There is no flash in the volume's file: no line, status 1.
     #[error("{path}: {why}")]
-    NoFlash { path: &'a str, why: FileFault },
+    NoFlash {
+        path: &'a str,
+        why: FileFault,
+    },
+    /// The volume's file isn't as long as the script's sectors together: no line, status 1.
+    #[error("{path}: the file has {found} bytes, and the script's sectors have {wanted} together")]
+    OtherLength {
+        path: &'a str,
+        found: u64,
+        wanted: u64,
+    },
+    /// There is no volume in the file: the line `fault: Mount`, status 1.
+    #[error("{path}: no volume, {name}: {why}")]
+    NoVolume {
+        path: &'a str,
+        name: &'static str,
+        why: ScanWhy,
+    },
     /// The line `fault: WHY`, status 1.
     #[error("{}", .0.text())]
     Broken(Why),
@@ -47,6 +68,9 @@ pub(crate) enum Why {
     Geometry,
     #[error("Scan")]
     Scan,
+    /// The volume can't be mounted, for this reason.
+    #[error("Mount")]
+    Mount(ScanWhy),
     #[error("{0}")]
     Run(RunWhy),
 }
@@ -60,7 +84,7 @@ impl Why {
             Why::Memory | Why::Run(RunWhy::Memory) => "out of memory",
             Why::Geometry => "a volume may not have so many sectors of this size",
             Why::Scan => "what the run left on the flash is no volume, or can't be read",
-            Why::Run(RunWhy::Mount) => "the volume can't be mounted: jffs_image says why",
+            Why::Mount(_) | Why::Run(RunWhy::Mount) => "the volume can't be mounted",
             Why::Run(RunWhy::Line) => "the line of requests can't be made",
             Why::Run(RunWhy::Index) => "the index that readers look into can't be made",
             Why::Run(RunWhy::Spawn) => "a thread can't be started",
@@ -70,6 +94,18 @@ impl Why {
 }
 
 impl<'a> Fault<'a> {
+    /// Why a run on the volume in a file was given up.
+    pub(crate) fn on_file(path: &'a str, why: Why) -> Fault<'a> {
+        match why {
+            Why::Mount(why) => Fault::NoVolume {
+                path,
+                name: refusal_name(why),
+                why,
+            },
+            why => Fault::Broken(why),
+        }
+    }
+
     /// The exit status.
     fn status(self) -> u8 {
         match self {
@@ -78,7 +114,10 @@ impl<'a> Fault<'a> {
                 ..
             } => BROKEN,
             Fault::Script(_) | Fault::NoScript { .. } => REFUSED,
-            Fault::NoFlash { .. } | Fault::Broken(_) => BROKEN,
+            Fault::NoFlash { .. }
+            | Fault::OtherLength { .. }
+            | Fault::NoVolume { .. }
+            | Fault::Broken(_) => { BROKEN },
         }
     }
 
@@ -86,8 +125,9 @@ impl<'a> Fault<'a> {
     fn print<W: Write>(self, out: &mut W) -> io::Result<()> {
         match self {
             Fault::Script(mistake) => writeln!(out, "{}", mistake.fault)?,
+            Fault::NoVolume { why, .. } => writeln!(out, "fault: {}", Why::Mount(why))?,
             Fault::Broken(why) => writeln!(out, "fault: {why}")?,
-            Fault::NoScript { .. } | Fault::NoFlash { .. } => {}
+            Fault::NoScript { .. } | Fault::NoFlash { .. } | Fault::OtherLength { .. } => {}
         }
         out.flush()
     }
@@ -107,6 +147,20 @@ pub(crate) fn status_of<W: Write, E: Write>(
             let _ = fault.print(out);
             fault.status()
         }
+    }
+}
+
+/// The name of a refusal, as the format's page and the tools have it.
+fn refusal_name(why: ScanWhy) -> &'static str {
+    match why {
+        ScanWhy::Geometry => "Geometry",
+        ScanWhy::Device => "Device",
+        ScanWhy::BadRecord { .. } => "BadRecord",
+        ScanWhy::NoErased => "NoErased",
+        ScanWhy::Scattered => "Scattered",
+        ScanWhy::BadOrder => "BadOrder",
+        ScanWhy::BadTree => "BadTree",
+        ScanWhy::Memory => "Memory",
     }
 }
 

@@ -25,12 +25,24 @@ Runs the script in the file SCRIPT, or the one on standard input, in threads, an
 of each request, and the tree that a scan finds after the run. With --volume the volume stays in the
 file VOLUME, which is made where there is none; else it stands in memory.
 
+A script begins with the volume: 6 to 64 sectors S of 1024, 2048, 4096, 8192 or 16384 bytes Z.
+  volume S Z
+  line shared C | line rings C     how requests wait: C is 1 to 256
+  cleaner N                        a cleaner, for 1 to 1000000 rounds
+  reader W N PATH                  reads PATH once request N of writer W is answered
+Each of 1 to 8 writers then has its commands, at most 4096:
+  writer
+  mkdir PATH | create PATH | write PATH OFFSET HEX | fill PATH OFFSET COUNT HH
+  truncate PATH SIZE | rename PATH PATH | remove PATH
+A write has at most Z / 4 - 64 bytes, a file 1048576, a name 20, and a path 8 names.
+
   printf '%s\\n' 'volume 8 1024' writer 'create /f' 'write /f 0 68656c6c6f' > hello.script
   jffs hello.script
   jffs --volume notes.image < hello.script
 
 Status: 0; 1 after a fault of memory, a stream, a thread or the volume's file; 2 after a wrong call,
 and where the script is refused or its file can't be read. A line on standard error says why.
+docs/SCRIPT.md has more.
 ",
     option: Some("--volume"),
     options: "--volume VOLUME, --help and --version",
@@ -136,12 +148,11 @@ fn run_script<'a, Rt: AllocGlobal + Files<File: Send> + Threads + Wait + Sync, W
         run_in_memory(rt, script, out)?;
         return Ok(());
     };
-    let flash = match flash_in(rt, path, script.sectors, script.sector_size) {
-        Ok(flash) => flash,
-        Err(why) => return Err(Fault::NoFlash { path, why }),
-    };
-    run_on(rt, script, flash, out)?;
-    Ok(())
+    let flash = flash_in(rt, path, script.sectors, script.sector_size)?;
+    match run_on(rt, script, flash, out) {
+        Ok(()) => Ok(()),
+        Err(why) => Err(Fault::on_file(path, why)),
+    }
 }
 
 /// Runs a script on erased flash in memory.
@@ -154,18 +165,31 @@ fn run_in_memory<Rt: AllocGlobal + Threads + Wait + Sync, W: Write>(
     run_on(rt, script, flash, out)
 }
 
-/// The flash in a file, which is made, erased, where there is none.
-fn flash_in<Rt: AllocGlobal + Files>(
+/// The flash in a file, which is made, erased, where there is none. `NoFlash` or `OtherLength`
+/// where the file can't be used.
+fn flash_in<'a, Rt: AllocGlobal + Files>(
     rt: &Rt,
-    path: &str,
+    path: &'a str,
     sectors: u32,
     sector_size: u32,
-) -> Result<FileFlash<FileStore<Rt::File>>, FileFault> {
-    let image = match open_image(rt, path) {
+) -> Result<FileFlash<FileStore<Rt::File>>, Fault<'a>> {
+    let opened = match open_image(rt, path) {
         Err(FileFault::Missing) => create_image(rt, path, sectors, sector_size),
         opened => opened,
     };
-    image?.into_flash(sectors, sector_size)
+    let image = match opened {
+        Ok(image) => image,
+        Err(why) => return Err(Fault::NoFlash { path, why }),
+    };
+    let found = image.bytes().len() as u64;
+    match image.into_flash(sectors, sector_size) {
+        Ok(flash) => Ok(flash),
+        Err(_) => Err(Fault::OtherLength {
+            path,
+            found,
+            wanted: u64::from(sectors) * u64::from(sector_size),
+        }),
+    }
 }
 
 /// What a run came to, and what a scan finds after it.
@@ -250,7 +274,10 @@ fn run_in<'s, E, Rt: AllocGlobal + Threads + Wait + Sync, F: Flash + Send + Drop
     flash: F,
 ) -> Result<Run<F>, Why> {
     let started = scope.spawn(move || -> Result<Run<F>, Why> {
-        run_threads(rt, rt.alloc(), script, flash, &NoGate).map_err(run_fault)
+        match run_threads(rt, rt.alloc(), script, flash, &NoGate) {
+            Ok(run) => Ok(run),
+            Err(fault) => Err(run_fault(rt.alloc(), fault)),
+        }
     });
     match started {
         Ok(handle) => handle.join(rt),
@@ -272,8 +299,18 @@ fn script_of<'a, 't>(alloc: Global, text: &'t [u8]) -> Result<Script<'t>, Fault<
     }
 }
 
-fn run_fault<F: Drop>(fault: RunFault<F>) -> Why {
-    Why::Run(fault.why)
+/// Why a run was given up. A volume that can't be mounted is scanned once more, for the reason.
+fn run_fault<F: Flash + Drop>(alloc: Global, fault: RunFault<F>) -> Why {
+    match fault {
+        RunFault {
+            why: RunWhy::Mount,
+            flash: Some(flash),
+        } => match scan(alloc, flash) {
+            Err(ScanFault { why, flash: _ }) => Why::Mount(why),
+            Ok(_) => Why::Run(RunWhy::Mount),
+        },
+        RunFault { why, flash: _ } => Why::Run(why),
+    }
 }
 
 fn scan_fault<F: Drop>(_: ScanFault<F>) -> Why {

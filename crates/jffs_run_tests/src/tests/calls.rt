@@ -132,7 +132,15 @@ fn a_call_that_is_wrong_is_told_of(rt: HostRuntime) -> Result<(), Fail> {
                 SCRIPT,
                 1,
                 "",
-                "jffs: w.script: the file has another length than the sectors together\n",
+                "jffs: w.script: the file has 31 bytes, and the script's sectors have 6144 \
+                together\n",
+            ),
+            (
+                "w.script --help",
+                SCRIPT,
+                2,
+                "",
+                "jffs: unexpected word 'w.script' beside '--help', which stands alone\n",
             ),
         ],
     )?;
@@ -150,7 +158,8 @@ fn a_file_without_volume_is_told_of(rt: HostRuntime) -> Result<(), Fail> {
             SCRIPT,
             1,
             "fault: Mount\n",
-            "jffs: the volume can't be mounted: jffs_image says why\n",
+            "jffs: zero.image: no volume, BadRecord: the record at byte 0 of sector 0 is bad: \
+            Magic\n",
         )],
     )?;
     fs::remove_file(&rt, "zero.image")?;
@@ -223,7 +232,7 @@ fn a_program_goes_on_with_the_volume_in_its_file(rt: HostRuntime) -> Result<(), 
             "volume 8 1024\n",
             1,
             "",
-            "jffs: p.image: the file has another length than the sectors together\n",
+            "jffs: p.image: the file has 6144 bytes, and the script's sectors have 8192 together\n",
         ),
     ] {
         let mut input = script.as_bytes();

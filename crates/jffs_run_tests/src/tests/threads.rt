@@ -151,7 +151,7 @@ fn a_run_without_an_index_gives_its_device_back(rt: HostRuntime) -> Result<(), F
         script.readers.push(ReaderStatement {
             writer: 1,
             seq: 1,
-            path: Path::parse(rt.alloc(), b"/f")?,
+            path: Path::parse(rt.alloc(), "/f")?,
         })?;
     }
     is_given_up(&rt, &script, RunWhy::Index)

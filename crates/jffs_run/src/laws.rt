@@ -91,9 +91,9 @@ pub fn readers_see_answers()
 /// A scan after `run_threads` finds what a scan before it found, with the granted requests done, in
 /// the order of their answers and in words of files and directories, and nothing else; and so does
 /// a scan of the device as it is with any one answer that tells of no failure, of those up to
-/// there, whatever becomes of the device later. Where the device
-/// failed, but not in an erase, the request that was answered Device may be done besides. A new
-/// entry never takes the place of another.
+/// there, whatever becomes of the device later. Where the device failed, but not in an erase, the
+/// request that was answered Device may be done besides. A new entry never takes the place of
+/// another.
 pub fn granted_is_done()
     ensures works { GrantedIsDone }
     ensures each { EachIsDone }

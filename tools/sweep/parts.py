@@ -22,7 +22,7 @@ STEADFAST = re.compile(r"jffs_(flash|node|tree)_tests |jffs_line_tests (?!tests:
 NEED_THREADS = re.compile(r"jffs_line_tests tests::(a_taker_asleep|an_unmount_asleep|eight_writers_hand_in)_")
 # Where an assertion of a test's own has stopped it.
 STOPPED = re.compile(r"test stopped at src/\w*tests[./]")
-GAVE_UP = re.compile(r"\Aerror: [^\n]*(memory|AllocError)[^\n]*\nthe test failed: its result", re.IGNORECASE)
+GAVE_UP = re.compile(r"\Aerror: [^\n]*(memory|AllocError|AllocFailed)[^\n]*\nthe test failed: its result", re.IGNORECASE)
 FUSES = [(which, what) for which in ("Writes", "All") for what in ("Nothing", "Half")]
 MOST_CALLS = 5000
 
@@ -103,7 +103,7 @@ def jffs_scripts(runner):
             return runner.run([program], text, at=at, limit=limit)
 
         def judge(ran, script=script):
-            return ran.crash() or why_wrong(script_judge.judge, script, ran.status, ran.out, ran.refused)
+            return ran.crash() or why_wrong(script_judge.judge, script, ran.status, ran.out, ran.refused, True)
         subjects.append(("jffs", name, run, judge))
     return subjects
 

@@ -36,6 +36,8 @@ fn cleaned_slowly<R: Threads + Wait + Sync + Clock>(
 ) -> Result<CleanerEnd, Fail> {
     let (_publisher, mut reader) = index(rt, alloc, tree)?;
     let Ends { hands, mut taker } = shared_line(rt, alloc, 1, 0)?;
+    // Only the cleaner's hand is left: so the taker ends also where both run in one thread.
+    drop(hands.control);
     let mut hand = hands.cleaner;
     let mut jobs = jobs;
     let (end, _) = thread::join(

@@ -11,6 +11,7 @@ mod refusals;
 mod session;
 mod sweeps;
 mod unchanged;
+mod versions;
 mod wear;
 mod wishes;
 mod work;

@@ -18,7 +18,7 @@ pub const GATE_CLOSED: u8 = 0x00;
 pub const ERASED: u8 = 0xFF;
 
 /// The length of a record is a multiple of this many bytes.
-pub const RECORD_ALIGN: u32 = 4;
+pub(crate) const RECORD_ALIGN: u32 = 4;
 
 /// The first bytes of each record.
 pub(crate) const MAGIC: [u8; 4] = [0x4A, 0x46, 0x46, 0x31];

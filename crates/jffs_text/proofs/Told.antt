@@ -14,7 +14,7 @@ use Rattle.jffs_tree.specs.After.{held_in}
 use Rattle.jffs_tree.specs.Look.{bytes_in, size_of, names_in, children, name_cmp}
 use Rattle.jffs_tree.proofs.Looked.{bytes_told}
 use Rattle.jffs_text.specs.Added.{IsBegun}
-use Rattle.jffs_text.specs.Dump.{hex, shown_bytes, size_text, directory_line, file_line, path_of, name_text, by_name, below}
+use Rattle.jffs_text.specs.Dump.{hex, shown_bytes, size_text, directory_line, file_line, extended_path, name_text, by_name, below}
 use Rattle.jffs_text.proofs.Adding.{begun_then, begun_more, begun_as, added_as}
 use Rattle.jffs_text.proofs.Hex.{part_told, part_begun}
 use Rattle.jffs_text.proofs.InOrder.{in_order}
@@ -52,10 +52,10 @@ module _ (bytes : List ℕ) (o n : ℕ) (behind chunk : List ℕ) (read : chunk 
 
 -- The text of one name.
 module _ (s : State) (deeper : List ℕ → ℕ → List ℕ) (above : List ℕ) (a : List ℕ × ℕ) where
-  pub text_of_directory : is_directory_in s a.1 ≡ true → name_text s deeper above a ≡ directory_line (path_of above a.0) ++ deeper (path_of above a.0) a.1
+  pub text_of_directory : is_directory_in s a.1 ≡ true → name_text s deeper above a ≡ directory_line (extended_path above a.0) ++ deeper (extended_path above a.0) a.1
   text_of_directory here = cond-true _ _ _ here
 
-  pub text_of_file : is_directory_in s a.1 ≡ false → name_text s deeper above a ≡ file_line (path_of above a.0) (bytes_of (at s a.1))
+  pub text_of_file : is_directory_in s a.1 ≡ false → name_text s deeper above a ≡ file_line (extended_path above a.0) (bytes_of (at s a.1))
   text_of_file here = cond-false _ _ _ here
 
 pub below_none : (s : State) (above : List ℕ) (i : ℕ) → below 0 s above i ≡ []
@@ -77,7 +77,7 @@ module _ (tree : Tree) (levels : ℕ) (path : List ℕ) (i : ℕ) (names items :
       ∙ sym (below_some levels (state_in tree) path i some)
 
 -- What is written of one name.
-module _ (s : State) (deeper : List ℕ → ℕ → List ℕ) (above : List ℕ) (a : List ℕ × ℕ) (path : List ℕ) (is : path ≡ path_of above a.0) (x y : Option (List ℕ)) where
+module _ (s : State) (deeper : List ℕ → ℕ → List ℕ) (above : List ℕ) (a : List ℕ × ℕ) (path : List ℕ) (is : path ≡ extended_path above a.0) (x y : Option (List ℕ)) where
   directory_is : is_directory_in s a.1 ≡ true → directory_line path ++ deeper path a.1 ≡ name_text s deeper above a
   directory_is here = ap (λ p. directory_line p ++ deeper p a.1) is ∙ sym (text_of_directory s deeper above a here)
 
@@ -101,5 +101,5 @@ module _ (s : State) (deeper : List ℕ → ℕ → List ℕ) (above : List ℕ)
     directory_told k = added_as x z _ _ (directory_is here) (Appends-trans x y z (directory_line path) (deeper path a.1) h k)
 
 -- the path of a name, cut back to its directory's
-pub cut_back : (n : ℕ) (above path name : List ℕ) → n ≡ length above → path ≡ path_of above name → take n path ≡ above
-cut_back n above path name long is = ap (λ l. take n l) is ∙ ap (λ m. take m (path_of above name)) long ∙ take-append_seam above (codes "/" ++ name)
+pub cut_back : (n : ℕ) (above path name : List ℕ) → n ≡ length above → path ≡ extended_path above name → take n path ≡ above
+cut_back n above path name long is = ap (λ l. take n l) is ∙ ap (λ m. take m (extended_path above name)) long ∙ take-append_seam above (codes "/" ++ name)

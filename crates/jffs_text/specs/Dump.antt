@@ -43,14 +43,15 @@ abbrev pub by_name : List (List ℕ × ℕ) → List (List ℕ × ℕ)
 by_name [] = []
 by_name (a ∷ names) = put_by_name a (by_name names)
 
-abbrev pub path_of : List ℕ → List ℕ → List ℕ
-path_of above name = above ++ (codes "/" ++ name)
+-- the path of a name in the directory whose path is `above`
+abbrev pub extended_path : List ℕ → List ℕ → List ℕ
+extended_path above name = above ++ (codes "/" ++ name)
 
 -- The text of one name and its inode, in the directory whose path is `above`; `deeper` gives what
 -- stands below a directory.
 abbrev pub name_text : State → (List ℕ → ℕ → List ℕ) → List ℕ → (List ℕ × ℕ) → List ℕ
 name_text s deeper above a =
-    let path = path_of above a.0 in
+    let path = extended_path above a.0 in
     if is_directory_in s a.1 then directory_line path ++ deeper path a.1
     else file_line path (bytes_of (at s a.1))
 

@@ -7,7 +7,7 @@ ghost use Rattle.jffs_tree.specs.Origin.{state_in};
 ghost use Rattle.jffs_tree.specs.Look.{bytes_in};
 ghost use Rattle.jffs_text.specs.Added.{IsBegun};
 ghost use Rattle.jffs_text.specs.Dump.{hex, hex_digit as digit_of, shown_bytes, directory_line};
-ghost use Rattle.jffs_text.specs.Dump.{file_line, path_of, below, dump_text};
+ghost use Rattle.jffs_text.specs.Dump.{file_line, extended_path, below, dump_text};
 
 use jffs_node::{Name, NoMemory, PATH_DEPTH_MAX, ROOT_INODE};
 use jffs_tree::Tree;
@@ -104,7 +104,7 @@ fn dump_names<W: Write>(
 }
 
 fn push_name(path: &mut Vec<u8>, name: &Name) -> Result<(), AllocError>
-    ensures { OnOk result (path.new.items ≡ path_of path.old.items name.now) }
+    ensures { OnOk result (path.new.items ≡ extended_path path.old.items name.now) }
 {
     path.push(b'/')?;
     path.extend_from_slice(name.bytes())

@@ -11,7 +11,7 @@ use Rattle.std.proofs.lemmas.List.{append-nil}
 use Rattle.jffs_node.specs.declared.node.Node.{Node}
 use Rattle.jffs_node.specs.Record.{dsize, file_max}
 use Rattle.jffs_tree.specs.declared.fragment.Fragment.{Fragment}
-use Rattle.jffs_tree.specs.Fragments.{Fragments, end_of, AreLaid, FitsFile, IsFileAfter, before, overwritten, fragment_of}
+use Rattle.jffs_tree.specs.Fragments.{Fragments, end_of, AreLaid, FitsFile, IsFileAfter, before, with_node_data, fragment_of}
 use Rattle.jffs_tree.proofs.Fragments.{laid_bound, all_before, none_from}
 use Rattle.jffs_tree.proofs.Splitting.{cut_past}
 use Rattle.jffs_tree.proofs.Taking.{none_within}
@@ -34,7 +34,7 @@ all_early at size s q (e ∷ es) h l =
     (inl (omega arith), all_early (end_of e) size s q es h.2 l)
 
 module _ (n : Node) (size : ℕ) (es now : Fragments) (h : AreLaid 0 size es) (fits : FitsFile n size) (past : size ≤ n.offset) (is : now ≡ es ++ fragment_of n) where
-  behind : (end : ℕ) → size ≤ end → now ≡ overwritten end n es
+  behind : (end : ℕ) → size ≤ end → now ≡ with_node_data end n es
   behind end l =
       is
       ∙ ap (λ x. x ++ fragment_of n) (sym (all_before 0 size n.offset es h past))

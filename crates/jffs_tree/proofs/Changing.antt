@@ -1,7 +1,7 @@
 -- Nodes that change an inode, make one or remove one, as decisions give them.
 use Rattle.std.proofs.Common.{◌≡◌, ℕ, min, max, ◌+◌, ◌-◌, ◌<◌, ◌≤◌, ◌^◌, Bool, true, false, cond, not, ◌&&◌, eqb, ltb, List, [], ◌∷◌, length, take, drop, get_or, ◌⊎◌, inl, inr, ⊎_elim, Option, Some, None, refl, sym, ap, subst, ◌∙◌, arith}
 use Rattle.std.specs.List.{AllByRecursion, list_all, list_any}
-use Rattle.std.proofs.lemmas.Bool.{eqb-true, eqb-false, and_parts, cases_Bool, cases_lt, both_ways, not-true, not-false}
+use Rattle.std.proofs.lemmas.Bool.{eqb-true, eqb-false, and_parts, cases_Bool, cases_lt, both_ways, not-false}
 use Rattle.std.proofs.lemmas.List.{get_or_past, get_or-take, get_or-drop, length-take, length-drop}
 use Rattle.jffs_node.specs.declared.node.Node.{Node}
 use Rattle.jffs_node.specs.declared.node.Kind.{Kind}
@@ -12,7 +12,7 @@ use Rattle.jffs_tree.specs.declared.wish.NewNode.{NewNode}
 use Rattle.jffs_tree.specs.State.{Entry, at, bytes_of, child, is_directory_in, state_of_past}
 use Rattle.jffs_tree.specs.Origin.{concerns, entry, size_in, stated_size, tree_of}
 use Rattle.jffs_tree.specs.Check.{each_fits, is_within, check}
-use Rattle.jffs_tree.specs.Decide.{plain, write_node, truncate_node, copy_node, is_empty, with}
+use Rattle.jffs_tree.specs.Decide.{plain, write_node, truncate_node, copy_node, has_names, with}
 use Rattle.jffs_tree.specs.Deciding.{IsLawfulPast, AreNumbers, IsNewInode}
 use Rattle.jffs_tree.proofs.Pointwise.{at-state}
 use Rattle.jffs_tree.proofs.Steps.{its_inode, entry-other}
@@ -167,9 +167,10 @@ module _ (past : List Node) (before : IsLawfulPast past) (version writer seq : �
         (its i e is).kind)
 
     -- Remove.
-    pub remove_keeps : is_empty (state_of_past past) i ≡ true → Keeps (record (plain i e) { deleted = true; size = None })
-    remove_keeps empty =
+    pub remove_keeps : has_names (state_of_past past) i ≡ false → Keeps (record (plain i e) { deleted = true; size = None })
+    remove_keeps bare =
         let l = its i e is in
+        let under : ℕ × Entry → Bool = λ x. eqb x.1.parent i in
         gone_keeps_past past (with (record (plain i e) { deleted = true; size = None }) version writer seq)
         (record {
           numbers = v;
@@ -188,7 +189,9 @@ module _ (past : List Node) (before : IsLawfulPast past) (version writer seq : �
           size = refl;
           bytes = refl;
           empty = λ j f there parent.
-              absurd (eqb-false f.parent i (none_at (λ x. eqb x.1.parent i) (state_of_past past) j f (not-true (list_any (λ (x : ℕ × Entry). eqb x.1.parent i) (state_of_past past)) empty) there) (sym parent));
+              let directory : is_directory_in (state_of_past past) i ≡ true = ap (is_directory_in (state_of_past past)) parent ∙ old.parents j f there in
+              let none : list_any under (state_of_past past) ≡ false = sym (ap (λ b. b && list_any under (state_of_past past)) directory) ∙ bare in
+              absurd (eqb-false f.parent i (none_at under (state_of_past past) j f none there) (sym parent));
         })
         before
 

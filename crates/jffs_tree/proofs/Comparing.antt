@@ -8,13 +8,13 @@ use Rattle.std.proofs.lemmas.Slice.Eq.{bytes_eq-Decides}
 use Rattle.jffs_tree.specs.declared.inode.Inode.TheInside.{Inside}
 use Rattle.jffs_tree.specs.State.{Entry}
 use Rattle.jffs_tree.specs.Origin.{Held}
-use Rattle.jffs_tree.specs.Shown.{held_of, IsKept}
+use Rattle.jffs_tree.specs.Shown.{held_of, IsLaidOut}
 use Rattle.jffs_tree.specs.Fragments.{laid, byte_of}
 use Rattle.jffs_tree.specs.Decide.{is_current}
 use Rattle.jffs_tree.proofs.Fragments.{length-laid}
 
 -- An inode's size is the number of its bytes.
-pub size_is : (a : Inside) (h : Held) → IsKept a → held_of a ≡ h → a.size ≡ length h.entry.bytes
+pub size_is : (a : Inside) (h : Held) → IsLaidOut a → held_of a ≡ h → a.size ≡ length h.entry.bytes
 size_is a h kept seen =
     let n = length-laid 0 a.size a.fragments.entries kept.laid in
     let m = length-map (laid 0 a.size a.fragments.entries) byte_of in

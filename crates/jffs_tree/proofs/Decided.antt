@@ -18,7 +18,7 @@ use Rattle.jffs_tree.specs.declared.wish.Wish.TheVariants.{MakeDir, Create, Writ
 use Rattle.jffs_tree.specs.State.{Entry, State, at, resolve, is_directory_in, state_of_past}
 use Rattle.jffs_tree.specs.Origin.{Held, entry, holder, tree_of}
 use Rattle.jffs_tree.specs.Check.{each_fits, check}
-use Rattle.jffs_tree.specs.Decide.{unless, is_root, last_name, parent_in, has_parent, is_there, inode_at, is_empty, nobody, entry_of, plain, write_node, truncate_node, copy_node, unmount_node, is_current, held_entry, held_inode, decide_copy, decide_new, decide, with}
+use Rattle.jffs_tree.specs.Decide.{unless, is_root, last_name, parent_in, has_parent, is_there, inode_at, has_names, nobody, entry_of, plain, write_node, truncate_node, copy_node, unmount_node, is_current, held_entry, held_inode, decide_copy, decide_new, decide, with}
 use Rattle.jffs_node.specs.Path.{IsPath}
 use Rattle.jffs_tree.specs.Deciding.{IsLawfulPast, AreNumbers, IsNewInode, AreLimitsOf, IsWish, DecidedNodesKeepRules, CleaningCopiesKeepRules}
 use Rattle.jffs_tree.proofs.Pointwise.{at-state, sorted-state}
@@ -173,11 +173,11 @@ module _ (past : List Node) (limits : Limits) (version writer seq : ℕ) (before
       let passed = all_passed (
       (is_root path, RootFixed)
       ∷ (not (is_there s path), NotFound)
-      ∷ (not (is_empty s i), NotEmpty)
+      ∷ (has_names s i, NotEmpty)
       ∷ (is_none limits.next_version, VersionsSpent)
       ∷ []) (record (plain i (entry_of s i)) { deleted = true; size = None }) n is in
       let there = below_root s path (not-false _ passed.0.1.0) passed.0.0 in
-      subst Good passed.1 (remove_keeps past before version writer seq v i (entry_of s i) there (not-false _ passed.0.1.1.0), omega arith)
+      subst Good passed.1 (remove_keeps past before version writer seq v i (entry_of s i) there passed.0.1.1.0, omega arith)
 
   -- MakeDir and Create
   module _ (path : List (List ℕ)) (names : IsPath path) (fresh : AreLimitsOf past limits) where

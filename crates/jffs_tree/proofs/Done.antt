@@ -15,7 +15,7 @@ use Rattle.jffs_tree.specs.declared.wish.Wish.{Wish}
 use Rattle.jffs_tree.specs.declared.wish.Wish.TheVariants.{MakeDir, Create, Write, Truncate, Rename, Remove, Copy, Unmount}
 use Rattle.jffs_tree.specs.State.{Entry, State, at, apply, sized, written, resolve, is_directory_in, state_of_past}
 use Rattle.jffs_tree.specs.Origin.{stated_size}
-use Rattle.jffs_tree.specs.Decide.{is_root, last_name, parent_in, has_parent, is_there, inode_at, is_empty, entry_of, plain, write_node, truncate_node, unmount_node, decide_new, decide, with}
+use Rattle.jffs_tree.specs.Decide.{is_root, last_name, parent_in, has_parent, is_there, inode_at, has_names, entry_of, plain, write_node, truncate_node, unmount_node, decide_new, decide, with}
 use Rattle.jffs_tree.specs.Deciding.{AreLimitsOf}
 use Rattle.jffs_tree.specs.Done.{resized, with_new, with_changed, without, done_at, done, DecidedIsDone, NewInodesAreFree}
 use Rattle.jffs_tree.proofs.Pointwise.{at-state}
@@ -250,7 +250,7 @@ module _ (past : List Node) (limits : Limits) (version writer seq : ℕ) where
       let passed = all_passed (
       (is_root path, RootFixed)
       ∷ (not (is_there s path), NotFound)
-      ∷ (not (is_empty s i), NotEmpty)
+      ∷ (has_names s i, NotEmpty)
       ∷ (is_none limits.next_version, VersionsSpent)
       ∷ []) gone n is in
       let leads = not-false (is_there s path) passed.0.1.0 in

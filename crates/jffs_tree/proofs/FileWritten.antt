@@ -8,7 +8,7 @@ use Rattle.jffs_node.specs.Record.{dsize, file_max}
 use Rattle.jffs_node.proofs.Each.{each_append}
 use Rattle.jffs_tree.specs.declared.fragment.Fragment.{Fragment}
 use Rattle.jffs_tree.specs.After.{padded_with, spliced_with, sized_with}
-use Rattle.jffs_tree.specs.Fragments.{Fragments, Cell, end_of, laid, AreLaid, AreCut, FitsFile, IsFileAfter, SameCells, before, from, outside, overwritten, fragment_of}
+use Rattle.jffs_tree.specs.Fragments.{Fragments, Cell, end_of, laid, AreLaid, AreCut, FitsFile, IsFileAfter, SameCells, before, from, outside, with_node_data, fragment_of}
 use Rattle.jffs_tree.proofs.Fragments.{laid_from_earlier, are_laid_append, laid_append, length-laid, all_before, none_from, parted, front_cells, back_cells}
 use Rattle.jffs_tree.proofs.Overwriting.{outside_parts}
 use Rattle.jffs_tree.proofs.SameCells.{same_cells}
@@ -57,11 +57,11 @@ module _ (n : Node) (size end after : ℕ) (es : Fragments) (h : AreLaid 0 size 
       ∙ ap (λ k. replicate {A = Cell} k None ++ (node_cells n ++ laid (n.offset + dsize n) after (from end es))) gap)
       (cases_Bool (eqb (dsize n) 0))
 
-  pub overwritten_laid : AreLaid 0 after (overwritten end n es)
-  overwritten_laid = are_laid_append 0 n.offset after (before n.offset es) (fragment_of n ++ from end es) front middle
+  pub node_data_laid : AreLaid 0 after (with_node_data end n es)
+  node_data_laid = are_laid_append 0 n.offset after (before n.offset es) (fragment_of n ++ from end es) front middle
 
-  pub overwritten_cells : laid 0 after (overwritten end n es) ≡ spliced_with None n.offset n.rsize (node_cells n) (laid 0 size es)
-  overwritten_cells =
+  pub node_data_cells : laid 0 after (with_node_data end n es) ≡ spliced_with None n.offset n.rsize (node_cells n) (laid 0 size es)
+  node_data_cells =
       let f = front_cells size n.offset es h cut in
       laid_append 0 n.offset after (before n.offset es) (fragment_of n ++ from end es) front middle
       ∙ ap (λ x. laid 0 n.offset (before n.offset es) ++ x) (middle_cells ∙ ap (λ x. node_cells n ++ x) rest)
@@ -120,8 +120,8 @@ module _ (n : Node) (size : ℕ) (es : Fragments) (h : AreLaid 0 size es) (small
       ∙ sym (drop_past (n.offset + n.rsize) (padded_with None n.offset (laid 0 size es)) (omega arith))
 
 -- The data don't reach across the size that the node states.
-pub cut_overwritten : (s end : ℕ) (n : Node) (es : Fragments) → AreCut s es → n.offset + dsize n ≤ s → AreCut s (overwritten end n es)
-cut_overwritten s end n es h l =
+pub cut_with_node_data : (s end : ℕ) (n : Node) (es : Fragments) → AreCut s es → n.offset + dsize n ≤ s → AreCut s (with_node_data end n es)
+cut_with_node_data s end n es h l =
     each_append (λ e. (end_of e ≤ s) ⊎ (s ≤ e.0)) (before n.offset es) (fragment_of n ++ from end es) (cut_filtered s _ es h)
     (each_append (λ e. (end_of e ≤ s) ⊎ (s ≤ e.0)) (fragment_of n) (from end es) (by_test (eqb (dsize n) 0)) (cut_filtered s _ es h))
   where
@@ -147,19 +147,19 @@ pub record Spliced (n : Node) (size : ℕ) (es : Fragments) (after : ℕ) (now :
   pub small : after ≤ file_max
   pub cells : laid 0 after now ≡ spliced_with None n.offset n.rsize (node_cells n) (laid 0 size es)
 
-pub spliced_moving : (n : Node) (size : ℕ) (es now : Fragments) → AreLaid 0 size es → FitsFile n size → AreCut n.offset es → dsize n ≢ n.rsize → now ≡ overwritten file_max n es
+pub spliced_moving : (n : Node) (size : ℕ) (es now : Fragments) → AreLaid 0 size es → FitsFile n size → AreCut n.offset es → dsize n ≢ n.rsize → now ≡ with_node_data file_max n es
     → Spliced n size es (n.offset + dsize n) now
 spliced_moving n size es now h fits cut moves is =
     let last = fits.offsets moves in
     let back = back_gone n size es h fits.small last in
     let rest = rest_gone n size es h fits.small last in
     record {
-      ordered = subst (AreLaid 0 (n.offset + dsize n)) (sym is) (overwritten_laid n size file_max (n.offset + dsize n) es h cut back rest);
+      ordered = subst (AreLaid 0 (n.offset + dsize n)) (sym is) (node_data_laid n size file_max (n.offset + dsize n) es h cut back rest);
       small = fits.node.range;
-      cells = ap (laid 0 (n.offset + dsize n)) is ∙ overwritten_cells n size file_max (n.offset + dsize n) es h cut back rest;
+      cells = ap (laid 0 (n.offset + dsize n)) is ∙ node_data_cells n size file_max (n.offset + dsize n) es h cut back rest;
     }
 
-pub spliced_staying : (n : Node) (size : ℕ) (es now : Fragments) → AreLaid 0 size es → FitsFile n size → AreCut n.offset es → AreCut (n.offset + dsize n) es → dsize n ≡ n.rsize → now ≡ overwritten (n.offset + dsize n) n es
+pub spliced_staying : (n : Node) (size : ℕ) (es now : Fragments) → AreLaid 0 size es → FitsFile n size → AreCut n.offset es → AreCut (n.offset + dsize n) es → dsize n ≡ n.rsize → now ≡ with_node_data (n.offset + dsize n) n es
     → Spliced n size es (max (n.offset + dsize n) size) now
 spliced_staying n size es now h fits cut end same is =
     let back = back_stays n size es h same end in
@@ -168,39 +168,39 @@ spliced_staying n size es now h fits cut end same is =
     let low = fits.small in
     let range = fits.node.range in
     record {
-      ordered = subst (AreLaid 0 after) (sym is) (overwritten_laid n size (n.offset + dsize n) after es h cut back rest);
+      ordered = subst (AreLaid 0 after) (sym is) (node_data_laid n size (n.offset + dsize n) after es h cut back rest);
       small = omega arith;
-      cells = ap (laid 0 after) is ∙ overwritten_cells n size (n.offset + dsize n) after es h cut back rest;
+      cells = ap (laid 0 after) is ∙ node_data_cells n size (n.offset + dsize n) after es h cut back rest;
     }
 
 -- where the range ends: after all fragments where bytes after it would move, else after the data
 abbrev pub Ends : Node → ℕ → ℕ → Type 0
 Ends n amount end = ((amount ≢ n.rsize) × (end ≡ file_max)) ⊎ ((amount ≡ n.rsize) × (end ≡ n.offset + amount))
 
-pub spliced_either : (n : Node) (size amount end : ℕ) (es now : Fragments) → amount ≡ dsize n → Ends n amount end → AreLaid 0 size es → FitsFile n size → AreCut n.offset es → AreCut end es → now ≡ overwritten end n es
+pub spliced_either : (n : Node) (size amount end : ℕ) (es now : Fragments) → amount ≡ dsize n → Ends n amount end → AreLaid 0 size es → FitsFile n size → AreCut n.offset es → AreCut end es → now ≡ with_node_data end n es
     → (after : ℕ) × Spliced n size es after now × (after ≤ max (n.offset + dsize n) size)
 spliced_either n size amount end es now long ends h fits cut cut_end is = ⊎_elim
-    (λ moves. (n.offset + dsize n, spliced_moving n size es now h fits cut (λ same. moves.0 (long ∙ same)) (is ∙ ap (λ k. overwritten k n es) moves.1), omega arith))
+    (λ moves. (n.offset + dsize n, spliced_moving n size es now h fits cut (λ same. moves.0 (long ∙ same)) (is ∙ ap (λ k. with_node_data k n es) moves.1), omega arith))
     (λ stays.
     let at : end ≡ n.offset + dsize n = stays.1 ∙ ap (λ k. n.offset + k) long in
-    (max (n.offset + dsize n) size, spliced_staying n size es now h fits cut (subst (λ k. AreCut k es) at cut_end) (sym long ∙ stays.0) (is ∙ ap (λ k. overwritten k n es) at), omega arith))
+    (max (n.offset + dsize n) size, spliced_staying n size es now h fits cut (subst (λ k. AreCut k es) at cut_end) (sym long ∙ stays.0) (is ∙ ap (λ k. with_node_data k n es) at), omega arith))
     ends
 
-pub spliced_moved : (n : Node) (size amount end : ℕ) (es now : Fragments) → amount ≡ dsize n → Ends n amount end → amount ≢ n.rsize → AreLaid 0 size es → FitsFile n size → AreCut n.offset es → now ≡ overwritten end n es
+pub spliced_moved : (n : Node) (size amount end : ℕ) (es now : Fragments) → amount ≡ dsize n → Ends n amount end → amount ≢ n.rsize → AreLaid 0 size es → FitsFile n size → AreCut n.offset es → now ≡ with_node_data end n es
     → Spliced n size es (n.offset + amount) now
 spliced_moved n size amount end es now long ends apart h fits cut is = ⊎_elim
-    (λ moves. subst (λ k. Spliced n size es (n.offset + k) now) (sym long) (spliced_moving n size es now h fits cut (λ same. moves.0 (long ∙ same)) (is ∙ ap (λ k. overwritten k n es) moves.1)))
+    (λ moves. subst (λ k. Spliced n size es (n.offset + k) now) (sym long) (spliced_moving n size es now h fits cut (λ same. moves.0 (long ∙ same)) (is ∙ ap (λ k. with_node_data k n es) moves.1)))
     (λ stays. absurd (apart stays.0))
     ends
 
-pub spliced_stayed : (n : Node) (size amount end : ℕ) (es now : Fragments) → amount ≡ dsize n → Ends n amount end → amount ≡ n.rsize → AreLaid 0 size es → FitsFile n size → AreCut n.offset es → AreCut end es → now ≡ overwritten end n es
+pub spliced_stayed : (n : Node) (size amount end : ℕ) (es now : Fragments) → amount ≡ dsize n → Ends n amount end → amount ≡ n.rsize → AreLaid 0 size es → FitsFile n size → AreCut n.offset es → AreCut end es → now ≡ with_node_data end n es
     → Spliced n size es (max (n.offset + amount) size) now
 spliced_stayed n size amount end es now long ends same h fits cut cut_end is = ⊎_elim
     (λ moves. absurd (moves.0 same))
     (λ stays.
     let at : end ≡ n.offset + dsize n = stays.1 ∙ ap (λ k. n.offset + k) long in
     subst (λ k. Spliced n size es (max (n.offset + k) size) now) (sym long)
-    (spliced_staying n size es now h fits cut (subst (λ k. AreCut k es) at cut_end) (sym long ∙ stays.0) (is ∙ ap (λ k. overwritten k n es) at)))
+    (spliced_staying n size es now h fits cut (subst (λ k. AreCut k es) at cut_end) (sym long ∙ stays.0) (is ∙ ap (λ k. with_node_data k n es) at)))
     ends
 
 pub file_plain : (n : Node) (size after : ℕ) (was cut now : Fragments) → SameCells was cut → AreLaid 0 size was → Spliced n size cut after now → n.size ≡ None → IsFileAfter n size was after now
@@ -231,7 +231,7 @@ file_within n size after stated was cut now same h s some low long =
 
 -- Where the data stand for one fragment of their range, the rest of the file stays.
 pub file_replaced : (n : Node) (size after : ℕ) (f : Fragment) (was now : Fragments) → AreLaid 0 size was → FitsFile n size → Whole size n.offset f was → length f.bytes ≡ dsize n → dsize n ≡ n.rsize
-    → now ≡ overwritten (n.offset + dsize n) n was → after ≡ unwrap_or n.size size → size ≤ after → IsFileAfter n size was after now
+    → now ≡ with_node_data (n.offset + dsize n) n was → after ≡ unwrap_or n.size size → size ≤ after → IsFileAfter n size was after now
 file_replaced n size after f was now h fits there long same is stated grown = by_size n.size refl stated
   where
     spliced : Spliced n size was (max (n.offset + dsize n) size) now

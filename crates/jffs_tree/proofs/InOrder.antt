@@ -13,7 +13,7 @@ use Rattle.std.proofs.lemmas.Option.{none-some}
 use Rattle.jffs_node.specs.declared.node.Node.{Node}
 use Rattle.jffs_tree.specs.State.{Entry}
 use Rattle.jffs_tree.specs.Origin.{Held, Tree, state_in}
-use Rattle.jffs_tree.specs.After.{held_in, held_after, in_order, with_inode, without_inode, put_node, AreOrdered, IsWritten}
+use Rattle.jffs_tree.specs.After.{held_in, held_after, in_order, with_inode, without_inode, put_node, AreOrdered, WritesInode}
 use Rattle.jffs_tree.proofs.Maps.{t_true}
 use Rattle.jffs_tree.proofs.Pointwise.{find_put, find_without, find_rewritten, same_either_way}
 
@@ -84,7 +84,7 @@ module _ (test : ℕ × Held → Bool) where
       ∙ sym (all_with e.0 e.1 (in_order es) (found_in_order e.0 es ∙ absent e.0 es d.0))
 
 -- A node that is written over its inode, present or not.
-pub put_written : (tree new : Tree) (n : Node) → new ≡ put_node tree n → AreOrdered new → IsWritten tree new n
+pub put_written : (tree new : Tree) (n : Node) → new ≡ put_node tree n → AreOrdered new → WritesInode tree new n
 put_written tree new n is ordered = record {
   ordered = ordered;
   found = λ i. ap (λ (t : Tree). held_in t i) is ∙ find_rewritten (λ o. held_after n o) n.inode tree i;

@@ -7,7 +7,7 @@ use Rattle.std.proofs.lemmas.List.Sums.{sum_by-append, sum_by-cons}
 use Rattle.jffs_node.specs.declared.node.Node.{Node}
 use Rattle.jffs_node.specs.Record.{dsize}
 use Rattle.jffs_tree.specs.Origin.{Held, Tree, versions_held}
-use Rattle.jffs_tree.specs.After.{held_in, held_after, without_inode, IsWritten}
+use Rattle.jffs_tree.specs.After.{held_in, held_after, without_inode, WritesInode}
 use Rattle.jffs_tree.specs.Marks.{Counts, mark_of, HaveMore, SameMarks, bytes_by, brought_by, bytes_by_in, MovesMarks, MovesMarksIn, HasByteMarks, LosesByteMarks, held_marks, AreMarksOf}
 use Rattle.jffs_tree.proofs.Marking.{turned}
 use Rattle.jffs_tree.proofs.Pointwise.{find_without}
@@ -69,7 +69,7 @@ module _ (old : Tree) (n : Node) (m0 m1 : Counts) (marked : AreMarksOf old m0) (
       none false = refl
 
   -- The write was done: the marks are those of the new tree, and of the old newest.
-  module _ (new : Tree) (m2 : Counts) (w : IsWritten old new n) (moved : MovesMarksIn m1 m2 n old new) where
+  module _ (new : Tree) (m2 : Counts) (w : WritesInode old new n) (moved : MovesMarksIn m1 m2 n old new) where
     found_here : held_in new n.inode ≡ Some (held_after n (held_in old n.inode))
     found_here = w.found n.inode ∙ ap (λ b. cond b (Some (held_after n (held_in old n.inode))) (held_in old n.inode)) (eq-eqb n.inode n.inode refl)
 

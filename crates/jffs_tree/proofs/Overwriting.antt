@@ -14,7 +14,7 @@ use Rattle.jffs_node.specs.declared.node.Node.{Node}
 use Rattle.jffs_node.specs.Record.{dsize, file_max}
 use Rattle.jffs_tree.specs.declared.fragment.Fragment.{Fragment}
 use Rattle.jffs_tree.specs.Marks.{brought_by}
-use Rattle.jffs_tree.specs.Fragments.{Fragments, end_of, AreLaid, AreShort, before, from, outside, overwritten, part_by}
+use Rattle.jffs_tree.specs.Fragments.{Fragments, end_of, AreLaid, AreShort, before, from, outside, with_node_data, part_by}
 use Rattle.jffs_tree.proofs.Fragments.{laid_bound, none_before}
 use Rattle.jffs_tree.proofs.Taking.{not_within, none_within, drop_within, same_test, short_found}
 use Rattle.jffs_tree.proofs.Splitting.{found, laid_parts}
@@ -152,10 +152,10 @@ covers_all size p q covered x es h is low far =
     sym (none_within (p + 1) q (insert_entry nat_cmp es p x) (beside_inserted (p + 1) q p x es (others_beside size p q es h low (subst (λ k. min q size ≤ p + k) is far)) (inl (omega arith))))
     ∙ insert_outside 0 size p q x es h low
 
-pub no_data : (end : ℕ) (n : Node) (es : Fragments) → eqb (dsize n) 0 ≡ true → overwritten end n es ≡ before n.offset es ++ from end es
+pub no_data : (end : ℕ) (n : Node) (es : Fragments) → eqb (dsize n) 0 ≡ true → with_node_data end n es ≡ before n.offset es ++ from end es
 no_data end n es h = ap (λ b. before n.offset es ++ (cond b [] ((n.offset, record { bytes = n.bytes; writer = n.version }) ∷ []) ++ from end es)) h
 
-pub some_data : (end : ℕ) (n : Node) (es : Fragments) → eqb (dsize n) 0 ≡ false → overwritten end n es ≡ before n.offset es ++ ((n.offset, record { bytes = n.bytes; writer = n.version }) ∷ from end es)
+pub some_data : (end : ℕ) (n : Node) (es : Fragments) → eqb (dsize n) 0 ≡ false → with_node_data end n es ≡ before n.offset es ++ ((n.offset, record { bytes = n.bytes; writer = n.version }) ∷ from end es)
 some_data end n es h = ap (λ b. before n.offset es ++ (cond b [] ((n.offset, record { bytes = n.bytes; writer = n.version }) ∷ []) ++ from end es)) h
 
 pub brought_part : (v : ℕ) (n : Node) → part_by v (record { bytes = n.bytes; writer = n.version }) ≡ brought_by v n

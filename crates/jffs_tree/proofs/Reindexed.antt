@@ -7,7 +7,7 @@ use Rattle.std.proofs.lemmas.Bool.{cases_Bool, and_parts, and_from, eqb-true, eq
 use Rattle.std.proofs.lemmas.Slice.Eq.{bytes_eq-Decides}
 use Rattle.jffs_node.specs.declared.node.Node.{Node}
 use Rattle.jffs_tree.specs.Origin.{Held, Tree}
-use Rattle.jffs_tree.specs.After.{held_in, held_after, without_inode, IsWritten}
+use Rattle.jffs_tree.specs.After.{held_in, held_after, without_inode, WritesInode}
 use Rattle.jffs_tree.specs.Look.{parent_name_in}
 use Rattle.jffs_tree.specs.Index.{ChildKey, key_cmp, has_child, is_named, stands_at, IsIndexOf}
 use Rattle.jffs_tree.proofs.KeyOrder.{same_key, own_key}
@@ -76,7 +76,7 @@ module _ (old new : Tree) (n : Node) (name : List ℕ) (before : List ChildKey) 
   Left (Some o) after = ((q : ChildKey) → has_child after q ≡ cond (tied (o.0, Some o.1, n.inode) q) false (cond (tied here q) true (has_child before q))) × (tied (o.0, Some o.1, n.inode) here ≡ false)
       ⊎ ((q : ChildKey) → has_child after q ≡ cond (tied here q) true (has_child before q)) × (◌≡◌ {A = ℕ × List ℕ} o (n.parent, name))
 
-  module _ (after : List ChildKey) (is : n.name ≡ Some name) (w : IsWritten old new n) where
+  module _ (after : List ChildKey) (is : n.name ≡ Some name) (w : WritesInode old new n) where
     at_inode : (q : ChildKey) → n.inode ≡ q.2 → stands_at new q ≡ tied here q
     at_inode q at =
         ap (λ o. option_map_or (λ h. (eqb h.entry.parent q.0) && is_named h.entry.name q.1) o false)

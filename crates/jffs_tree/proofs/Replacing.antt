@@ -11,7 +11,7 @@ use Rattle.std.proofs.lemmas.Bool.{ne_eqb}
 use Rattle.jffs_node.specs.declared.node.Node.{Node}
 use Rattle.jffs_node.specs.Record.{dsize}
 use Rattle.jffs_tree.specs.declared.fragment.Fragment.{Fragment}
-use Rattle.jffs_tree.specs.Fragments.{Fragments, end_of, AreLaid, before, from, overwritten, part_by, amount_by}
+use Rattle.jffs_tree.specs.Fragments.{Fragments, end_of, AreLaid, before, from, with_node_data, part_by, amount_by}
 use Rattle.jffs_tree.proofs.Fragments.{laid_bound}
 use Rattle.jffs_tree.proofs.Splitting.{found, laid_parts, greater, set_after, amount_append, amount_cons}
 use Rattle.jffs_tree.proofs.Overwriting.{covers_all, some_data}
@@ -55,9 +55,9 @@ module _ (size k : ℕ) (f x : Fragment) (es : Fragments) (h : AreLaid 0 size es
       set_put ∙ covers_all size k (k + length x.bytes) (length f.bytes) x es h (sym (ap (λ (o : Option Fragment). option_map_or (λ (y : Fragment). length y.bytes) o 0) is)) (omega arith) (omega arith)
 
 -- So the map's call leaves the fragments that the node written over them makes.
-pub overwritten_set : (size : ℕ) (n : Node) (f : Fragment) (es : Fragments) → AreLaid 0 size es → lookup (is_at (nat_cmp n.offset)) es ≡ Some f → length f.bytes ≡ dsize n
-    → set_value (is_at (nat_cmp n.offset)) es (record { bytes = n.bytes; writer = n.version }) ≡ overwritten (n.offset + dsize n) n es
-overwritten_set size n f es h is long =
+pub node_data_set : (size : ℕ) (n : Node) (f : Fragment) (es : Fragments) → AreLaid 0 size es → lookup (is_at (nat_cmp n.offset)) es ≡ Some f → length f.bytes ≡ dsize n
+    → set_value (is_at (nat_cmp n.offset)) es (record { bytes = n.bytes; writer = n.version }) ≡ with_node_data (n.offset + dsize n) n es
+node_data_set size n f es h is long =
     let at = found n.offset f es is in
     let parts = laid_parts 0 size at.front at.back n.offset f (subst (AreLaid 0 size) at.whole h) in
     let some = parts.1 in

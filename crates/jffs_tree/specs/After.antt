@@ -6,7 +6,7 @@ use Rattle.std.specs.FinMap.Entries as entries
 use Rattle.std.specs.Ordering.{nat_cmp}
 use Rattle.jffs_node.specs.declared.node.Node.{Node}
 use Rattle.std.specs.Option.{option_map_or}
-use Rattle.jffs_node.specs.Record.{dsize, file_max, kind_byte, is_lawful, is_unmount}
+use Rattle.jffs_node.specs.Record.{dsize, file_max, kind_byte, is_lawful, is_unmount, numbers_hold}
 use Rattle.jffs_tree.specs.State.{written}
 use Rattle.jffs_tree.specs.Origin.{Held, Tree}
 
@@ -67,6 +67,10 @@ tree_after tree n =
     if is_unmount n.kind then tree
     else (if n.deleted then without_inode tree n.inode else put_node tree n)
 
+-- whether it takes memory: one that takes an inode away, or an unmount node, takes none
+abbrev pub takes_memory : Node → Bool
+takes_memory n = not (is_unmount n.kind) && not n.deleted
+
 -- There are no bytes after the range of the node, unless it keeps their offsets.
 abbrev pub keeps_offsets_in : Tree → Node → Bool
 keeps_offsets_in tree n = (dsize n == n.rsize)
@@ -78,12 +82,18 @@ abbrev pub keeps_kind_in : Tree → Node → Bool
 keeps_kind_in tree n = n.deleted
     || option_map_or (λ h. kind_byte h.entry.kind == kind_byte n.kind) (held_in tree n.inode) true
 
--- what a node must keep to be applied to a tree
+-- What a node must keep to be taken in: it has a name, unless it is an unmount node; its numbers
+-- suit each other; and no byte after its range moves.
+abbrev pub suits_tree : Tree → Node → Bool
+suits_tree tree n =
+    (is_unmount n.kind || is_some n.name) && numbers_hold n (dsize n) && keeps_offsets_in tree n
+
+-- whether it is a lawful node of its inode's kind that moves no byte after its range
 abbrev pub can_apply : Tree → Node → Bool
 can_apply tree n = is_lawful n && keeps_kind_in tree n && keeps_offsets_in tree n
 
 -- The inodes stand in order, the node's is as the node makes it, and each other is as it was.
-pub record IsWritten (old new : Tree) (n : Node) : Type 0 where
+pub record WritesInode (old new : Tree) (n : Node) : Type 0 where
   pub ordered : AreOrdered new
   pub found : (i : ℕ) → held_in new i
       ≡ (if n.inode == i then Some (held_after n (held_in old i)) else held_in old i)

@@ -55,8 +55,9 @@ is_there s path = is_some (resolve s path)
 abbrev pub inode_at : State → List (List ℕ) → ℕ
 inode_at s path = unwrap_or (resolve s path) 0
 
-abbrev pub is_empty : State → ℕ → Bool
-is_empty s i = not (list_any (λ e. e.1.parent == i) s)
+-- whether it is a directory that has names
+abbrev pub has_names : State → ℕ → Bool
+has_names s i = is_directory_in s i && list_any (λ e. e.1.parent == i) s
 
 abbrev pub nobody : Entry
 nobody = record { kind = File; parent = 0; name = []; bytes = [] }
@@ -193,7 +194,7 @@ decide_in s holds limits (Remove path) =
     unless (
     (is_root path, RootFixed)
     ∷ (not (is_there s path), NotFound)
-    ∷ (not (is_empty s i), NotEmpty)
+    ∷ (has_names s i, NotEmpty)
     ∷ (is_none limits.next_version, VersionsSpent)
     ∷ [])
     (record (plain i (entry_of s i)) { deleted = true; size = None })

@@ -105,8 +105,8 @@ fragment_of n =
     if dsize n == 0 then [] else (n.offset, record { bytes = n.bytes; writer = n.version }) ∷ []
 
 -- with a node's data instead of what stands from its offset to an end
-abbrev pub overwritten : ℕ → Node → Fragments → Fragments
-overwritten end n es = before n.offset es ++ (fragment_of n ++ from end es)
+abbrev pub with_node_data : ℕ → Node → Fragments → Fragments
+with_node_data end n es = before n.offset es ++ (fragment_of n ++ from end es)
 
 -- There are marks for all of an inode's fragments.
 abbrev pub HasAmounts : Counts → ℕ → Fragments → Type 0

@@ -19,6 +19,6 @@ held_of a = record {
 }
 
 -- The fragments lie one after another in the file, and no file is too long.
-pub record IsKept (a : Inside) : Type 0 where
+pub record IsLaidOut (a : Inside) : Type 0 where
   pub laid : AreLaid 0 a.size a.fragments.entries
   pub small : a.size ≤ file_max

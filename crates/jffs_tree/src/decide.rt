@@ -1,6 +1,6 @@
 //! The decision on a wish.
 
-ghost use Rattle.std.specs.Prelude.{◌≡◌, ◌≢◌, ℕ, ◌<◌, slice_index, not, false, length, Some, Err};
+ghost use Rattle.std.specs.Prelude.{◌≡◌, ◌≢◌, ℕ, ◌<◌, slice_index, false, length, Some, Err};
 ghost use Rattle.std.specs.Prelude.{IsSome, IfSome, IsOk, is_none, option_map};
 ghost use Rattle.jffs_tree.specs.declared.wish.Cause.TheVariants.{Memory};
 ghost use Rattle.jffs_tree.specs.declared.wish.Wish.TheVariants.{Write, Truncate, Rename, Remove};
@@ -10,7 +10,7 @@ ghost use Rattle.jffs_tree.specs.Origin.{holder, state_in};
 ghost use Rattle.jffs_tree.specs.After.{held_in};
 ghost use Rattle.jffs_node.specs.Path.{IsPath};
 ghost use Rattle.jffs_tree.specs.Deciding.{IsWish};
-ghost use Rattle.jffs_tree.specs.Decide.{decide_on, decide_new, parent_in, is_there, is_empty};
+ghost use Rattle.jffs_tree.specs.Decide.{decide_on, decide_new, parent_in, is_there, has_names};
 ghost use Rattle.jffs_tree.specs.Decide.{plain, entry_of, carries_bytes};
 
 use crate::children::any_named;
@@ -52,11 +52,12 @@ impl Tree {
         matches!(self.kind(inode), Some(Kind::Directory))
     }
 
-    /// Whether something stands in the directory.
+    /// Whether the inode is a directory that has names. A list of nodes that keeps no rule of a
+    /// tree may name a file as a parent.
     fn has_names(&self, inode: u32) -> bool
-        ensures { result ≡ not (is_empty (state_in self.now) inode) }
+        ensures { result ≡ has_names (state_in self.now) inode }
     {
-        any_named(&self.children, inode)
+        self.is_directory(inode) && any_named(&self.children, inode)
     }
 
     /// The inode of the names without the last.

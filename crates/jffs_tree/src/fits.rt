@@ -2,7 +2,7 @@
 
 ghost use Rattle.std.specs.Prelude.{◌≡◌, ◌==◌, ◌&&◌, ◌||◌, ◌+◌, true, IsTrue, length, nat_le};
 ghost use Rattle.jffs_node.specs.Record.{is_lawful, dsize, kind_byte};
-ghost use Rattle.jffs_tree.specs.After.{can_apply, keeps_kind_in, keeps_offsets_in};
+ghost use Rattle.jffs_tree.specs.After.{can_apply, suits_tree, keeps_kind_in, keeps_offsets_in};
 
 use crate::inode::Inode;
 use crate::tree::Tree;
@@ -17,6 +17,7 @@ impl Tree {
         ensures value { result ≡ can_apply self.now node.now }
         ensures lawful { result ≡ true → IsTrue (is_lawful node.now) }
         ensures offsets { result ≡ true → IsTrue (keeps_offsets_in self.now node.now) }
+        ensures suits { result ≡ true → IsTrue (suits_tree self.now node.now) }
     {
         is_lawful(node) && self.keeps_kind_and_offsets(node)
     }

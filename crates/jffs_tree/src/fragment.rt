@@ -9,7 +9,7 @@ ghost use Rattle.jffs_node.specs.Record.{file_max};
 ghost use Rattle.jffs_tree.specs.Marks.{mark_of, brought_by};
 ghost use Rattle.jffs_tree.specs.Fragments.{AreLaid, AreCut, AreShort, FitsFile, IsFileAfter};
 ghost use Rattle.jffs_tree.specs.Fragments.{SameCells, HasAmounts, end_of, outside};
-ghost use Rattle.jffs_tree.specs.Fragments.{get, overwritten, amount_by, part_by};
+ghost use Rattle.jffs_tree.specs.Fragments.{get, with_node_data, amount_by, part_by};
 
 use crate::fragment_map::Fragments;
 use crate::leaving::take_out;
@@ -346,7 +346,7 @@ pub(crate) fn overwrite(
         → amount_by v fragments.old.entries + brought_by v node.now
         ≤ mark_of marks.old v node.now.inode }
     ensures ok { OnOk result
-        (fragments.new.entries ≡ overwritten end node.now fragments.old.entries) }
+        (fragments.new.entries ≡ with_node_data end node.now fragments.old.entries) }
     ensures moved { OnOk result
         ((v i : ℕ) → mark_of marks.new v i
         + (if i == node.now.inode then amount_by v fragments.old.entries + brought_by v node.now

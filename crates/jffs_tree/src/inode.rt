@@ -42,11 +42,11 @@ impl Model for Inode {
 
     ghost Value = { Held };
 
-    ghost use Rattle.jffs_tree.specs.Shown.{held_of, IsKept};
+    ghost use Rattle.jffs_tree.specs.Shown.{held_of, IsLaidOut};
 
     ghost view = { held_of };
 
-    ghost invariant = { IsKept };
+    ghost invariant = { IsLaidOut };
 }
 
 impl Inode {

@@ -4,7 +4,7 @@ ghost use Rattle.std.specs.Prelude.{◌≡◌, ℕ, Bool, [], IsSome, IfNone, On
 ghost use Rattle.std.specs.List.{list_all};
 ghost use Rattle.jffs_tree.specs.Origin.{Held};
 ghost use Rattle.jffs_tree.specs.After.{held_in, with_inode, without_inode, AreOrdered};
-ghost use Rattle.jffs_tree.specs.After.{IsWritable, IsWritten};
+ghost use Rattle.jffs_tree.specs.After.{IsWritable, WritesInode};
 ghost use Rattle.jffs_tree.specs.Marks.{HasMarksIn, MovesMarksIn, SameMarks};
 
 use crate::inode::Inode;
@@ -78,7 +78,7 @@ impl Inodes {
         requires present { IsSome (held_in self.old node.now.inode) }
         requires writable { IsWritable self.old node.now name }
         requires marked { HasMarksIn marks.old node.now self.old }
-        ensures ok { OnOk result (IsWritten self.old self.new node.now) }
+        ensures ok { OnOk result (WritesInode self.old self.new node.now) }
         ensures marks { OnOk result (MovesMarksIn marks.old marks.new node.now self.old self.new) }
         ensures err { OnErr result ((self.new ≡ self.old) × SameMarks marks.old marks.new) }
     {

@@ -7,7 +7,8 @@ ghost use Rattle.jffs_tree.specs.Laws.{ErasingKeepsOrigins, RulesGiveOrigins, Er
 ghost use Rattle.jffs_tree.specs.Laws.{BytesComeFromOrigins, TreesStepByNodes, TreesTestAsNodes};
 ghost use Rattle.jffs_tree.specs.Laws.{DecidesByTree, AcceptedCopiesAreTrue, CleaningCopiesAreTrue};
 ghost use Rattle.jffs_tree.specs.Done.{DecidedIsDone, NewInodesAreFree};
-ghost use Rattle.jffs_tree.specs.Examples.{Overwriting, Truncating, Copying, Doing};
+ghost use Rattle.jffs_tree.specs.Examples.{Overwriting, Truncating, Copying, Removing};
+ghost use Rattle.jffs_tree.specs.Examples.{Doing};
 
 /// Without nodes the tree is empty.
 pub fn tree_of_none()
@@ -19,6 +20,7 @@ pub fn examples_are_decided()
     ensures overwriting { Overwriting }
     ensures truncating { Truncating }
     ensures copying { Copying }
+    ensures removing { Removing }
     ensures doing { Doing }
 {}
 

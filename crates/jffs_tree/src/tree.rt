@@ -4,10 +4,9 @@ ghost use Rattle.std.specs.Prelude.{◌≡◌, ◌+◌, ◌≤◌, ℕ, ◌∷�
 ghost use Rattle.std.specs.Prelude.{true, false, Some, None, IsSome, IsTrue};
 ghost use Rattle.std.specs.Prelude.{OnOk, OnErr, IfErr, is_some};
 ghost use Rattle.jffs_node.specs.declared.node.Node.{Node};
-ghost use Rattle.jffs_node.specs.Record.{is_lawful};
 ghost use Rattle.jffs_tree.specs.Origin.{tree_of};
-ghost use Rattle.jffs_tree.specs.After.{held_in, keeps_offsets_in, tree_after, without_inode};
-ghost use Rattle.jffs_tree.specs.After.{put_node, IsWritable, IsWritten};
+ghost use Rattle.jffs_tree.specs.After.{held_in, suits_tree, tree_after, without_inode};
+ghost use Rattle.jffs_tree.specs.After.{put_node, takes_memory, IsWritable, WritesInode};
 ghost use Rattle.jffs_tree.specs.Look.{parent_name_in};
 ghost use Rattle.jffs_tree.specs.Marks.{AreMarksOf, SameMarks, HasMarksIn, MovesMarksIn};
 ghost use Rattle.jffs_tree.specs.Marks.{HasNewest};
@@ -58,22 +57,27 @@ impl Tree {
         }
     }
 
-    /// Takes in the next node; an unmount node changes nothing. Precondition: the node is lawful,
-    /// and moves no byte after its range. `can_apply` tests that and more; what versions and kinds
-    /// have to be is the matter of the list of nodes, and not needed here.
+    /// Takes in the next node; an unmount node changes nothing. Precondition: it has a name, unless
+    /// it is an unmount node; its numbers suit each other; and no byte after its range moves.
+    /// `can_apply` tests that and more; what versions and kinds have to be is the matter of the
+    /// list of nodes, and not needed here.
     ///
-    /// `Memory` if allocation failed: nothing is changed.
+    /// `Memory` if allocation failed: nothing is changed. Neither a deleted node nor an unmount
+    /// node is refused, since they take no memory.
     pub fn apply(&mut self, node: &Node) -> Result<(), Cause>
-        requires lawful { IsTrue (is_lawful node.now) }
-        requires offsets { IsTrue (keeps_offsets_in self.old node.now) }
+        requires { IsTrue (suits_tree self.old node.now) }
         ensures after { OnOk result (self.new ≡ tree_after self.old node.now) }
         ensures ok { OnOk result
             ((past : List Node) → self.old ≡ tree_of past → self.new ≡ tree_of (node.now ∷ past)) }
         ensures err { OnErr result (self.new ≡ self.old) }
         ensures cause { IfErr result (λ cause. cause ≡ Cause.Memory) }
+        ensures memory { OnErr result (takes_memory node.now ≡ true) }
     {
-        let Some(name) = node.name else {
+        if node.kind.is_unmount() {
             return Ok(());
+        }
+        let Some(name) = node.name else {
+            unreachable!()
         };
         if node.deleted {
             self.remove(node.inode);
@@ -186,7 +190,7 @@ fn write_marked(
     requires writable { IsWritable inodes.old node.now name }
     requires marked { AreMarksOf inodes.old marks.old }
     requires newest { HasNewest inodes.old node.now.inode newest }
-    ensures ok { OnOk result (IsWritten inodes.old inodes.new node.now) }
+    ensures ok { OnOk result (WritesInode inodes.old inodes.new node.now) }
     ensures marks { OnOk result (AreMarksOf inodes.new marks.new) }
     ensures err { OnErr result
         ((inodes.new ≡ inodes.old) × SameMarks marks.old marks.new) }
@@ -215,7 +219,7 @@ fn write_inode(
     requires present { is_present ≡ is_some (held_in inodes.old node.now.inode) }
     requires writable { IsWritable inodes.old node.now name }
     requires marked { HasMarksIn marks.old node.now inodes.old }
-    ensures ok { OnOk result (IsWritten inodes.old inodes.new node.now) }
+    ensures ok { OnOk result (WritesInode inodes.old inodes.new node.now) }
     ensures marks { OnOk result
         (MovesMarksIn marks.old marks.new node.now inodes.old inodes.new) }
     ensures err { OnErr result
@@ -239,7 +243,7 @@ fn write_absent(
     requires absent { is_some (held_in inodes.old node.now.inode) ≡ false }
     requires writable { IsWritable inodes.old node.now name }
     requires marked { HasMarksIn marks.old node.now inodes.old }
-    ensures ok { OnOk result (IsWritten inodes.old inodes.new node.now) }
+    ensures ok { OnOk result (WritesInode inodes.old inodes.new node.now) }
     ensures marks { OnOk result
         (MovesMarksIn marks.old marks.new node.now inodes.old inodes.new) }
     ensures err { OnErr result

@@ -339,6 +339,37 @@ fn every_refusal_of_a_path(rt: HostRuntime) -> Result<(), Fail> {
     stands_moved(&rt, rt.alloc(), &session.tree)
 }
 
+/// The node of an entry whose parent is a file: no rule of a single node forbids it.
+#[test]
+fn a_file_is_removed_whatever_names_it_as_parent(rt: HostRuntime) -> Result<(), Fail> {
+    let mut session = with_hello(&rt, rt.alloc())?;
+    let mut below = session.decide(&wish_of(session.alloc, "create /g")?)?;
+    below.parent = 2;
+    session.take(&rt, &below)?;
+    session.play(&rt, "remove /f")?;
+    assert_eq!(rt; session.tree.kind(2), None);
+    assert_eq!(rt; session.tree.kind(3), Some(Kind::File));
+    Ok(())
+}
+
+/// What takes an inode away, and an unmount node, are taken in at once, whichever allocation fails.
+#[test]
+fn removals_and_unmounts_take_no_memory(rt: HostRuntime) -> Result<(), Fail> {
+    let mut session = with_hello(&rt, rt.alloc())?;
+    session.play(
+        &rt,
+        "write /f 1 EY
+         mkdir /d",
+    )?;
+    for line in ["unmount", "remove /f", "remove /d"] {
+        let node = session.decide(&wish_of(session.alloc, line)?)?;
+        assert!(rt; session.tree.can_apply(&node), "at {line}");
+        assert!(rt; session.tree.apply(&node).is_ok(), "at {line}");
+    }
+    assert!(rt; session.tree.kind(2).is_none() && session.tree.kind(3).is_none());
+    Ok(())
+}
+
 #[test]
 fn a_copied_tree_is_its_source(rt: HostRuntime) -> Result<(), Fail> {
     let mut session = Session::new(rt.alloc());

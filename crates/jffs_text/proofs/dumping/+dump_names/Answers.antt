@@ -2,7 +2,7 @@ use Rattle.std.proofs.Common.{◌≡◌, ◌-◌, ◌∙◌, sym, ap, arith, [],
 use Rattle.std.specs.List.{flat_map}
 use Rattle.std.proofs.KnownBytes.{Appends-nil}
 use Rattle.jffs_tree.specs.Origin.{state_in}
-use Rattle.jffs_text.specs.Dump.{name_text, below, path_of}
+use Rattle.jffs_text.specs.Dump.{name_text, below, extended_path}
 use Rattle.jffs_text.proofs.Adding.{begun_here, begun_none, begun_whole, begun_as, added_as, one_more}
 use Rattle.jffs_text.proofs.Told.{text_below, below_none, line_begun, deeper_begun, directory_told, file_begun, file_told, cut_back}
 use Rattle.jffs_text.proofs.dumping.+dump_names.Goals as goal
@@ -32,7 +32,7 @@ returns-in_err-dump_directory-clause-begun g t c =
     let all = text_below c.args.tree.now c.args.levels path c.args.directory _ _ (omega (arith, c.if-levels-eq0.false)) c.requires c.in_ok-names.ensures.all c.in_ok-names.ensures.ordered c.deref-name-items.ensures.value in
     let name = c.loop-name-item.result in
     let text = name_text s deeper path in
-    let deeper_path = c.in_ok-push_name.ensures ∙ ap (λ l. path_of l name.0) c.loop-name.invariant.1 in
+    let deeper_path = c.in_ok-push_name.ensures ∙ ap (λ l. extended_path l name.0) c.loop-name.invariant.1 in
     let here = sym c.is_directory.ensures ∙ c.if-is_directory.true in
     begun_as _ _ _ _ all (begun_here text c.deref-name-items.result.now c.loop-name.name-index name (omega (arith, c.loop-name-test.true)) _ _ _ c.loop-name.invariant.0
     (begun_as _ _ _ _ (ap text c.loop-name-item.is) (line_begun s deeper path name _ deeper_path _ _ here c.dump_directory.ensures.begun)))
@@ -45,7 +45,7 @@ returns-in_err-dump_names-clause-begun g t c =
     let all = text_below c.args.tree.now c.args.levels path c.args.directory _ _ (omega (arith, c.if-levels-eq0.false)) c.requires c.in_ok-names.ensures.all c.in_ok-names.ensures.ordered c.deref-name-items.ensures.value in
     let name = c.loop-name-item.result in
     let text = name_text s deeper path in
-    let deeper_path = c.in_ok-push_name.ensures ∙ ap (λ l. path_of l name.0) c.loop-name.invariant.1 in
+    let deeper_path = c.in_ok-push_name.ensures ∙ ap (λ l. extended_path l name.0) c.loop-name.invariant.1 in
     let here = sym c.is_directory.ensures ∙ c.if-is_directory.true in
     begun_as _ _ _ _ all (begun_here text c.deref-name-items.result.now c.loop-name.name-index name (omega (arith, c.loop-name-test.true)) _ _ _ c.loop-name.invariant.0
     (begun_as _ _ _ _ (ap text c.loop-name-item.is) (deeper_begun s deeper path name _ deeper_path _ _ _ here c.in_ok-dump_directory.ensures.whole c.dump_names.ensures.begun)))
@@ -58,7 +58,7 @@ returns-in_err-dump_file-clause-begun g t c =
     let all = text_below c.args.tree.now c.args.levels path c.args.directory _ _ (omega (arith, c.if-levels-eq0.false)) c.requires c.in_ok-names.ensures.all c.in_ok-names.ensures.ordered c.deref-name-items.ensures.value in
     let name = c.loop-name-item.result in
     let text = name_text s deeper path in
-    let deeper_path = c.in_ok-push_name.ensures ∙ ap (λ l. path_of l name.0) c.loop-name.invariant.1 in
+    let deeper_path = c.in_ok-push_name.ensures ∙ ap (λ l. extended_path l name.0) c.loop-name.invariant.1 in
     let here = sym c.is_directory.ensures ∙ c.if-is_directory.false in
     begun_as _ _ _ _ all (begun_here text c.deref-name-items.result.now c.loop-name.name-index name (omega (arith, c.loop-name-test.true)) _ _ _ c.loop-name.invariant.0
     (begun_as _ _ _ _ (ap text c.loop-name-item.is) (file_begun s deeper path name _ deeper_path _ _ here c.dump_file.ensures.begun)))
@@ -70,7 +70,7 @@ loop-name-preserved g t c =
     let path = c.args.path.now.items in
     let name = c.loop-name-item.result in
     let text = name_text s deeper path in
-    let deeper_path = c.in_ok-push_name.ensures ∙ ap (λ l. path_of l name.0) c.loop-name.invariant.1 in
+    let deeper_path = c.in_ok-push_name.ensures ∙ ap (λ l. extended_path l name.0) c.loop-name.invariant.1 in
     let as_long = c.len-above.ensures ∙ c.loop-name.path.ok.0 in
     let a = g.W.Write.contents c.args.out.now in
     let b = g.W.Write.contents c.loop-name.out in

@@ -6,7 +6,7 @@ use Rattle.jffs_tree.specs.declared.fragment.Fragment.{Fragment}
 use Rattle.jffs_tree.specs.Fragments.{Swaps, amount_by, part_by}
 use Rattle.jffs_tree.proofs.FileWritten.{file_replaced}
 use Rattle.jffs_tree.proofs.Overwriting.{brought_part}
-use Rattle.jffs_tree.proofs.Replacing.{amount_set, overwritten_set}
+use Rattle.jffs_tree.proofs.Replacing.{amount_set, node_data_set}
 use Rattle.jffs_tree.proofs.Splitting.{whole_there}
 use Rattle.jffs_tree.proofs.Taking.{one_put, part_of_all}
 use Rattle.jffs_tree.proofs.fragment.replace.Goals as goal
@@ -29,7 +29,7 @@ returns-clause-replaced c =
     let same : dsize n ≡ n.rsize = sym c.len.ensures.value ∙ c.if-len-node.false in
     file_replaced n c.args.size c.unwrap_or-after.result covered was c.swap.new.self.entries c.requires.fits.0 c.requires.fits.1
     (whole_there c.args.size n.offset covered was c.requires.fits.0 swapped.there) swapped.long same
-    (swapped.entries ∙ overwritten_set c.args.size n covered was c.requires.fits.0 swapped.there swapped.long)
+    (swapped.entries ∙ node_data_set c.args.size n covered was c.requires.fits.0 swapped.there swapped.long)
     c.unwrap_or-after.ensures c.if-after-size.false
 
 pub returns-clause-moved : goal.returns-clause-moved

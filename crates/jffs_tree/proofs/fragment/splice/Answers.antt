@@ -2,7 +2,7 @@ use Rattle.std.proofs.Common.{◌≤◌, ◌+◌, ℕ, max, inl, inr, Option, If
 use Rattle.std.proofs.lemmas.Option.{same_Some}
 use Rattle.jffs_node.specs.Record.{dsize, file_max}
 use Rattle.jffs_tree.specs.Fragments.{AreCut, IsFileAfter}
-use Rattle.jffs_tree.proofs.FileWritten.{Ends, spliced_either, spliced_moved, spliced_stayed, file_plain, file_stated, file_within, cut_overwritten}
+use Rattle.jffs_tree.proofs.FileWritten.{Ends, spliced_either, spliced_moved, spliced_stayed, file_plain, file_stated, file_within, cut_with_node_data}
 use Rattle.jffs_tree.proofs.Overwriting.{short_from_laid}
 use Rattle.jffs_tree.proofs.fragment.splice.Goals as goal
 use Rattle.jffs_tree.proofs.fragment.splice.Goals.{then-moves, else-moves}
@@ -35,7 +35,7 @@ returns-in-Some-clause-ok c =
     let low : c.in-Some.stated ≤ file_max = subst (λ (o : Option ℕ). unwrap_or o 0 ≤ file_max) is c.requires.fits.node.size in
     let inside : c.args.node.now.offset + dsize c.args.node.now ≤ c.in-Some.stated = subst (λ (o : Option ℕ). IfSome o (λ k. c.args.node.now.offset + dsize c.args.node.now ≤ k)) is c.requires.fits.node.inside in
     let cut : AreCut c.in-Some.stated c.make_cuts.new.fragments.entries = subst (λ (o : Option ℕ). IfSome o (λ k. AreCut k c.make_cuts.new.fragments.entries)) is c.in_ok-make_cuts.ensures.size in
-    let at : AreCut c.in-Some.stated c.overwrite.new.fragments.entries = subst (AreCut c.in-Some.stated) (sym c.in_ok-overwrite.ensures.ok) (cut_overwritten c.in-Some.stated c.if-moves.end c.args.node.now c.make_cuts.new.fragments.entries cut inside) in
+    let at : AreCut c.in-Some.stated c.overwrite.new.fragments.entries = subst (AreCut c.in-Some.stated) (sym c.in_ok-overwrite.ensures.ok) (cut_with_node_data c.in-Some.stated c.if-moves.end c.args.node.now c.make_cuts.new.fragments.entries cut inside) in
     file_stated c.args.node.now c.args.size s.0 c.in-Some.stated c.args.fragments.now.entries c.make_cuts.new.fragments.entries c.overwrite.new.fragments.entries c.take_out.new.fragments.entries
     c.in_ok-make_cuts.ensures.same c.requires.laid s.1 is low at c.take_out.ensures.left
 

@@ -1,13 +1,13 @@
-use Rattle.std.proofs.Common.{ℕ, not, List, T, ap, subst, sym, ◌∙◌}
-use Rattle.std.proofs.Math.Bool.{not-not}
+use Rattle.std.proofs.Common.{ℕ, Bool, ◌&&◌, eqb, List, T, ap, subst, sym, ◌∙◌}
+use Rattle.std.specs.List.{list_any}
 use Rattle.jffs_tree.specs.Origin.{Held, state_in}
-use Rattle.jffs_tree.specs.Decide.{is_empty}
 use Rattle.jffs_tree.proofs.Standing.{any_found}
 use Rattle.jffs_tree.proofs.tree.Tree.has_names.Goals as goal
 
-pub returns : goal.returns
-returns c =
+pub returns-then-is_directory : goal.returns-then-is_directory
+returns-then-is_directory c =
+    let named : List (ℕ × Held) → Bool = λ t. list_any (λ e. eqb e.1.parent c.args.inode) (state_in t) in
     any_found c.args.inode c.self.inside.inodes c.self.inside.children.keys (subst T (sym c.self.invariant.ordered) tt) c.self.invariant.indexed
     c.any_named.result c.any_named.ensures.some c.any_named.ensures.none
-    ∙ sym (not-not _)
-    ∙ ap (λ (t : List (ℕ × Held)). not (is_empty (state_in t) c.args.inode)) c.self.view_is
+    ∙ ap named c.self.view_is
+    ∙ ap (λ b. b && named c.args.self.now) (sym c.if-is_directory.true ∙ c.is_directory.ensures)

@@ -4,13 +4,13 @@ use Rattle.jffs_tree.specs.declared.inode.Inode.TheInside.{Inside}
 use Rattle.jffs_tree.specs.Origin.{Held, Tree}
 use Rattle.jffs_tree.specs.After.{held_in}
 use Rattle.jffs_tree.specs.Marks.{HasNewest}
-use Rattle.jffs_tree.specs.Shown.{held_of, IsKept}
+use Rattle.jffs_tree.specs.Shown.{held_of, IsLaidOut}
 use Rattle.jffs_tree.specs.Fragments.{laid, writer_of}
 use Rattle.jffs_tree.proofs.Fragments.{length-laid}
 use Rattle.jffs_tree.proofs.Marked.{few_marks}
 use Rattle.jffs_tree.proofs.tree.Tree.write.Goals as goal
 
-found_newest : (tree : Tree) (i : ℕ) (found : Inside) → IsKept found → held_in tree i ≡ Some (held_of found) → HasNewest tree i (Some found.newest)
+found_newest : (tree : Tree) (i : ℕ) (found : Inside) → IsLaidOut found → held_in tree i ≡ Some (held_of found) → HasNewest tree i (Some found.newest)
 found_newest tree i found kept is =
     let cells = laid 0 found.size found.fragments.entries in
     let small = kept.small in

@@ -59,9 +59,9 @@ erased_keeps count old new is two =
     let more = times_more count (layout_in old.image old.index) in
     omega arith
 
-stop_is : (cause : Cause) (after : List Node) (old new : CoreState) → old.failed ≡ false → RefusedAt cause after old new → (cause ≡ causes.NoSpace → 2 ≤ (layout_in old.image old.index).erased → ⊥) → StopIs cause after old new
-stop_is cause after old new w h none =
-    by_refusal (IsOwnCopy after) after old new (λ c. (c ≡ causes.NoSpace → 2 ≤ (layout_in old.image old.index).erased → ⊥) → StopIs c after old new)
+stop_is : (cause : Cause) (past after : List Node) (old new : CoreState) → old.failed ≡ false → RefusedAt cause past after old new → (cause ≡ causes.NoSpace → 2 ≤ (layout_in old.image old.index).erased → ⊥) → StopIs cause past after old new
+stop_is cause past after old new w h none =
+    by_refusal (IsOwnCopy after) past after old new (λ c. (c ≡ causes.NoSpace → 2 ≤ (layout_in old.image old.index).erased → ⊥) → StopIs c past after old new)
     (λ works spent none. (w, (works, spent))) (λ works none. (w, works)) (λ works none. (works, none refl)) (λ fails none. (w, fails)) cause h none
 
 pub did_stop : (mounted past : List Node) (cause : Cause) (old new : CoreState) → old.failed ≡ false → Represents mounted past old → (after : List Node) × SectorStopped cause past after old new → Stops mounted past cause old new
@@ -71,13 +71,13 @@ did_stop mounted past cause old new works s h =
     record {
       after = h.0;
       added = c.copies;
-      stands = stands_after mounted past h.0 new s.grown c.copies (refused_past (IsOwnCopy h.0) h.0 (copies_follow h.0) cause old new c.stands);
-      why = stop_is cause h.0 old new works c.stands c.no_room;
+      stands = stands_after mounted past h.0 new s.grown c.copies (refused_past (IsOwnCopy h.0) past h.0 (copies_follow h.0) cause old new c.stands);
+      why = stop_is cause past h.0 old new works c.stands c.no_room;
       several = λ w. one.several;
       wants = one.wants;
     }
 
-pub device_stop : (mounted past : List Node) (cause : Cause) (old new : CoreState) → old.failed ≡ false → Represents mounted past old → cause ≡ causes.Device → FailsIn (λ n. ⊥) past old new → Represents mounted past new × EraseStopIs cause past old new
+pub device_stop : (mounted past : List Node) (cause : Cause) (old new : CoreState) → old.failed ≡ false → Represents mounted past old → cause ≡ causes.Device → FailsIn (λ n. ⊥) past past old new → Represents mounted past new × EraseStopIs cause past old new
 device_stop mounted past cause old new works s is h =
     let left = failed_more (λ n. ⊥) (MayFollow past) (λ n none. absurd none) past new h.left in
     (record { grown = s.grown; stands = fails_past past new h.fails left }, subst (λ c. EraseStopIs c past old new) (sym is) (works, h))

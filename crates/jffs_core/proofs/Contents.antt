@@ -86,16 +86,16 @@ copy_given past limits _ n version writer seq w is = cc
 -- what the request itself added
 own_grows : (t : Turn) (q : Request) (o : Outcome) (copies own : List Node) → OutcomeIs o t q copies own → IsGrown (copies ++ t.past) own
 own_grows t q (Appended inode version) copies own h =
-    subst (λ nodes. IsGrown (copies ++ t.past) nodes) (sym h.5) (tt, inl h.2)
+    subst (λ nodes. IsGrown (copies ++ t.past) nodes) (sym h.added) (tt, inl h.fresh)
 own_grows t q (Copied version) copies own h =
-    let true_copy = copy_given t.past _ q.wish h.0 version q.writer q.seq h.1 h.2 in
-    subst (λ nodes. IsGrown (copies ++ t.past) nodes) (sym h.5)
-    (tt, inr (inr (subst (λ (cs : List Node). (e : Entry) × IsTrueCopy (cs ++ t.past) (node_of h.0 q version) e) (sym h.3) true_copy)))
+    let true_copy = copy_given t.past _ q.wish h.new version q.writer q.seq h.wish h.decided in
+    subst (λ nodes. IsGrown (copies ++ t.past) nodes) (sym h.added)
+    (tt, inr (inr (subst (λ (cs : List Node). (e : Entry) × IsTrueCopy (cs ++ t.past) (node_of h.new q version) e) (sym h.none) true_copy)))
 own_grows t q Closed copies own h = ⊎_elim
     (λ clean. subst (λ nodes. IsGrown (copies ++ t.past) nodes) (sym clean.1) tt)
-    (λ made. subst (λ nodes. IsGrown (copies ++ t.past) nodes) (sym made.1.4)
-    (tt, inr (inl (unmount_given t.past _ q.wish made.1.0 h.0 made.1.2))))
-    h.2
+    (λ made. subst (λ nodes. IsGrown (copies ++ t.past) nodes) (sym made.added)
+    (tt, inr (inl (unmount_given t.past _ q.wish made.new h.wish made.decided))))
+    h.node
 own_grows t q (Refused cause) copies own h = subst (λ nodes. IsGrown (copies ++ t.past) nodes) (sym h.1) tt
 
 pub step_grows : (t : Turn) (q : Request) (o : Outcome) (after : List Node) → IsStep t q o after → Grows t.past after

@@ -27,7 +27,7 @@ use Rattle.jffs_core.specs.Past.{RepresentsWorking, gc_state}
 use Rattle.jffs_core.specs.Cleaning.{HasHandled, CopyStopped, HasCopied, HasCleaned, HasErased, SectorStopped, EraseStopped, copies_would_fit}
 use Rattle.jffs_core.proofs.Lawful.{copies_along}
 use Rattle.jffs_core.proofs.RoomMade.{oldest_known}
-use Rattle.jffs_core.proofs.Refusing.{refused_along}
+use Rattle.jffs_core.proofs.Refusing.{refused_along, works_along, works_still}
 use Rattle.jffs_core.specs.Erases.{Leaves}
 use Rattle.jffs_core.proofs.Erasing.{leaves_all}
 use Rattle.jffs_core.proofs.Full.{sizes_low}
@@ -49,7 +49,7 @@ copying_begins nodes c works = record {
     past,
     record {
       added = record { copies = []; true_copies = tt; joined = refl };
-      stands = record { works = works; faults = refl; represents = known };
+      stands = works_still past c works known;
       turn = refl;
       room = refl;
       counted = omega arith;
@@ -104,7 +104,7 @@ copying_goes_on nodes past after k copies more node is_copied old middle new bel
       one.after,
       record {
         added = copies_along past after one.after h.added one.added;
-        stands = record { works = one.stands.works; faults = one.stands.faults ∙ h.stands.faults; represents = one.stands.represents };
+        stands = works_along past after one.after old middle new h.stands one.stands;
         turn =
             one.turn
             ∙ ap (λ y. handled y node (gc_state after middle)) (sym sizes.1)
@@ -143,7 +143,7 @@ copying_has_room nodes past after k copies node cause old middle new known oldes
   several = several;
   stopped = record {
     copies = h.added;
-    stands = refused_along (IsOwnCopy after) cause after old middle new h.stands.faults stopped.stands;
+    stands = refused_along (IsOwnCopy after) cause past after after old middle new h.stands stopped.stands;
     no_room = λ e two.
         let sizes = sizes_low old.index.sectors z known.history.sizes in
         both_ways _ (without e) (cleaning_has_room copies_take_over unmounts_are_dead old.index.sectors z s sizes.1 known.sound two several).0;
@@ -157,6 +157,7 @@ copying_has_room nodes past after k copies node cause old middle new known oldes
   wants = record {
     at_turn = without;
     to_copy = λ e. (node, subst (Among node) oldest (subst (λ n. Among n nodes) (sym is) (at_among nodes k node below)), stopped.live);
+    version = λ e. inr (stopped.version e);
   };
 }
   where
@@ -200,7 +201,7 @@ module _ (nodes past after : List Node) (copies : ℕ) (old middle : CoreState) 
   pub then_erased : (new : CoreState) → HasErased after middle new → HasCleaned past after copies old new
   then_erased new e = record {
     added = h.added;
-    stands = record { works = e.stands.works; faults = e.stands.faults ∙ h.stands.faults; represents = e.stands.represents };
+    stands = works_along past after after old middle new h.stands e.stands;
     turn =
         (λ i. record { past = after; log = e.log i })
         ∙ ap (λ (s : GcState). record { past = s.past; log = erase_oldest s.log }) h.turn
@@ -216,7 +217,7 @@ module _ (nodes past after : List Node) (copies : ℕ) (old middle : CoreState) 
         several = several;
         stopped = record {
           copies = h.added;
-          stands = refused_along (IsOwnCopy after) cause after old middle new h.stands.faults (erase_refused cause after middle new h.stands.represents e);
+          stands = refused_along (IsOwnCopy after) cause past after after old middle new h.stands (erase_refused cause after middle new h.stands.represents e);
           no_room = λ is. absurd (other.0 is);
         };
         handled = record {
@@ -225,5 +226,9 @@ module _ (nodes past after : List Node) (copies : ℕ) (old middle : CoreState) 
           are = sym oldest ∙ sym (append-nil nodes);
           turn = ap (λ (x : GcState). x.past) h.turn;
         };
-        wants = record { at_turn = λ is. absurd (other.0 is); to_copy = λ is. absurd (other.1 is) };
+        wants = record {
+          at_turn = λ is. absurd (other.0 is);
+          to_copy = λ is. absurd (other.1 is);
+          version = λ is. let same = sym is ∙ e.cause_is in cc;
+        };
       }

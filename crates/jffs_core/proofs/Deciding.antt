@@ -19,7 +19,7 @@ use Rattle.jffs_tree.specs.declared.wish.Limits.{Limits}
 use Rattle.jffs_tree.specs.declared.wish.NewNode.{NewNode}
 use Rattle.jffs_tree.specs.State.{Entry, State, written, is_directory_in, state_of_past}
 use Rattle.jffs_tree.specs.Origin.{Held, entry, concerns, holder, tree_of}
-use Rattle.jffs_tree.specs.Decide.{unless, is_root, has_parent, is_there, parent_in, last_name, inode_at, entry_of, is_empty, plain, write_node, truncate_node, copy_node, unmount_node, held_entry, held_inode, is_current, decide_in, decide, with, is_copy_wish, is_unmount_wish}
+use Rattle.jffs_tree.specs.Decide.{unless, is_root, has_parent, is_there, parent_in, last_name, inode_at, entry_of, has_names, plain, write_node, truncate_node, copy_node, unmount_node, held_entry, held_inode, is_current, decide_in, decide, with, is_copy_wish, is_unmount_wish}
 use Rattle.jffs_tree.specs.Deciding.{IsLawfulPast, AreLimitsOf, IsWish}
 use Rattle.jffs_tree.proofs.Decided.{decided_nodes_keep_rules, all_passed}
 use Rattle.jffs_tree.proofs.TrueCopy.{true_copy_keeps_state}
@@ -49,7 +49,7 @@ causes_for s holds limits (Rename source target) =
     ∷ (is_directory (entry_of s (inode_at s source)).kind && not (eqb (entry_of s (inode_at s source)).parent (unwrap_or (parent_in s target) 0)), IsDirectory)
     ∷ (is_none limits.next_version, VersionsSpent) ∷ []
 causes_for s holds limits (Remove path) =
-    (is_root path, RootFixed) ∷ (not (is_there s path), NotFound) ∷ (not (is_empty s (inode_at s path)), NotEmpty) ∷ (is_none limits.next_version, VersionsSpent) ∷ []
+    (is_root path, RootFixed) ∷ (not (is_there s path), NotFound) ∷ (has_names s (inode_at s path), NotEmpty) ∷ (is_none limits.next_version, VersionsSpent) ∷ []
 causes_for s holds limits (Copy source parent name offset bytes) =
     (ltb limits.data_max (length bytes), DataLong) ∷ (is_none (holds source), NotNeeded)
     ∷ (not ((eqb (held_entry (holds source)).parent parent && bytes_eq (held_entry (holds source)).name name) && is_current (held_entry (holds source)) offset bytes), Stale)

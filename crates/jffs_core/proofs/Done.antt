@@ -62,12 +62,12 @@ module _ (t : Turn) (q : Request) where
         ap (λ (nodes : List Node). state_of_past (nodes ++ copies ++ t.past)) is ∙ ap (λ s. apply s (node_of n q version)) same ∙ decided_done n version decided
 
     own_done : (o : Outcome) → OutcomeIs o t q copies own → state_of_past (own ++ copies ++ t.past) ≡ done_by before q.wish o
-    own_done (Appended inode version) h = one_added h.0 version h.1 h.5 ∙ ap (λ i. done i before q.wish) h.3
-    own_done (Copied version) h = one_added h.0 version h.2 h.5 ∙ nothing_copied h.0.inode before q.wish h.1
+    own_done (Appended inode version) h = one_added h.new version h.decided h.added ∙ ap (λ i. done i before q.wish) h.inode_is
+    own_done (Copied version) h = one_added h.new version h.decided h.added ∙ nothing_copied h.new.inode before q.wish h.wish
     own_done Closed h = ⊎_elim
         (λ clean. none_added clean.1)
-        (λ made. one_added made.1.0 made.1.1 made.1.2 made.1.4 ∙ nothing_unmounted made.1.0.inode before q.wish h.0)
-        h.2
+        (λ made. one_added made.new made.version made.decided made.added ∙ nothing_unmounted made.new.inode before q.wish h.wish)
+        h.node
     own_done (Refused cause) h = none_added h.1
 
   -- A step leaves the state as its outcome says.
@@ -75,7 +75,7 @@ module _ (t : Turn) (q : Request) where
   step_done o after h = ap state_of_past h.joined ∙ own_done h.copies h.own (copies_state t.past h.copies h.copies_are_true) o h.outcome
 
   own_free : (o : Outcome) (copies own : List Node) → OutcomeIs o t q copies own → IsFreeBy o q.wish before
-  own_free (Appended inode version) copies own h = subst (λ (i : ℕ). IsFreeFor q.wish before i) h.3 (decided_free h.0 h.1)
+  own_free (Appended inode version) copies own h = subst (λ (i : ℕ). IsFreeFor q.wish before i) h.inode_is (decided_free h.new h.decided)
   own_free (Copied version) copies own h = tt
   own_free Closed copies own h = tt
   own_free (Refused cause) copies own h = tt

@@ -15,6 +15,7 @@ use Rattle.jffs_core.specs.History.{IsOwnCopy}
 use Rattle.jffs_core.specs.Past.{IsPast, HasFailed, HasLogIndex}
 use Rattle.jffs_core.specs.Calls.{RefusedAt}
 use Rattle.jffs_core.proofs.Mounting.{clean_ends}
+use Rattle.jffs_core.proofs.Refusing.{same_programs}
 use Rattle.jffs_core.proofs.Sweeping.{erased_past, read_past}
 
 -- The core knows the same history after the oldest sector was erased.
@@ -25,11 +26,11 @@ erased_left past old new tree limits clean h several e =
 
 -- What is left where the device failed in a call that appends nothing: an erase, of whose image nothing is known, or a read.
 pub erase_left : (past : List Node) (old new : LogState) (core : CoreState) (why : Cause) → IsPast past old.device.image old.index core.tree core.limits core.clean → EraseFailed why old new
-    → core.erase_failed ≡ new.device.erase_failed → HasFailed (λ n. ⊥) past core
+    → core.erase_failed ≡ new.erase_failed → HasFailed (λ n. ⊥) past core
 erase_left past old new core why h f same = record {
   clean = λ is. clean_ends past old.device.image old.index core.tree core.limits core.clean h is;
   tree = inl h.tree_is;
-  left = λ intact. absurd (both_ways _ intact (same ∙ ap (λ (d : Device). d.erase_failed) f.device.rest));
+  left = λ intact. absurd (both_ways _ intact (same ∙ f.erase_failed));
 }
 
 pub read_left : (past : List Node) (old new : LogState) (core : CoreState) → IsPast past old.device.image old.index core.tree core.limits core.clean → ReadFailed old new
@@ -63,17 +64,19 @@ read_refused F old new same failed causes.Failed h = absurd h
 
 -- What a core is left with where a read stopped.
 pub read_stops : (why : Cause) (past : List Node) (old new : LogState) (before after : CoreState) → ReadStopped why old new → old.failed ≡ false → IsPast past old.device.image old.index after.tree after.limits after.clean → before.faults ≡ old.device.faults
-    → after.failed ≡ new.failed → after.faults ≡ new.device.faults → after.image ≡ new.device.image → after.index ≡ new.index → RefusedAt why past before after
-read_stops why past old new before after stopped works known begun failed faults image index =
-    read_refused (λ c. RefusedAt c past before after) old new
+    → before.wear ≡ old.wear → after.failed ≡ new.failed → after.faults ≡ new.device.faults → after.wear ≡ new.wear → after.image ≡ new.device.image → after.index ≡ new.index → RefusedAt why past past before after
+read_stops why past old new before after stopped works known begun unworn failed faults wear image index =
+    read_refused (λ c. RefusedAt c past past before after) old new
     (λ same. record {
       works = failed ∙ ap (λ (l : LogState). l.failed) same ∙ works;
       faults = faults ∙ ap (λ (l : LogState). l.device.faults) same ∙ sym begun;
+      programs = same_programs past before after (wear ∙ ap (λ (l : LogState). l.wear) same ∙ sym unworn);
       represents = read_past past old.device.image after.image old.index after.index after.tree after.limits after.clean (image ∙ ap (λ (l : LogState). l.device.image) same) (index ∙ ap (λ (l : LogState). l.index) same) known;
     })
     (λ read. record {
       fails = failed ∙ read.failed;
       faults = subst (λ (k : ℕ). before.faults < k) (sym faults) (subst (λ (k : ℕ). k < new.device.faults) (sym begun) read.device.faults);
+      programs = inl (same_programs past before after (wear ∙ read.wear ∙ sym unworn));
       left = read_left past old new after known read image index;
     })
     why stopped

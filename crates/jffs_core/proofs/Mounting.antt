@@ -22,7 +22,7 @@ use Rattle.jffs_log.proofs.scans.MountedLog.{mounts_are_sound, ok_same, nodes_ma
 use Rattle.jffs_log.proofs.scans.MountHistory.{mounts_are_histories}
 use Rattle.jffs_log.proofs.Histories.{histories_are_scanned, turned_round}
 use Rattle.jffs_core.specs.CoreState.{CoreState}
-use Rattle.jffs_core.specs.Step.{ends_with_unmount}
+use Rattle.jffs_core.specs.Step.{newest_is_unmount}
 use Rattle.jffs_flash.specs.Device.{Device}
 use Rattle.jffs_core.specs.Past.{IsPast, HasLogIndex, IsFresh, IsLeftBy}
 use Rattle.jffs_core.proofs.Contents.{no_growth}
@@ -70,8 +70,8 @@ found_index device log tree clean limits m =
     }
 
 pub found_fresh : (device : Device) (c : CoreState) → IsFound device.sectors device.sector_size device.image c.index c.tree c.clean c.limits → IsLeftBy c device
-    → c.failed ≡ false → c.closed ≡ false → c.answers ≡ [] → IsFresh device c
-found_fresh device c h left works not_closed none =
+    → c.failed ≡ false → c.erase_failed ≡ false → c.closed ≡ false → c.answers ≡ [] → IsFresh device c
+found_fresh device c h left works no_erase_failed not_closed none =
     let past = past_of (log_in device.image c.index) in
     record {
       scanned = record { log = log_in device.image c.index; tree = c.tree; clean = c.clean };
@@ -87,6 +87,7 @@ found_fresh device c h left works not_closed none =
       begins = (described_inside _ _ _ _ _ _ _ _ _ h.index).0;
       erases = h.erases;
       works = works;
+      no_erase_failed = no_erase_failed;
       not_closed = not_closed;
       no_answers = none;
     }
@@ -107,12 +108,12 @@ clean_log (s ∷ t ∷ held) h =
     ap log_ends (nodes_mapped (records_in s) (flat_map records_in (t ∷ held)))
     ∙ ends_more (nodes_of (records_in s)) (nodes_of (flat_map records_in (t ∷ held))) (clean_log (t ∷ held) h)
 
-ends_turned : (nodes gone : List Node) → log_ends nodes ≡ true → ends_with_unmount (reverse nodes ++ gone) ≡ true
+ends_turned : (nodes gone : List Node) → log_ends nodes ≡ true → newest_is_unmount (reverse nodes ++ gone) ≡ true
 ends_turned [] gone h = cc
-ends_turned (n ∷ []) gone h = ap ends_with_unmount (turned_round n [] gone) ∙ h
-ends_turned (n ∷ m ∷ nodes) gone h = ap ends_with_unmount (turned_round n (m ∷ nodes) gone) ∙ ends_turned (m ∷ nodes) (n ∷ gone) h
+ends_turned (n ∷ []) gone h = ap newest_is_unmount (turned_round n [] gone) ∙ h
+ends_turned (n ∷ m ∷ nodes) gone h = ap newest_is_unmount (turned_round n (m ∷ nodes) gone) ∙ ends_turned (m ∷ nodes) (n ∷ gone) h
 
-pub clean_ends : (past : List Node) (image : List ℕ) (b : LogIndex) (tree : Tree) (limits : Limits) (clean : Bool) → IsPast past image b tree limits clean → clean ≡ true → ends_with_unmount past ≡ true
+pub clean_ends : (past : List Node) (image : List ℕ) (b : LogIndex) (tree : Tree) (limits : Limits) (clean : Bool) → IsPast past image b tree limits clean → clean ≡ true → newest_is_unmount past ≡ true
 clean_ends past image b tree limits clean h is =
-    ap ends_with_unmount h.history.front
+    ap newest_is_unmount h.history.front
     ∙ ends_turned (nodes_of (live_log b.sectors b.sector_size image)) h.history.gone (clean_log (log_sectors (sectors_in b.sectors b.sector_size image)) (sym h.clean_is ∙ is))

@@ -1,5 +1,5 @@
 -- One node more: what the core knows then.
-use Rattle.std.proofs.Common.{◌≡◌, ℕ, ◌<◌, ◌≤◌, ◌/◌, ◌==◌, Bool, true, ◌&&◌, List, [], ◌∷◌, max, fold, refl, sym, ap, subst, ◌∙◌, arith}
+use Rattle.std.proofs.Common.{◌≡◌, inr, ℕ, ◌+◌, ◌<◌, ◌≤◌, ◌/◌, ◌==◌, Bool, true, ◌&&◌, List, [], ◌∷◌, max, fold, refl, sym, ap, subst, ◌∙◌, arith}
 use Rattle.std.specs.List.{list_all, AllByRecursion}
 use Rattle.std.proofs.lemmas.Bool.{and_parts, and_from}
 use Rattle.jffs_node.specs.declared.node.Node.{Node}
@@ -158,9 +158,9 @@ may_append past room n old mid may same had = record {
     suits rooms.Unmount n h e = (and_parts (is_unmount n.kind) (dsize n == 0) h).0
 
 -- The device failed while a node was put.
-pub put_failed : (room : Room) (n : Node) (cause : Cause) (old new : CoreState) → cause ≡ Device → new.failed ≡ true → old.faults < new.faults → ((past : List Node) → RepresentsWorking past old → MayPut past old.index.sector_size room n → HasFailed (λ m. m ≡ n) past new) → PutRefused room n cause old new
-put_failed room n cause old new device fails faults left = subst (λ c. PutRefused room n c old new) (sym device) (record {
-  stands = λ past known may. record { fails = fails; faults = faults; left = left past known may };
+pub put_failed : (room : Room) (n : Node) (cause : Cause) (old new : CoreState) → cause ≡ Device → new.failed ≡ true → old.faults < new.faults → ((past : List Node) → RepresentsWorking past old → MayPut past old.index.sector_size room n → HasFailed (λ m. m ≡ n) past new) → new.wear.bytes ≤ old.wear.bytes + (record_len n + 1) → PutRefused room n cause old new
+put_failed room n cause old new device fails faults left programs = subst (λ c. PutRefused room n c old new) (sym device) (record {
+  stands = λ past known may. record { fails = fails; faults = faults; programs = inr (n, refl, omega (arith, programs)); left = left past known may };
   no_room = λ is. absurd (other is);
   same = λ is. absurd (is refl);
 })

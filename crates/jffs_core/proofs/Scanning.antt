@@ -93,7 +93,7 @@ pub stopped_scans_find : StoppedScansFind
 stopped_scans_find mounted past old new s h intact =
     let copies = h.added in
     let same : state_of_past h.after ≡ state_of_past past = ap state_of_past copies.joined ∙ copies_state past copies.copies copies.true_copies in
-    let fails : FailsIn (IsOwnCopy h.after) h.after old new = h.why.1 in
+    let fails : FailsIn (IsOwnCopy h.after) past h.after old new = h.why.1 in
     found_with (λ n. ⊥) mounted h.after past new s.grown same (failed_more (IsOwnCopy h.after) (λ n. IsOwnCopy h.after n ⊎ ⊥) (λ n own. inl own) h.after new fails.left) intact
 
 -- One of these sectors is erased.

@@ -19,20 +19,20 @@ use Rattle.jffs_log.specs.LogIndex.{layout_in}
 use Rattle.jffs_core.specs.CoreState.{CoreState}
 use Rattle.jffs_core.specs.History.{AreOwnCopies, MayFollow, Grows}
 use Rattle.jffs_core.specs.Run.{OnlyCopies, is_failure}
-use Rattle.jffs_core.specs.Step.{Turn, IsStep, IsInHand, OutcomeIs, ends_with_unmount, RefusedBy, HadNoRoom, MakesRoom, decision, takes_no_node, had_room, gets_room, past_with_room, room_of}
+use Rattle.jffs_core.specs.Step.{Turn, IsStep, IsInHand, OutcomeIs, newest_is_unmount, RefusedBy, HadNoRoom, MakesRoom, decision, takes_no_node, had_room, gets_room, past_with_room, room_of}
 use Rattle.jffs_core.specs.Nodes.{listed}
 use Rattle.jffs_core.specs.RoomSteps.{UnmountsHaveRoom}
 use Rattle.jffs_core.specs.Past.{RepresentsWorking, RepresentsPast, HasFailed, gc_state, has_room_for}
-use Rattle.jffs_core.specs.Calls.{RefusedWith, KeepsTwo}
+use Rattle.jffs_core.specs.Calls.{RefusedWith, KeepsTwo, ProgramsOnce}
 use Rattle.jffs_core.specs.Appending.{MayPut, HasPut, PutRefused}
-use Rattle.jffs_core.specs.Answering.{IsNodeOf, HasAnswered, AnswersWith, DoesNothing, KeepsAnswer, keeps_two, turn_of}
+use Rattle.jffs_core.specs.Answering.{IsNodeOf, HasAnswered, AnswersWith, DoesNothing, KeepsAnswer, MayStand, ProgramsFor, keeps_two, turn_of}
 use Rattle.jffs_log.specs.Cleaning.{GcState, Layout, used}
 use Rattle.jffs_log.specs.Work.{live_and_free}
 use Rattle.jffs_log.proofs.rooms.Bound.{fresh_keeps_two}
 use Rattle.jffs_core.proofs.Deciding.{is_of_tree}
 use Rattle.jffs_core.proofs.Contents.{grows_along, step_grows}
 use Rattle.jffs_core.proofs.Mounting.{clean_ends}
-use Rattle.jffs_core.proofs.Refusing.{works_past, by_refusal, refused_past, fails_as, works_on_faults, same_cause, device_left, refused_keeps}
+use Rattle.jffs_core.proofs.Refusing.{works_past, by_refusal, refused_past, fails_as, works_on_faults, same_cause, device_left, refused_keeps, put_programs, same_programs, refused_programs}
 use Rattle.jffs_core.proofs.Unchanged.{none_changed, kept_unchanged, layout_unchanged, does_something}
 use Rattle.jffs_core.proofs.Asked.{decision_is, unmount_is, its_version, its_room, by_length, own_in_hand}
 use Rattle.jffs_core.proofs.RoomMade.{room_at_once}
@@ -80,7 +80,7 @@ granted (Err cause) h = cc
 
 -- Steps of a core that works.
 module _ (past : List Node) (old new : CoreState) (q : Request) (works : old.failed ≡ false) (known : RepresentsWorking past old) where
-  clean_so : old.clean ≡ true → ends_with_unmount past ≡ true
+  clean_so : old.clean ≡ true → newest_is_unmount past ≡ true
   clean_so is = clean_ends past old.image old.index old.tree old.limits old.clean known is
 
   -- an answer that isn't Failed, after own copies and an own node, which lead to this history
@@ -110,11 +110,12 @@ module _ (past : List Node) (old new : CoreState) (q : Request) (works : old.fai
   already_closed same unmounts clean = record {
     after = past;
     stands = subst (RepresentsPast past) (sym same) (works_past past old works known);
-    step = step_of Closed [] [] (λ e. cc) tt (inl refl) no_work (unmounts, refl, inl (clean, refl));
+    step = step_of Closed [] [] (λ e. cc) tt (inl refl) no_work (record { wish = unmounts; none = refl; node = inl (clean, refl) });
     own = refl;
     fails = ap (λ (c : CoreState). c.failed) same ∙ works;
     faults = λ w. ap (λ (c : CoreState). c.faults) same;
     in_hand = λ e. cc;
+    programs = inl (same_programs past old new (ap (λ (c : CoreState). c.wear) same));
     two = λ k. absurd (both_ways (keeps_two Closed) refl k);
     same = λ none. none_changed old new same;
   }
@@ -134,6 +135,7 @@ module _ (past : List Node) (old new : CoreState) (q : Request) (works : old.fai
         fails = ap (λ (c : CoreState). c.failed) same ∙ works ∙ sym (elim why [ inl memory ↦ ap (λ c. is_failure (Refused c)) memory.0 | inr tree ↦ no_failure cause tree.0 ]);
         faults = λ w. ap (λ (c : CoreState). c.faults) same;
         in_hand = λ e. absurd (elim why [ inl memory ↦ memory_only (ap (λ c. Refused c) (sym memory.0) ∙ e) | inr tree ↦ not_device cause tree.0 e ]);
+        programs = inl (same_programs past old new (ap (λ (c : CoreState). c.wear) same));
         two = λ k e. subst (λ (c : CoreState). 2 ≤ (layout_in c.image c.index).erased) (sym same) e;
         same = λ none. none_changed old new same;
       }
@@ -147,11 +149,20 @@ module _ (past : List Node) (old new : CoreState) (q : Request) (works : old.fai
     after = node ∷ past;
     stands = works_past (node ∷ past) new h.works (h.represents past known may);
     step = step_of (Copied node.version) [] (node ∷ []) (λ e. cc) tt (inl refl) no_work
-        (of.new, copies, decision_is past old q known ∙ of.decided, refl, its_version past old q node known of, ap (λ (m : Node). m ∷ []) of.is, its_room past old q node known of new rooms.Fresh true is h.had_room);
+        (record {
+          wish = copies;
+          new = of.new;
+          decided = decision_is past old q known ∙ of.decided;
+          none = refl;
+          next = its_version past old q node known of;
+          added = ap (λ (m : Node). m ∷ []) of.is;
+          room = its_room past old q node known of new rooms.Fresh true is h.had_room;
+        });
     own = refl;
     fails = h.works;
     faults = λ w. h.faults;
     in_hand = λ e. cc;
+    programs = inl (put_programs node past old new h.programs);
     two = λ k. fresh_put_keeps node old new h;
     same = λ none. absurd none;
   }
@@ -161,11 +172,24 @@ module _ (past : List Node) (old new : CoreState) (q : Request) (works : old.fai
     after = node ∷ past;
     stands = works_past (node ∷ past) new h.works (h.represents past known may);
     step = step_of Closed [] (node ∷ []) (λ e. cc) tt (inl refl) no_work
-        (unmounts, refl, inr (dirty, (of.new, node.version, decision_is past old q known ∙ of.decided, its_version past old q node known of, ap (λ (m : Node). m ∷ []) of.is, its_room past old q node known of new rooms.Unmount true is h.had_room)));
+        (record {
+          wish = unmounts;
+          none = refl;
+          node = inr (record {
+            unclean = dirty;
+            new = of.new;
+            version = node.version;
+            decided = decision_is past old q known ∙ of.decided;
+            next = its_version past old q node known of;
+            added = ap (λ (m : Node). m ∷ []) of.is;
+            room = its_room past old q node known of new rooms.Unmount true is h.had_room;
+          });
+        });
     own = refl;
     fails = h.works;
     faults = λ w. h.faults;
     in_hand = λ e. cc;
+    programs = inl (put_programs node past old new h.programs);
     two = λ k. absurd (both_ways (keeps_two Closed) refl k);
     same = λ clean. absurd (both_ways old.clean dirty clean);
   }
@@ -185,13 +209,14 @@ module _ (past : List Node) (old new : CoreState) (q : Request) (works : old.fai
       let step = by_cause cause h stands none in
       record {
         after = past;
-        stands = refused_past P past (λ m same. subst (MayFollow past) (sym same) may.follows) cause old new stands;
+        stands = refused_past P past past (λ m same. subst (MayFollow past) (sym same) may.follows) cause old new stands;
         step = step;
         own = step.outcome.1;
-        fails = fails_as P cause past old new stands;
-        faults = works_on_faults P cause past old new stands;
-        in_hand = device_left P (IsInHand (turn_of past old new) q past) (λ m same. subst (IsInHand (turn_of past old new) q past) (sym same) (own_in_hand past old q known node node of past new of.is has_next)) cause past old new stands;
-        two = λ k. refused_keeps P cause past old new stands (λ e two. subst (λ (l : Layout). 2 ≤ l.erased) (sym (layout_unchanged old new (h.same (not_for_room cause e)))) two) k;
+        fails = fails_as P cause past past old new stands;
+        faults = works_on_faults P cause past past old new stands;
+        in_hand = device_left P (IsInHand (turn_of past old new) q past) in_hand cause past past old new stands;
+        programs = refused_programs P (MayStand (turn_of past old new) q (Refused cause) past) cause past past old new (λ m device same. (ap (λ c. Refused c) device, in_hand m same)) stands;
+        two = λ k. refused_keeps P cause past past old new stands (λ e two. subst (λ (l : Layout). 2 ≤ l.erased) (sym (layout_unchanged old new (h.same (not_for_room cause e)))) two) k;
         same = λ none. h.same (does_something cause (turn_of past old new) q none);
       }
     where
@@ -201,12 +226,15 @@ module _ (past : List Node) (old new : CoreState) (q : Request) (works : old.fai
       has_next : next_version past ≡ Some node.version
       has_next = ap (λ (l : Limits). l.next_version) (sym known.limits_are) ∙ of.next
 
+      in_hand : (m : Node) → P m → IsInHand (turn_of past old new) q past m
+      in_hand m same = subst (IsInHand (turn_of past old new) q past) (sym same) (own_in_hand past old q known node node of past new of.is has_next)
+
       no_next : next_version past ≡ None → ⊥
       no_next e = none-some node.version (sym e ∙ has_next)
 
-      by_cause : (c : Cause) → PutRefused room node c old new → RefusedWith P c past old new → (c ≡ causes.NoSpace → is_fresh (with of.new 0 0 0) ≡ true → ⊥) → IsStep (turn_of past old new) q (Refused c) past
+      by_cause : (c : Cause) → PutRefused room node c old new → RefusedWith P c past past old new → (c ≡ causes.NoSpace → is_fresh (with of.new 0 0 0) ≡ true → ⊥) → IsStep (turn_of past old new) q (Refused c) past
       by_cause c h r none =
-          by_refusal P past old new (λ c. PutRefused room node c old new → (c ≡ causes.NoSpace → is_fresh (with of.new 0 0 0) ≡ true → ⊥) → IsStep (turn_of past old new) q (Refused c) past)
+          by_refusal P past past old new (λ c. PutRefused room node c old new → (c ≡ causes.NoSpace → is_fresh (with of.new 0 0 0) ≡ true → ⊥) → IsStep (turn_of past old new) q (Refused c) past)
           (λ w spent h none. absurd (no_next spent))
           (λ w h none. step_of (Refused causes.Memory) [] [] (λ e. cc) tt (inl refl) no_work ((of.takes_node, (of.new, decision_is past old q known ∙ of.decided)), refl))
           (λ w h none. step_of (Refused causes.NoSpace) [] [] (λ e. cc) tt (inl refl) no_work
@@ -215,8 +243,8 @@ module _ (past : List Node) (old new : CoreState) (q : Request) (works : old.fai
           c r h none
 
   -- a fresh record was put at once
-  pub put_now : (node : Node) (of : IsNodeOf old q node) → is_fresh (with of.new 0 0 0) ≡ true → has_room_for old rooms.Fresh (record_len node) ≡ true → new.failed ≡ false → new.faults ≡ old.faults → KeepsTwo old new → RepresentsPast (node ∷ past) new → HasAnswered past old new q (Appended node.inode node.version) (Some node)
-  put_now node of fresh had now_works no_fault two stands =
+  pub put_now : (node : Node) (of : IsNodeOf old q node) → is_fresh (with of.new 0 0 0) ≡ true → has_room_for old rooms.Fresh (record_len node) ≡ true → new.failed ≡ false → new.faults ≡ old.faults → KeepsTwo old new → ProgramsOnce past (node ∷ past) old new → RepresentsPast (node ∷ past) new → HasAnswered past old new q (Appended node.inode node.version) (Some node)
+  put_now node of fresh had now_works no_fault two programs stands =
       let z = old.index.sector_size in
       let log = layout_in old.image old.index in
       let room = room_at_once z (record_len (with of.new 0 0 0)) (length log.sectors) (gc_state past old) (by_length past old q node known of (λ k. has_room_for old rooms.Fresh k ≡ true) had) in
@@ -224,46 +252,67 @@ module _ (past : List Node) (old new : CoreState) (q : Request) (works : old.fai
         after = node ∷ past;
         stands = stands;
         step = step_of (Appended node.inode node.version) [] (node ∷ []) (λ e. cc) tt (inl refl) no_work
-            (of.new, decision_is past old q known ∙ of.decided, fresh, ap (λ (m : Node). m.inode) (sym of.is), its_version past old q node known of, ap (λ (m : Node). m ∷ []) of.is, room.0, sym (ap (λ (s : GcState). s.past) room.1));
+            (record {
+              new = of.new;
+              decided = decision_is past old q known ∙ of.decided;
+              fresh = fresh;
+              inode_is = ap (λ (m : Node). m.inode) (sym of.is);
+              next = its_version past old q node known of;
+              added = ap (λ (m : Node). m ∷ []) of.is;
+              room = room.0;
+              made = sym (ap (λ (s : GcState). s.past) room.1);
+            });
         own = refl;
         fails = now_works;
         faults = λ w. no_fault;
         in_hand = λ e. cc;
+        programs = inl programs;
         two = λ k. two;
         same = λ none. absurd none;
       }
 
   -- a fresh record was put, after own copies
   pub put_fresh : (node next : Node) (after : List Node) (of : IsNodeOf old q node) → is_fresh (with of.new 0 0 0) ≡ true → (copies : OnlyCopies past after) → (copies.copies ≡ []) ⊎ MakesRoom (turn_of past old new) q
-      → used copies.copies ≤ live_and_free (gc_state past old) → (gets_room (turn_of past old new) of.new ≡ true) × (after ≡ past_with_room (turn_of past old new) of.new) → next ≡ with of.new next.version q.writer q.seq → next_version after ≡ Some next.version → new.failed ≡ false → new.faults ≡ old.faults → KeepsTwo old new → RepresentsPast (next ∷ after) new → HasAnswered past old new q (Appended next.inode next.version) (Some next)
-  put_fresh node next after of fresh copies room little gets is version now_works no_fault two stands = record {
+      → used copies.copies ≤ live_and_free (gc_state past old) → (gets_room (turn_of past old new) of.new ≡ true) × (after ≡ past_with_room (turn_of past old new) of.new) → next ≡ with of.new next.version q.writer q.seq → next_version after ≡ Some next.version → new.failed ≡ false → new.faults ≡ old.faults → KeepsTwo old new → ProgramsOnce past (next ∷ after) old new → RepresentsPast (next ∷ after) new → HasAnswered past old new q (Appended next.inode next.version) (Some next)
+  put_fresh node next after of fresh copies room little gets is version now_works no_fault two programs stands = record {
     after = next ∷ after;
     stands = stands;
     step = step_to (Appended next.inode next.version) copies.copies (next ∷ []) (next ∷ after) (ap (λ (nodes : List Node). next ∷ nodes) copies.joined) (λ e. cc) copies.true_copies room little
-        (of.new, decision_is past old q known ∙ of.decided, fresh, ap (λ (m : Node). m.inode) (sym is), ap next_version (sym copies.joined) ∙ version, ap (λ (m : Node). m ∷ []) is, gets.0, sym copies.joined ∙ gets.1);
+        (record {
+          new = of.new;
+          decided = decision_is past old q known ∙ of.decided;
+          fresh = fresh;
+          inode_is = ap (λ (m : Node). m.inode) (sym is);
+          next = ap next_version (sym copies.joined) ∙ version;
+          added = ap (λ (m : Node). m ∷ []) is;
+          room = gets.0;
+          made = sym copies.joined ∙ gets.1;
+        });
     own = refl;
     fails = now_works;
     faults = λ w. no_fault;
     in_hand = λ e. cc;
+    programs = inl programs;
     two = λ k. two;
     same = λ none. absurd none;
   }
 
   -- room couldn't be made
   pub make_stopped : (P : Node → Type 0) (node : Node) (cause : Cause) (after : List Node) (of : IsNodeOf old q node) → ((m : Node) → P m → IsInHand (turn_of past old new) q after m × MayFollow after m)
-      → is_fresh (with of.new 0 0 0) ≡ true → had_room (turn_of past old new) of.new ≡ false → (copies : OnlyCopies past after) → used copies.copies ≤ live_and_free (gc_state past old) → RefusedWith P cause after old new
+      → is_fresh (with of.new 0 0 0) ≡ true → had_room (turn_of past old new) of.new ≡ false → (copies : OnlyCopies past after) → used copies.copies ≤ live_and_free (gc_state past old) → RefusedWith P cause past after old new
       → (cause ≡ causes.NoSpace → 2 ≤ (layout_in old.image old.index).erased → heavy old.index.sectors old.index.sector_size ≤ weight past) → (cause ≡ causes.NoSpace → gets_room (turn_of past old new) of.new ≡ false) → (cause ≡ causes.NoSpace → KeepsTwo old new) → HasAnswered past old new q (Refused cause) None
   make_stopped P node cause after of in_hand fresh none copies little r bound full two =
       let step : IsStep (turn_of past old new) q (Refused cause) after = subst (IsStep (turn_of past old new) q (Refused cause)) (sym copies.joined) (by_cause cause r bound full) in
       record {
         after = after;
-        stands = refused_past P after (λ m h. (in_hand m h).1) cause old new r;
+        stands = refused_past P past after (λ m h. (in_hand m h).1) cause old new r;
         step = step;
         own = step.outcome.1;
-        fails = fails_as P cause after old new r;
-        faults = works_on_faults P cause after old new r;
-        in_hand = device_left P (IsInHand (turn_of past old new) q after) (λ m h. (in_hand m h).0) cause after old new r;
-        two = λ k. refused_keeps P cause after old new r two k;
+        fails = fails_as P cause past after old new r;
+        faults = works_on_faults P cause past after old new r;
+        in_hand = device_left P (IsInHand (turn_of past old new) q after) (λ m h. (in_hand m h).0) cause past after old new r;
+        programs = refused_programs P (MayStand (turn_of past old new) q (Refused cause) after) cause past after old new (λ m device h. (ap (λ c. Refused c) device, (in_hand m h).0)) r;
+        two = λ k. refused_keeps P cause past after old new r two k;
         same = λ none. absurd (room_was_made cause r none);
       }
     where
@@ -273,15 +322,15 @@ module _ (past : List Node) (old new : CoreState) (q : Request) (works : old.fai
       made : MakesRoom (turn_of past old new) q
       made = (of.new, no_room, fresh)
 
-      room_was_made : (c : Cause) → RefusedWith P c after old new → DoesNothing (Refused c) (turn_of past old new) q → ⊥
+      room_was_made : (c : Cause) → RefusedWith P c past after old new → DoesNothing (Refused c) (turn_of past old new) q → ⊥
       room_was_made c r =
-          by_refusal P after old new (λ c. DoesNothing (Refused c) (turn_of past old new) q → ⊥)
+          by_refusal P past after old new (λ c. DoesNothing (Refused c) (turn_of past old new) q → ⊥)
           (λ w spent none. none made) (λ w none. none made) (λ w none. none made) (λ d none. none) c r
 
-      by_cause : (c : Cause) → RefusedWith P c after old new → (c ≡ causes.NoSpace → 2 ≤ (layout_in old.image old.index).erased → heavy old.index.sectors old.index.sector_size ≤ weight past) → (c ≡ causes.NoSpace → gets_room (turn_of past old new) of.new ≡ false)
+      by_cause : (c : Cause) → RefusedWith P c past after old new → (c ≡ causes.NoSpace → 2 ≤ (layout_in old.image old.index).erased → heavy old.index.sectors old.index.sector_size ≤ weight past) → (c ≡ causes.NoSpace → gets_room (turn_of past old new) of.new ≡ false)
           → IsStep (turn_of past old new) q (Refused c) (copies.copies ++ past)
       by_cause c r bound full =
-          by_refusal P after old new
+          by_refusal P past after old new
           (λ c. (c ≡ causes.NoSpace → 2 ≤ (layout_in old.image old.index).erased → heavy old.index.sectors old.index.sector_size ≤ weight past) → (c ≡ causes.NoSpace → gets_room (turn_of past old new) of.new ≡ false) → IsStep (turn_of past old new) q (Refused c) (copies.copies ++ past))
           (λ w spent bound full. step_of (Refused causes.VersionsSpent) copies.copies [] (λ e. cc) copies.true_copies (inr made) little ((of.takes_node, inr (made, ap next_version (sym copies.joined) ∙ spent)), refl))
           (λ w bound full. step_of (Refused causes.Memory) copies.copies [] (λ e. cc) copies.true_copies (inr made) little ((of.takes_node, (of.new, no_room.decided)), refl))
@@ -318,6 +367,7 @@ failed_answer past c q fails h = record {
   fails = fails;
   faults = λ w. refl;
   in_hand = λ e. cc;
+  programs = inl (same_programs past c c refl);
   two = λ k e. e;
   same = λ none. none_changed c c refl;
 }
@@ -348,6 +398,8 @@ answered writer seq o node mounted past old middle new q grown h kept =
             let b = h.in_hand device in
             subst (λ t. HasFailed (IsInHand t q h.after) h.after new) same
             (subst (HasFailed (IsInHand (turn_of past old middle) q h.after) h.after) (sym kept) (record { clean = b.clean; tree = b.tree; left = b.left }));
+        programs = subst (λ t. ProgramsFor t q o past h.after old new) same
+            (subst (λ (c : CoreState). ProgramsFor (turn_of past old middle) q o past h.after old c) (sym kept) h.programs);
         two = λ k e. subst (λ (c : CoreState). 2 ≤ (layout_in c.image c.index).erased) (sym kept) (h.two k e);
         same = λ none. kept_unchanged writer seq o old middle new kept (h.same (subst (λ t. DoesNothing o t q) (sym same) none));
       };

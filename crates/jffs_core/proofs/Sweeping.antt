@@ -6,6 +6,7 @@ use Rattle.std.proofs.lemmas.List.{length-map}
 use Rattle.jffs_node.specs.declared.node.Node.{Node}
 use Rattle.jffs_node.specs.Record.{record_len}
 use Rattle.jffs_tree.specs.declared.wish.Cause.{Cause}
+use Rattle.jffs_tree.specs.declared.wish.Cause.TheVariants as causes
 use Rattle.jffs_tree.specs.declared.wish.Limits.{Limits}
 use Rattle.jffs_tree.specs.declared.wish.NewNode.{NewNode}
 use Rattle.jffs_tree.specs.State.{Entry, state_of_past}
@@ -37,14 +38,14 @@ use Rattle.jffs_core.specs.Calls.{RefusedAt}
 use Rattle.jffs_core.specs.Appending.{MayPut, HasPut, PutRefused}
 use Rattle.jffs_core.specs.Cleaning.{HasHandled, CopyStopped, EraseStopped}
 use Rattle.jffs_core.proofs.Deciding.{next_is_newest}
-use Rattle.jffs_core.proofs.Refusing.{failed_more, refused_more}
+use Rattle.jffs_core.proofs.Refusing.{refused_more, works_still, put_programs}
 use Rattle.jffs_core.proofs.Asked.{known_version}
 
 -- An erase that stopped is a refusal as others are.
-pub erase_refused : (cause : Cause) (past : List Node) (old new : CoreState) → RepresentsWorking past old → EraseStopped cause old new → RefusedAt cause past old new
+pub erase_refused : (cause : Cause) (past : List Node) (old new : CoreState) → RepresentsWorking past old → EraseStopped cause old new → RefusedAt cause past past old new
 erase_refused cause past old new known stopped =
     let d = stopped.history past known in
-    subst (λ c. RefusedAt c past old new) (sym stopped.cause_is) (record { fails = d.fails; faults = d.faults; left = failed_more (λ n. ⊥) (IsOwnCopy past) (λ n none. absurd none) past new d.left })
+    subst (λ c. RefusedAt c past past old new) (sym stopped.cause_is) (refused_more (λ n. ⊥) (IsOwnCopy past) (λ n none. absurd none) causes.Device past past old new d)
 
 -- The sectors of the log, and the oldest of them.
 pub held_is : (image : List ℕ) (b : LogIndex) → IsLogIndex image b → length (layout_in image b).sectors ≡ b.held
@@ -87,7 +88,7 @@ pub skipped : (past : List Node) (source : Node) (c : CoreState) → c.failed �
 skipped past source c works known dead = record {
   after = past;
   added = record { copies = []; true_copies = tt; joined = refl };
-  stands = record { works = works; faults = refl; represents = known };
+  stands = works_still past c works known;
   turn = ap (λ t. cond t (with_copy c.index.sector_size source (gc_state past c)) (gc_state past c)) (sym dead);
   room = ap (λ t. not t || has_room rooms.Copy (record_len (copied past source)) (layout_in c.image c.index).free (layout_in c.image c.index).erased) dead;
   counted = omega arith;
@@ -134,7 +135,7 @@ module _ (past : List Node) (c : CoreState) (source : Node) (version : ℕ) (kno
           true_copies = (tt, is_own);
           joined = refl;
         };
-        stands = record { works = h2.works; faults = h2.faults; represents = h2.represents past known (copy_may short) };
+        stands = record { works = h2.works; faults = h2.faults; programs = put_programs (copied past source) past c new h2.programs; represents = h2.represents past known (copy_may short) };
         turn = (λ i. record { past = copied past source ∷ past; log = h2.log i }) ∙ ap (λ t. cond t (with_copy c.index.sector_size source s) s) (sym live);
         room = ap (λ t. not t || has_room rooms.Copy (record_len (copied past source)) log.free log.erased) live ∙ h2.had_room;
         counted = omega arith;
@@ -146,8 +147,9 @@ module _ (past : List Node) (c : CoreState) (source : Node) (version : ℕ) (kno
       let log = layout_in c.image c.index in
       record {
         live = live;
-        stands = refused_more (λ m. m ≡ copied past source) (IsOwnCopy past) (λ m same. subst (IsOwnCopy past) (sym same) is_own) cause past c new (h2.stands past known (copy_may short));
+        stands = refused_more (λ m. m ≡ copied past source) (IsOwnCopy past) (λ m same. subst (IsOwnCopy past) (sym same) is_own) cause past past c new (h2.stands past known (copy_may short));
         no_room = λ e. ap (λ t. not t || has_room rooms.Copy (record_len (copied past source)) log.free log.erased) live ∙ h2.no_room e;
+        version = λ e. (version_after past, is_next);
       }
 
 -- The device was read, and nothing else is changed.

@@ -15,12 +15,12 @@ not_none a e = cc
 
 -- The node of a lawful step has the numbers of its outcome.
 pub node_told : (t : Turn) (q : Request) (o : Outcome) (after : List Node) (node : Option Node) → (s : IsStep t q o after) → s.own ≡ listed node → HasNode o node
-node_told t q (Appended inode version) after None s is = absurd (not_none _ (sym is ∙ s.outcome.5))
+node_told t q (Appended inode version) after None s is = absurd (not_none _ (sym is ∙ s.outcome.added))
 node_told t q (Appended inode version) after (Some node) s is =
-    let same = is_one node _ (sym is ∙ s.outcome.5) in
-    (ap (λ (m : Node). m.inode) same ∙ s.outcome.3, ap (λ (m : Node). m.version) same)
-node_told t q (Copied version) after None s is = absurd (not_none _ (sym is ∙ s.outcome.5))
-node_told t q (Copied version) after (Some node) s is = ap (λ (m : Node). m.version) (is_one node _ (sym is ∙ s.outcome.5))
+    let same = is_one node _ (sym is ∙ s.outcome.added) in
+    (ap (λ (m : Node). m.inode) same ∙ s.outcome.inode_is, ap (λ (m : Node). m.version) same)
+node_told t q (Copied version) after None s is = absurd (not_none _ (sym is ∙ s.outcome.added))
+node_told t q (Copied version) after (Some node) s is = ap (λ (m : Node). m.version) (is_one node _ (sym is ∙ s.outcome.added))
 node_told t q Closed after None s is = tt
 node_told t q Closed after (Some node) s is = tt
 node_told t q (Refused cause) after None s is = refl

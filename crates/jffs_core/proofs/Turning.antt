@@ -21,7 +21,7 @@ use Rattle.jffs_core.specs.Step.{room_can_be_made}
 use Rattle.jffs_core.specs.Calls.{WorksOn}
 use Rattle.jffs_core.specs.Cleaning.{HasCleaned, HasMadeRoom, MakingStopped, SectorStopped}
 use Rattle.jffs_core.proofs.Lawful.{copies_along}
-use Rattle.jffs_core.proofs.Refusing.{refused_along}
+use Rattle.jffs_core.proofs.Refusing.{refused_along, works_along, works_still}
 use Rattle.jffs_core.specs.Erases.{Leaves}
 use Rattle.jffs_core.proofs.Erasing.{leaves_all}
 use Rattle.jffs_core.proofs.Full.{sizes_low}
@@ -29,7 +29,7 @@ use Rattle.jffs_core.proofs.Full.{sizes_low}
 -- Room is being made, and `left` cleanings are left.
 pub record HasTurned (len left : ℕ) (past after : List Node) (old now : CoreState) : Type 0 where
   pub copies : OnlyCopies past after
-  pub stands : WorksOn after old now
+  pub stands : WorksOn past after old now
   pub turn : room_made old.index.sector_size len left (gc_state after now) ≡ room_made old.index.sector_size len (length (layout_in old.image old.index).sectors) (gc_state past old)
   pub room : room_can_be_made old.index.sector_size len (length (layout_in old.image old.index).sectors) (gc_state past old) ≡ room_can_be_made old.index.sector_size len left (gc_state after now)
   pub two : 2 ≤ (layout_in old.image old.index).erased → 2 ≤ (layout_in now.image now.index).erased
@@ -51,7 +51,7 @@ turning_begins len left c works is few = record {
     past,
     record {
       copies = record { copies = []; true_copies = tt; joined = refl };
-      stands = record { works = works; faults = refl; represents = known };
+      stands = works_still past c works known;
       turn = ap (λ k. room_made c.index.sector_size len k (gc_state past c)) is;
       room = ap (λ k. room_can_be_made c.index.sector_size len k (gc_state past c)) (sym is);
       two = λ e. e;
@@ -90,7 +90,7 @@ turning_goes_on len left copies past after later old middle new sizes h none sev
     let one = cleaned_spent copies_take_over z left s h.may in
     record {
       copies = copies_along past after later h.copies c.added;
-      stands = record { works = c.stands.works; faults = c.stands.faults ∙ h.stands.faults; represents = c.stands.represents };
+      stands = works_along past after later old middle new h.stands c.stands;
       turn = ap (room_made z len left) same ∙ sym (ap (λ t. cond t s (room_made z len left (cleaned z s))) none) ∙ h.turn;
       room = h.room ∙ one_more_turn z len left s true none (ap (λ y. copies_have_room y (oldest_records s.log.sectors) s) sizes.1 ∙ c.room) ∙ ap (room_can_be_made z len left) (sym same);
       two = λ e.
@@ -125,7 +125,7 @@ turning_stopped len left past after later cause old middle new sizes h none one 
     record {
       stopped = record {
         copies = copies;
-        stands = refused_along (IsOwnCopy later) cause later old middle new h.stands.faults c.stands;
+        stands = refused_along (IsOwnCopy later) cause past after later old middle new h.stands c.stands;
         no_room = λ e two. c.no_room e (h.two two);
       };
       none = λ e. h.room ∙ one_more_turn z len left s false none (ap (λ y. copies_have_room y (oldest_records s.log.sectors) s) sizes.1 ∙ wants.at_turn e);

@@ -1,5 +1,6 @@
--- What is copied for an answer.
-use Rattle.std.proofs.Common.{◌≡◌, ⊎_elim, ℕ, ◌≤◌, List, [], ◌++◌, length, sym, ap, ◌∙◌, arith}
+-- What is copied and programmed for an answer.
+use Rattle.std.proofs.Common.{◌≡◌, inl, inr, ⊎_elim, ℕ, ◌+◌, ◌≤◌, List, [], ◌∷◌, ◌++◌, length, refl, sym, ap, ◌∙◌, arith}
+use Rattle.std.proofs.lemmas.Bool.{both_ways}
 use Rattle.jffs_node.specs.declared.node.Node.{Node}
 use Rattle.jffs_log.specs.Cleaning.{GcState, used, room_made}
 use Rattle.jffs_log.specs.RoomLaws.{IsSound}
@@ -10,10 +11,33 @@ use Rattle.jffs_log.proofs.rooms.WorkOfTurns.{making_room_copies_little, each_lo
 use Rattle.jffs_core.specs.CoreState.{CoreState}
 use Rattle.jffs_core.specs.Past.{RepresentsWorking, gc_state}
 use Rattle.jffs_core.specs.Cleaning.{HasMadeRoom}
-use Rattle.jffs_core.specs.Work.{AnswersCopyLittle, RefusedAddNothing}
+use Rattle.jffs_core.specs.Work.{AnswersCopyLittle, AnswersProgramLittle, RefusedAddNothing}
+use Rattle.jffs_core.specs.Answering.{ProgramsFor, turn_of}
+use Rattle.jffs_core.specs.Calls.{written}
+use Rattle.jffs_core.specs.Run.{is_failure}
 
 pub answers_copy_little : AnswersCopyLittle
 answers_copy_little t q o after step = record { bytes = step.copies_are_little; count = each_long step.copies }
+
+written_both : (xs ys : List Node) → written (xs ++ ys) ≡ written xs + written ys
+written_both [] ys = let none : written [] ≡ 0 = refl in omega arith
+written_both (x ∷ xs) ys = let later = written_both xs ys in omega arith
+
+pub answers_program_little : AnswersProgramLittle
+answers_program_little mounted past old new q o answer works = by_hand answer.programs
+  where
+    own : List Node
+    own = answer.step.own
+
+    copies_of : List Node
+    copies_of = answer.step.copies
+
+    by_hand : ProgramsFor (turn_of past old new) q o past answer.after old new → new.wear.bytes ≤ old.wear.bytes + written (own ++ copies_of)
+    by_hand (inl programs) =
+        let all : written answer.after ≡ written (own ++ copies_of ++ past) = ap written answer.step.joined in
+        let both = written_both (own ++ copies_of) past in
+        omega (arith, all, both, programs)
+    by_hand (inr hand) = absurd (both_ways new.failed works (answer.fails ∙ ap is_failure hand.1.0))
 
 pub refused_add_nothing : RefusedAddNothing
 refused_add_nothing t q cause after step no_room =

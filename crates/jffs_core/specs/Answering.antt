@@ -16,9 +16,10 @@ use Rattle.jffs_core.specs.declared.answer.Answered.{Answered}
 use Rattle.jffs_core.specs.CoreState.{CoreState, IsSameButAnswers}
 use Rattle.jffs_core.specs.Run.{is_failure}
 use Rattle.jffs_core.specs.Past.{RepresentsWorking, HasFailed, RepresentsPast, Represents}
+use Rattle.jffs_core.specs.Past.{OrOneMore}
 use Rattle.jffs_core.specs.Step.{Turn, IsStep, IsInHand, MakesRoom}
 use Rattle.jffs_core.specs.Nodes.{listed}
-use Rattle.jffs_core.specs.Calls.{KeepsTwo}
+use Rattle.jffs_core.specs.Calls.{KeepsTwo, ProgramsOnce}
 
 -- the node that was decided on for the request, with the next version, by a core that represents
 -- some history
@@ -72,6 +73,17 @@ DoesNothing (Refused Device) t q = ⊥
 DoesNothing (Refused _) t q = Unit {0}
 DoesNothing _ t q = ⊥
 
+-- the node in hand, which may have been programmed too, where the device failed
+abbrev pub MayStand : Turn → Request → Outcome → List Node → Node → Type 0
+MayStand t q o after n = (o ≡ Refused Device) × IsInHand t q after n
+
+-- The device programmed no more for an answer than what is written for the nodes that were added, and
+-- for the node in hand where it failed.
+abbrev pub ProgramsFor : Turn → Request → Outcome → List Node → List Node → CoreState → CoreState
+    → Type 0
+ProgramsFor t q o past after old new =
+    OrOneMore (MayStand t q o after) after (λ found. ProgramsOnce past found old new)
+
 -- The answer is a lawful step from this history to another, which the core has then, and this node
 -- is what it appended for the request itself. The core has failed exactly where the answer is
 -- Device or Failed, and while it works the device failed no call. After Device only the node in
@@ -85,6 +97,7 @@ pub record HasAnswered (past : List Node) (old new : CoreState) (q : Request) (o
   pub fails : new.failed ≡ is_failure o
   pub faults : new.failed ≡ false → new.faults ≡ old.faults
   pub in_hand : o ≡ Refused Device → HasFailed (IsInHand (turn_of past old new) q after) after new
+  pub programs : ProgramsFor (turn_of past old new) q o past after old new
   pub two : keeps_two o ≡ true → KeepsTwo old new
   pub same : DoesNothing o (turn_of past old new) q → IsSameButAnswers old new
 
@@ -108,6 +121,7 @@ pub record Answers (mounted past : List Node) (old new : CoreState) (q : Request
   pub fails : new.failed ≡ is_failure o
   pub faults : new.failed ≡ false → new.faults ≡ old.faults
   pub in_hand : o ≡ Refused Device → HasFailed (IsInHand (turn_of past old new) q after) after new
+  pub programs : ProgramsFor (turn_of past old new) q o past after old new
   pub two : keeps_two o ≡ true → KeepsTwo old new
   pub same : DoesNothing o (turn_of past old new) q → IsSameButAnswers old new
 

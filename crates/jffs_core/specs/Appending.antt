@@ -1,5 +1,5 @@
 -- A node becomes the newest of the history.
-use Rattle.std.specs.Prelude.{◌≡◌, ℕ, ◌≤◌, ◌/◌, true, false, List, ◌∷◌}
+use Rattle.std.specs.Prelude.{◌≡◌, ℕ, ◌+◌, ◌≤◌, ◌/◌, true, false, List, ◌∷◌}
 use Rattle.jffs_node.specs.declared.node.Node.{Node}
 use Rattle.jffs_node.specs.Record.{record_len}
 use Rattle.jffs_tree.specs.declared.wish.Cause.{Cause}
@@ -26,6 +26,7 @@ pub record MayPut (past : List Node) (sector_size : ℕ) (room : Room) (n : Node
 pub record HasPut (room : Room) (n : Node) (old new : CoreState) : Type 0 where
   pub works : new.failed ≡ false
   pub faults : new.faults ≡ old.faults
+  pub programs : new.wear.bytes ≤ old.wear.bytes + (record_len n + 1)
   pub had_room : has_room_for old room (record_len n) ≡ true
   pub log : layout_in new.image new.index
       ≡ put old.index.sector_size room n (layout_in old.image old.index)
@@ -35,6 +36,6 @@ pub record HasPut (room : Room) (n : Node) (old new : CoreState) : Type 0 where
 -- why a node wasn't put
 pub record PutRefused (room : Room) (n : Node) (cause : Cause) (old new : CoreState) : Type 0 where
   pub stands : (past : List Node) → RepresentsWorking past old
-      → MayPut past old.index.sector_size room n → RefusedWith (λ m. m ≡ n) cause past old new
+      → MayPut past old.index.sector_size room n → RefusedWith (λ m. m ≡ n) cause past past old new
   pub no_room : cause ≡ NoSpace → has_room_for old room (record_len n) ≡ false
   pub same : (cause ≡ Device → ⊥) → IsSameButAnswers old new

@@ -1,14 +1,16 @@
 -- The oldest sector is cleaned, and dead ones are erased.
 use Rattle.std.specs.Prelude.{◌≡◌, ◌⊎◌, ℕ, zero, suc, ◌+◌, ◌/◌, ◌<◌, ◌≤◌, Bool, true, false, List}
-use Rattle.std.specs.Prelude.{◌++◌, length, take, if◌then◌else◌}
+use Rattle.std.specs.Prelude.{◌++◌, length, take, if◌then◌else◌, Some}
 use Rattle.std.specs.List.{AllByRecursion}
 use Rattle.jffs_node.specs.declared.node.Node.{Node}
 use Rattle.jffs_node.specs.Record.{record_len}
 use Rattle.jffs_tree.specs.declared.wish.Cause.{Cause}
-use Rattle.jffs_tree.specs.declared.wish.Cause.TheVariants.{VersionsSpent, NoSpace, Device, Failed}
+use Rattle.jffs_tree.specs.declared.wish.Cause.TheVariants.{VersionsSpent, Memory, NoSpace}
+use Rattle.jffs_tree.specs.declared.wish.Cause.TheVariants.{Device, Failed}
 use Rattle.jffs_tree.specs.Origin.{is_live}
 use Rattle.jffs_tree.specs.Laws.{NoneLive}
 use Rattle.jffs_log.specs.LogIndex.{layout_in, lives_in, oldest_in}
+use Rattle.jffs_log.specs.Room.{next_version}
 use Rattle.jffs_log.specs.Cleaning.{Layout, handled, handled_each, copy_has_room, copies_have_room}
 use Rattle.jffs_log.specs.Cleaning.{oldest_records, cleaned, erase_oldest, fresh_has_room}
 use Rattle.jffs_log.specs.Cleaning.{room_made, used}
@@ -20,24 +22,29 @@ use Rattle.jffs_core.specs.CoreState.{CoreState}
 use Rattle.jffs_core.specs.Run.{OnlyCopies}
 use Rattle.jffs_core.specs.Step.{room_can_be_made}
 use Rattle.jffs_core.specs.Past.{gc_state, Represents, RepresentsWorking}
-use Rattle.jffs_core.specs.Calls.{WorksOn, FailsIn, RefusedAt, KeepsTwo}
+use Rattle.jffs_core.specs.Calls.{WorksOn, FailsIn, RefusedAt, KeepsTwo, ProgramsOnce}
 
 -- A record was handled at its turn: copied where it is live, and the copy had room, else skipped.
 pub record HasHandled (past : List Node) (source : Node) (copied : Bool) (old new : CoreState) :
     Type 0 where
   pub after : List Node
   pub added : OnlyCopies past after
-  pub stands : WorksOn after old new
+  pub stands : WorksOn past after old new
   pub turn : gc_state after new ≡ handled old.index.sector_size source (gc_state past old)
   pub room : copy_has_room source (gc_state past old) ≡ true
   pub counted : length after ≡ (if copied then 1 else 0) + length past
 
--- A live record wasn't copied.
+-- a version is left for one node more
+abbrev pub HasVersionLeft : List Node → Type 0
+HasVersionLeft past = (version : ℕ) × (next_version past ≡ Some version)
+
+-- A live record wasn't copied: for want of memory only where it could have had a version.
 pub record CopyStopped (cause : Cause) (past : List Node) (source : Node) (old new : CoreState) :
     Type 0 where
   pub live : is_live past source.version ≡ true
-  pub stands : RefusedAt cause past old new
+  pub stands : RefusedAt cause past past old new
   pub no_room : cause ≡ NoSpace → copy_has_room source (gc_state past old) ≡ false
+  pub version : cause ≡ Memory → HasVersionLeft past
 
 -- A core that works represents a history with this record, which is short enough for its copy.
 pub record IsSource (source : Node) (c : CoreState) : Type 0 where
@@ -51,7 +58,7 @@ pub record IsSource (source : Node) (c : CoreState) : Type 0 where
 pub record HasCopied (nodes past after : List Node) (copies : ℕ) (old new : CoreState) :
     Type 0 where
   pub added : OnlyCopies past after
-  pub stands : WorksOn after old new
+  pub stands : WorksOn past after old new
   pub turn : gc_state after new ≡ handled_each old.index.sector_size nodes (gc_state past old)
   pub room : copies_have_room old.index.sector_size nodes (gc_state past old) ≡ true
   pub counted : length after ≡ copies + length past
@@ -75,14 +82,14 @@ copies_would_fit past c =
 -- turn, and it was erased.
 pub record HasCleaned (past after : List Node) (copies : ℕ) (old new : CoreState) : Type 0 where
   pub added : OnlyCopies past after
-  pub stands : WorksOn after old new
+  pub stands : WorksOn past after old new
   pub turn : gc_state after new ≡ cleaned old.index.sector_size (gc_state past old)
   pub room : copies_would_fit past old ≡ true
   pub counted : length after ≡ copies + length past
 
 -- The oldest sector was erased, and the history is the same.
 pub record HasErased (past : List Node) (old new : CoreState) : Type 0 where
-  pub stands : WorksOn past old new
+  pub stands : WorksOn past past old new
   pub log : layout_in new.image new.index ≡ erase_oldest (layout_in old.image old.index)
 
 -- So it was of a core that works on, whatever history it represented.
@@ -94,13 +101,13 @@ pub record ErasesOldest (old new : CoreState) : Type 0 where
 -- An erase stopped, since the device failed; no node was in hand.
 pub record EraseStopped (cause : Cause) (old new : CoreState) : Type 0 where
   pub cause_is : cause ≡ Device
-  pub history : (past : List Node) → RepresentsWorking past old → FailsIn (λ n. ⊥) past old new
+  pub history : (past : List Node) → RepresentsWorking past old → FailsIn (λ n. ⊥) past past old new
 
 -- Room was made for a fresh record of `len` bytes, if that could be: copies were added, and the log
 -- is as after some cleanings.
 pub record HasMadeRoom (len : ℕ) (past after : List Node) (old new : CoreState) : Type 0 where
   pub copies : OnlyCopies past after
-  pub stands : WorksOn after old new
+  pub stands : WorksOn past after old new
   pub turn : gc_state after new
       ≡ room_made old.index.sector_size len (length (layout_in old.image old.index).sectors)
       (gc_state past old)
@@ -114,7 +121,7 @@ pub record HasMadeRoom (len : ℕ) (past after : List Node) (old new : CoreState
 pub record CleaningStopped (cause : Cause) (past after : List Node) (old new : CoreState) :
     Type 0 where
   pub copies : OnlyCopies past after
-  pub stands : RefusedAt cause after old new
+  pub stands : RefusedAt cause past after old new
   pub no_room : cause ≡ NoSpace → 2 ≤ (layout_in old.image old.index).erased → ⊥
 
 -- No more room was made for a fresh record of `len` bytes, with this cause: NoSpace only where none
@@ -131,12 +138,14 @@ pub record MakingStopped (len : ℕ) (cause : Cause) (past after : List Node) (o
 abbrev pub OneLives : List Node → List Node → Type 0
 OneLives past nodes = (n : Node) × Among n nodes × (is_live past n.version ≡ true)
 
--- The cleaning of a sector stops for want of room only where a copy had none at its turn, and for
--- want of a version only where a record has still to be copied.
+-- The cleaning of a sector stops for want of room only where a copy had none at its turn, for want of
+-- a version only where a record has still to be copied, and for want of memory only before the first
+-- copy, or where a version is left for the next.
 pub record WantsCopy (cause : Cause) (past after : List Node) (c : CoreState) : Type 0 where
   pub at_turn : cause ≡ NoSpace → copies_would_fit past c ≡ false
   pub to_copy : cause ≡ VersionsSpent
       → OneLives after (oldest_records (layout_in c.image c.index).sectors)
+  pub version : cause ≡ Memory → (after ≡ past) ⊎ HasVersionLeft after
 
 -- Some of the oldest sector's records were handled, from its first on.
 pub record HandledFirst (past after : List Node) (c : CoreState) : Type 0 where
@@ -170,11 +179,11 @@ pub record Cleans (mounted past : List Node) (done : Cleaned) (old new : CoreSta
   pub two : KeepsTwo old new
 
 -- why a cleaning stopped
-abbrev pub StopIs : Cause → List Node → CoreState → CoreState → Type 0
-StopIs Failed after old new = (old.failed ≡ true) × (new ≡ old)
-StopIs NoSpace after old new =
-    RefusedAt NoSpace after old new × (2 ≤ (layout_in old.image old.index).erased → ⊥)
-StopIs cause after old new = (old.failed ≡ false) × RefusedAt cause after old new
+abbrev pub StopIs : Cause → List Node → List Node → CoreState → CoreState → Type 0
+StopIs Failed past after old new = (old.failed ≡ true) × (new ≡ old)
+StopIs NoSpace past after old new =
+    RefusedAt NoSpace past after old new × (2 ≤ (layout_in old.image old.index).erased → ⊥)
+StopIs cause past after old new = (old.failed ≡ false) × RefusedAt cause past after old new
 
 -- A cleaning that stopped, of a core that represented this history, and unless the core had failed,
 -- of a log of several sectors. The copies that were made stay.
@@ -183,7 +192,7 @@ pub record Stops (mounted past : List Node) (cause : Cause) (old new : CoreState
   pub added : OnlyCopies past after
   pub stands : Represents mounted after new
   pub several : old.failed ≡ false → 2 ≤ length (layout_in old.image old.index).sectors
-  pub why : StopIs cause after old new
+  pub why : StopIs cause past after old new
   pub wants : WantsCopy cause past after old
 
 -- the oldest sectors are erased, as many as the number says
@@ -207,6 +216,7 @@ pub record ErasesDead (mounted past : List Node) (count : ℕ) (old new : CoreSt
   pub works : old.failed ≡ false
   pub still_works : new.failed ≡ false
   pub faults : new.faults ≡ old.faults
+  pub programs : ProgramsOnce past past old new
   pub stands : Represents mounted past new
   pub log : layout_in new.image new.index ≡ erased_times count (layout_in old.image old.index)
   pub dead : AreDead past (take count (layout_in old.image old.index).sectors)
@@ -215,7 +225,7 @@ pub record ErasesDead (mounted past : List Node) (count : ℕ) (old new : CoreSt
 
 -- why no more dead sectors were erased: the device failed with no node in hand, or had failed
 abbrev pub EraseStopIs : Cause → List Node → CoreState → CoreState → Type 0
-EraseStopIs Device past old new = (old.failed ≡ false) × FailsIn (λ n. ⊥) past old new
+EraseStopIs Device past old new = (old.failed ≡ false) × FailsIn (λ n. ⊥) past past old new
 EraseStopIs Failed past old new = (old.failed ≡ true) × (new ≡ old)
 EraseStopIs _ past old new = ⊥
 
@@ -227,7 +237,7 @@ pub record ErasingStopped (cause : Cause) (old new : CoreState) : Type 0 where
 
 -- the same of a core that works
 pub record HasErasedDead (count : ℕ) (past : List Node) (old new : CoreState) : Type 0 where
-  pub stands : WorksOn past old new
+  pub stands : WorksOn past past old new
   pub log : layout_in new.image new.index ≡ erased_times count (layout_in old.image old.index)
   pub dead : AreDead past (take count (layout_in old.image old.index).sectors)
   pub last : IsDeadOldest new → ⊥

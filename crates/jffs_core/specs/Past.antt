@@ -17,7 +17,7 @@ use Rattle.jffs_log.specs.Cleaning.{GcState}
 use Rattle.jffs_log.specs.RoomLaws.{IsSound}
 use Rattle.jffs_core.specs.History.{MayFollow, Grows, contents}
 use Rattle.jffs_core.specs.CoreState.{CoreState}
-use Rattle.jffs_core.specs.Step.{ends_with_unmount}
+use Rattle.jffs_core.specs.Step.{newest_is_unmount}
 
 -- the log ends with an unmount node, and nothing was programmed after it
 abbrev pub is_clean_in : List ℕ → LogIndex → Bool
@@ -60,9 +60,9 @@ abbrev pub OrOneMore : (Node → Type 0) → List Node → (List Node → Type 0
 OrOneMore More past P = P past ⊎ ((n : Node) × More n × P (n ∷ past))
 
 -- What stands of a core whose device failed. Tree and image may each have one node more, of this
--- kind, and of an image nothing is known once an erase failed.
+-- kind, and of an image nothing is known where that was an erase.
 pub record HasFailed (More : Node → Type 0) (past : List Node) (c : CoreState) : Type 0 where
-  pub clean : c.clean ≡ true → ends_with_unmount past ≡ true
+  pub clean : c.clean ≡ true → newest_is_unmount past ≡ true
   pub tree : OrOneMore More past (λ found. c.tree ≡ tree_of found)
   pub left : c.erase_failed ≡ false → OrOneMore More past (λ found. IsHistory c.image c.index found)
 
@@ -76,13 +76,13 @@ pub record Represents (mounted past : List Node) (c : CoreState) : Type 0 where
   pub grown : Grows mounted past
   pub stands : RepresentsPast past c
 
--- The device is as a core has it: of the same sizes, with its image and its count of faults, and an
--- erase failed where one did.
+-- The device is as a core has it: of the same sizes, with its image and its counts of faults and of
+-- failed erases.
 pub record IsLeftBy (c : CoreState) (device : Device) : Type 0 where
   pub sizes : HasSizes device.sectors device.sector_size c.index
   pub image_is : device.image ≡ c.image
   pub faults_are : device.faults ≡ c.faults
-  pub erases_are : device.erase_failed ≡ c.erase_failed
+  pub failed_erases_are : device.failed_erases ≡ c.failed_erases
 
 -- What a mount of the device gives: a core that represents the log that a scan finds, and has
 -- answered nothing.
@@ -94,6 +94,7 @@ pub record IsFresh (device : Device) (c : CoreState) : Type 0 where
   pub begins : c.index.first < c.index.sectors
   pub erases : c.index.erases ≡ 0
   pub works : c.failed ≡ false
+  pub no_erase_failed : c.erase_failed ≡ false
   pub not_closed : c.closed ≡ false
   pub no_answers : c.answers ≡ []
 

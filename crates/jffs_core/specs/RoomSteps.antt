@@ -12,7 +12,7 @@ use Rattle.jffs_log.specs.Cleaning.{room_made, version_after}
 use Rattle.jffs_log.specs.RoomLaws.{IsSound, Holds}
 use Rattle.jffs_core.specs.Run.{OnlyCopies}
 use Rattle.jffs_core.specs.Step.{Turn, IsStep, decision, takes_no_node, had_room, session_of}
-use Rattle.jffs_core.specs.Step.{ends_with_unmount}
+use Rattle.jffs_core.specs.Step.{newest_is_unmount}
 use Rattle.jffs_node.specs.declared.layout.TheConstants.{HEADER_LEN}
 use Rattle.jffs_flash.specs.declared.sizes.TheConstants.{MIN_SECTORS}
 
@@ -44,7 +44,7 @@ MakingRoomOnlyCopies =
 -- the session that a request was taken in
 pub record TakenIn (t : Turn) (s : GcState) : Type 0 where
   pub session : session_of t ≡ s
-  pub clean : t.clean ≡ true → ends_with_unmount t.past ≡ true
+  pub clean : t.clean ≡ true → newest_is_unmount t.past ≡ true
   pub standing : t.failed ≡ false
   pub sound : IsSound t.volume.sectors t.volume.sector_size s
 

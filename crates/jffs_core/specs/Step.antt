@@ -115,27 +115,53 @@ RefusedBy causes.Device t q copies = IsTrue t.device_faulted
 RefusedBy cause t q copies =
     (takes_no_node t q ≡ false) × (decision t q ≡ Err cause) × (copies ≡ [])
 
+-- A fresh node was decided on and added, with room that it had or that these copies made.
+pub record IsAppended (inode version : ℕ) (t : Turn) (q : Request) (copies own : List Node) :
+    Type 0 where
+  pub new : NewNode
+  pub decided : decision t q ≡ Ok new
+  pub fresh : is_fresh (with new 0 0 0) ≡ true
+  pub inode_is : new.inode ≡ inode
+  pub next : next_version (copies ++ t.past) ≡ Some version
+  pub added : own ≡ node_of new q version ∷ []
+  pub room : gets_room t new ≡ true
+  pub made : copies ++ t.past ≡ past_with_room t new
+
+-- The copy that was asked for was added, and none besides it.
+pub record IsCopied (version : ℕ) (t : Turn) (q : Request) (copies own : List Node) : Type 0 where
+  pub wish : is_copy_wish q.wish ≡ true
+  pub new : NewNode
+  pub decided : decision t q ≡ Ok new
+  pub none : copies ≡ []
+  pub next : next_version t.past ≡ Some version
+  pub added : own ≡ node_of new q version ∷ []
+  pub room : had_room t new ≡ true
+
+-- An unmount node was added to a log that didn't end with one.
+pub record IsUnmounted (t : Turn) (q : Request) (own : List Node) : Type 0 where
+  pub unclean : t.clean ≡ false
+  pub new : NewNode
+  pub version : ℕ
+  pub decided : decision t q ≡ Ok new
+  pub next : next_version t.past ≡ Some version
+  pub added : own ≡ node_of new q version ∷ []
+  pub room : had_room t new ≡ true
+
+-- The session is over: the log was clean, or an unmount node was added.
+pub record IsClosed (t : Turn) (q : Request) (copies own : List Node) : Type 0 where
+  pub wish : is_unmount_wish q.wish ≡ true
+  pub none : copies ≡ []
+  pub node : (IsTrue t.clean × (own ≡ [])) ⊎ IsUnmounted t q own
+
 abbrev pub OutcomeIs : Outcome → Turn → Request → List Node → List Node → Type 0
-OutcomeIs (Appended inode version) t q copies own =
-    (n : NewNode) × (decision t q ≡ Ok n) × (is_fresh (with n 0 0 0) ≡ true) × (n.inode ≡ inode)
-    × (next_version (copies ++ t.past) ≡ Some version) × (own ≡ node_of n q version ∷ [])
-    × (gets_room t n ≡ true) × (copies ++ t.past ≡ past_with_room t n)
-OutcomeIs (Copied version) t q copies own =
-    (n : NewNode) × (is_copy_wish q.wish ≡ true) × (decision t q ≡ Ok n) × (copies ≡ [])
-    × (next_version t.past ≡ Some version) × (own ≡ node_of n q version ∷ [])
-    × (had_room t n ≡ true)
-OutcomeIs Closed t q copies own =
-    (is_unmount_wish q.wish ≡ true) × (copies ≡ [])
-    × ((IsTrue t.clean × (own ≡ []))
-    ⊎ ((t.clean ≡ false)
-    × ((n : NewNode) × (version : ℕ) × (decision t q ≡ Ok n) × (next_version t.past ≡ Some version)
-    × (own ≡ node_of n q version ∷ [])
-    × (had_room t n ≡ true))))
+OutcomeIs (Appended inode version) t q copies own = IsAppended inode version t q copies own
+OutcomeIs (Copied version) t q copies own = IsCopied version t q copies own
+OutcomeIs Closed t q copies own = IsClosed t q copies own
 OutcomeIs (Refused cause) t q copies own = RefusedBy cause t q copies × (own ≡ [])
 
-abbrev pub ends_with_unmount : List Node → Bool
-ends_with_unmount [] = false
-ends_with_unmount (n ∷ past) = is_unmount n.kind
+abbrev pub newest_is_unmount : List Node → Bool
+newest_is_unmount [] = false
+newest_is_unmount (n ∷ past) = is_unmount n.kind
 
 -- One answered request: from the history when it was taken to the history after.
 pub record IsStep (t : Turn) (q : Request) (o : Outcome) (after : List Node) : Type 0 where
@@ -145,6 +171,6 @@ pub record IsStep (t : Turn) (q : Request) (o : Outcome) (after : List Node) : T
   pub copies_are_true : AreOwnCopies t.past copies
   pub copies_make_room : (copies ≡ []) ⊎ MakesRoom t q
   pub copies_are_little : used copies ≤ live_and_free (session_of t)
-  pub clean_is_so : t.clean ≡ true → ends_with_unmount t.past ≡ true
+  pub clean_is_so : t.clean ≡ true → newest_is_unmount t.past ≡ true
   pub failed_says_so : IsTrue t.failed ↔ (o ≡ Refused causes.Failed)
   pub outcome : OutcomeIs o t q copies own

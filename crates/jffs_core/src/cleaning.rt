@@ -238,7 +238,7 @@ impl<F: Flash> Core<F> {
             × (self.new ≡ self.old)) }
         ensures refused { IfErr result
             (λ cause. (past : List Node) → RepresentsWorking past self.old
-            → RefusedAt cause past self.old self.new) }
+            → RefusedAt cause past past self.old self.new) }
         ensures causes { IfErr result (λ cause. (cause ≡ Cause.Memory) ⊎ (cause ≡ Cause.Device)) }
         ensures leaves { Leaves 0 self.old self.new }
     {

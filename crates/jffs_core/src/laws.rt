@@ -10,7 +10,7 @@ ghost use Rattle.jffs_core.specs.Finding.{DeviceScansFind, StoppedScansFind};
 ghost use Rattle.jffs_core.specs.Done.{AnswersAreDone, AnswersAreFree, TreesAreDone};
 ghost use Rattle.jffs_core.specs.Done.{DeviceIsDoneOrNot};
 ghost use Rattle.jffs_core.specs.Run.{RunsGoOn, LawfulRunsGrow};
-ghost use Rattle.jffs_core.specs.Work.{AnswersCopyLittle, RefusedAddNothing};
+ghost use Rattle.jffs_core.specs.Work.{AnswersCopyLittle, AnswersProgramLittle, RefusedAddNothing};
 
 /// A run that nothing has closed may go on by one request and its answer.
 pub fn runs_go_on()
@@ -62,10 +62,13 @@ pub fn mounts_read_each_byte_once()
 {}
 
 /// Before an answer no more bytes are copied than the live records of the log took when the request
-/// was taken, with what was free in the tail; each copy takes 64 bytes at least. A request that is
-/// refused adds no node, unless it was to make room.
+/// was taken, with what was free in the tail; each copy takes 64 bytes at least. By the device's own
+/// count no more is programmed for it, while the core works, than the records of the copies and of the
+/// request's own node take, and their gates once more. A request that is refused adds no node, unless
+/// it was to make room.
 pub fn answers_copy_little()
     ensures copies { AnswersCopyLittle }
+    ensures programs { AnswersProgramLittle }
     ensures refused { RefusedAddNothing }
 {}
 

@@ -1,6 +1,6 @@
 //! A mounted device.
 
-ghost use Rattle.std.specs.Prelude.{◌≡◌, IfOk, IfErr};
+ghost use Rattle.std.specs.Prelude.{◌≡◌, IfOk, IfErr, MatchResult};
 ghost use Rattle.jffs_flash.specs.ReadsLeft.{FailsWhereSpent};
 ghost use Rattle.jffs_log.specs.ScanFound.{IsRefused};
 
@@ -35,7 +35,9 @@ impl<F: Flash> Model for Core<F> {
     ghost view = { λ c. record {
       image = c.log.device.image;
       faults = c.log.device.faults;
-      erase_failed = c.log.device.erase_failed;
+      failed_erases = c.log.device.failed_erases;
+      erase_failed = c.log.erase_failed;
+      wear = c.log.wear;
       index = c.log.index;
       tree = c.tree;
       limits = c.limits;
@@ -66,6 +68,8 @@ impl<F: Flash> Core<F> {
         ensures refused { IfErr result (λ f. IsRefused (F.device flash) f.why (F.device f.flash)) }
         ensures once { IfErr result
             (λ f. FailsWhereSpent (F.reads_left flash) (F.device flash) (F.device f.flash)) }
+        ensures unworn { MatchResult result (λ c. c.wear ≡ F.wear flash)
+            (λ f. F.wear f.flash ≡ F.wear flash) }
     {
         let Mounted {
             log,
@@ -130,6 +134,7 @@ impl<F: Flash> Core<F> {
     /// The log, to be looked at.
     pub fn log(&self) -> &Log<F>
         ensures image { result.now.device.image ≡ self.now.image }
+        ensures wear { result.now.wear ≡ self.now.wear }
         ensures index { result.now.index ≡ self.now.index }
         ensures failed { result.now.failed ≡ self.now.failed }
     {
@@ -138,7 +143,8 @@ impl<F: Flash> Core<F> {
 
     /// Gives the device back. The answers are dropped.
     pub fn into_flash(self) -> F
-        ensures { IsLeftBy self (F.device result) }
+        ensures device { IsLeftBy self (F.device result) }
+        ensures wear { F.wear result ≡ self.wear }
     {
         let (flash, _) = self.into_parts();
         flash
@@ -147,6 +153,7 @@ impl<F: Flash> Core<F> {
     /// Gives the device and the answers back.
     pub fn into_parts(self) -> (F, Vec<Answer>)
         ensures device { IsLeftBy self (F.device result.0) }
+        ensures wear { F.wear result.0 ≡ self.wear }
         ensures answers { result.1.items ≡ self.answers }
     {
         let Core {

@@ -1,10 +1,11 @@
 //! Flash whose bytes stand in memory and in a store.
 
-ghost use Rattle.std.specs.Prelude.{◌≡◌, ◌+◌, ◌*◌, ◌<◌, ◌≤◌, length, vec_len, false, OnOk, OnErr};
+ghost use Rattle.std.specs.Prelude.{◌≡◌, ◌+◌, ◌*◌, ◌<◌, ◌≤◌, length, vec_len, OnOk, OnErr};
 ghost use Rattle.std.specs.Prelude.{IsErr, IsTrue, ◌↔◌};
 ghost use Rattle.jffs_flash.specs.Image.{window, programmed, erased, IsHalfProgrammed};
 ghost use Rattle.jffs_flash.specs.Image.{IsHalfErased};
 ghost use Rattle.jffs_flash.specs.Device.{Device, with_image, device_of, Reads, Programs, Erases};
+ghost use Rattle.jffs_flash.specs.Wear.{Wears, uncounted, no_erase, one_erase};
 ghost use Rattle.jffs_file.specs.Kept.{seen_device, IsKept, IsLeftAs};
 ghost use Rattle.jffs_file.specs.Stored.{Overwrites};
 
@@ -25,7 +26,8 @@ pub struct FileFlash<S: Store> {
     held: MemoryFlash,
     store: S,
     faults: u64,
-    erase_failed: bool,
+    /// How many erases are among the faults, once there are any.
+    failed_erases: u64,
 }
 
 impl<S: Store> FileFlash<S> {
@@ -37,13 +39,13 @@ impl<S: Store> FileFlash<S> {
         ensures held { result.held ≡ held }
         ensures store { result.store ≡ store }
         ensures faults { result.faults ≡ 0 }
-        ensures erase_failed { result.erase_failed ≡ false }
+        ensures failed_erases { result.failed_erases ≡ 0 }
     {
         FileFlash {
             held,
             store,
             faults: 0,
-            erase_failed: false,
+            failed_erases: 0,
         }
     }
 
@@ -66,6 +68,15 @@ impl<S: Store> FileFlash<S> {
         ensures { IsTrue result ↔ ((0 < self.now.faults) × (self.now.faults < u64.MAX)) }
     {
         0 < self.faults && self.faults < u64::MAX
+    }
+
+    /// Whether an erase fails because an earlier call has. Erases that failed are among the faults,
+    /// so they are never more: the second test is for the proof.
+    fn erases_have_stopped(&self) -> bool
+        ensures { IsTrue result ↔ ((0 < self.now.faults) × (self.now.faults < u64.MAX)
+            × (self.now.failed_erases < u64.MAX)) }
+    {
+        self.has_stopped() && self.failed_erases < u64::MAX
     }
 
     /// Writes a range of the bytes in memory over those of the store, unless it is written no more.
@@ -99,7 +110,7 @@ impl<F: Write + Seek + OpenFile + Drop> FileFlash<FileStore<F>> {
 }
 
 impl<S: Store> Flash for FileFlash<S> {
-    ghost device = { λ f. seen_device f.held f.faults f.erase_failed };
+    ghost device = { λ f. seen_device f.held f.faults f.failed_erases };
 
     fn sectors(&self) -> u32 {
         self.held.sectors()
@@ -131,8 +142,9 @@ impl<S: Store> Flash for FileFlash<S> {
 
         // What each device promises.
         ensures device { Programs at bytes.now result
-            (seen_device self.old.held self.old.faults self.old.erase_failed)
-            (seen_device self.new.held self.new.faults self.new.erase_failed) }
+            (seen_device self.old.held self.old.faults self.old.failed_erases)
+            (seen_device self.new.held self.new.faults self.new.failed_erases) }
+        ensures worn { Wears no_erase (length bytes.now) uncounted uncounted }
     {
         if self.has_stopped() {
             self.faults += 1;
@@ -142,7 +154,9 @@ impl<S: Store> Flash for FileFlash<S> {
         match self.write_through(u64::from(at), bytes.len()) {
             Ok(()) => Ok(()),
             Err(_) => {
+                // The first fault.
                 self.faults += 1;
+                self.failed_erases = 0;
                 Err(FlashFault)
             }
         }
@@ -162,13 +176,14 @@ impl<S: Store> Flash for FileFlash<S> {
 
         // What each device promises.
         ensures device { Erases sector result
-            (seen_device self.old.held self.old.faults self.old.erase_failed)
-            (seen_device self.new.held self.new.faults self.new.erase_failed) }
+            (seen_device self.old.held self.old.faults self.old.failed_erases)
+            (seen_device self.new.held self.new.faults self.new.failed_erases) }
+        ensures worn { Wears (one_erase sector) 0 uncounted uncounted }
     {
         let size = self.held.sector_size();
-        if self.has_stopped() {
+        if self.erases_have_stopped() {
             self.faults += 1;
-            self.erase_failed = true;
+            self.failed_erases += 1;
             return Err(FlashFault);
         }
         self.held.erase(sector)?;
@@ -176,8 +191,9 @@ impl<S: Store> Flash for FileFlash<S> {
         match self.write_through(at, size as usize) {
             Ok(()) => Ok(()),
             Err(_) => {
+                // The first fault.
                 self.faults += 1;
-                self.erase_failed = true;
+                self.failed_erases = 1;
                 Err(FlashFault)
             }
         }

@@ -1,16 +1,15 @@
 -- A flash device as its callers see it, and what its calls leave of it.
-use Rattle.std.specs.Prelude.{◌≡◌, ℕ, ◌*◌, ◌<◌, Bool, true, false, List, length, replicate, Result}
-use Rattle.std.specs.Prelude.{MatchResult}
+use Rattle.std.specs.Prelude.{◌≡◌, ℕ, ◌+◌, ◌*◌, ◌<◌, List, length, replicate, Result, MatchResult}
 use Rattle.jffs_flash.specs.Image.{erased_byte, programmed, IsHalfProgrammed, erased, IsHalfErased}
 
 -- how many sectors it has, how many bytes each, all bytes, the sectors one after another, how many
--- calls failed so far, and whether an erase did: its sector may then hold any bytes
+-- calls failed so far, and how many erases among them: the sector of such a one may hold any bytes
 pub record Device : Type 0 where
   pub sectors : ℕ
   pub sector_size : ℕ
   pub image : List ℕ
   pub faults : ℕ
-  pub erase_failed : Bool
+  pub failed_erases : ℕ
 
 -- its bytes are those of its sectors
 abbrev pub IsWhole : Device → Type 0
@@ -28,7 +27,7 @@ device_of sectors sector_size image =
       sector_size = sector_size;
       image = image;
       faults = 0;
-      erase_failed = false;
+      failed_erases = 0;
     }
 
 -- the device whose sectors are all erased
@@ -46,7 +45,12 @@ pub record Fails (Leaves : List ℕ → Type 0) (old new : Device) : Type 0 wher
 pub record EraseFails (Leaves : List ℕ → Type 0) (old new : Device) : Type 0 where
   pub left : Leaves new.image
   pub faults : old.faults < new.faults
-  pub rest : new ≡ record old { image = new.image; faults = new.faults; erase_failed = true }
+  pub rest : new
+      ≡ record old {
+        image = new.image;
+        faults = new.faults;
+        failed_erases = old.failed_erases + 1;
+      }
 
 -- no call was made
 abbrev pub Unchanged : Device → Device → Type 0

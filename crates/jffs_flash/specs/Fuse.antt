@@ -9,14 +9,14 @@ use Rattle.jffs_flash.specs.Device.{Device, with_image}
 use Rattle.jffs_flash.specs.Image.{window, replaced, programmed, erased_byte}
 
 -- the device inside, which never fails, how many fused calls still pass, which calls are fused,
--- what a failing call does, how many failed, and whether an erase did
+-- what a failing call does, how many failed, and how many erases among them
 pub record Fuse : Type 0 where
   pub inner : Device
   pub calls_left : ℕ
   pub fused : Fused
   pub fail : Fail
   pub faults : ℕ
-  pub erase_failed : Bool
+  pub failed_erases : ℕ
 
 -- a new fuse over a device
 abbrev pub fuse_of : Device → ℕ → Fused → Fail → Fuse
@@ -27,12 +27,12 @@ fuse_of device calls fused fail =
       fused = fused;
       fail = fail;
       faults = 0;
-      erase_failed = false;
+      failed_erases = 0;
     }
 
 -- the device as its callers see it
 abbrev pub seen_device : Fuse → Device
-seen_device fuse = record fuse.inner { faults = fuse.faults; erase_failed = fuse.erase_failed }
+seen_device fuse = record fuse.inner { faults = fuse.faults; failed_erases = fuse.failed_erases }
 
 -- the last value that the count of faults can have
 abbrev pub last_fault_count : ℕ
@@ -59,7 +59,8 @@ after_fault fuse image =
 
 -- after an erase that failed and left this image
 abbrev pub after_failed_erase : Fuse → List ℕ → Fuse
-after_failed_erase fuse image = record (after_fault fuse image) { erase_failed = true }
+after_failed_erase fuse image =
+    record (after_fault fuse image) { failed_erases = fuse.failed_erases + 1 }
 
 -- after a read that passed: it is counted where reads are fused
 abbrev pub after_read : Fused → Fuse → Fuse

@@ -4,3 +4,4 @@ pub mod Image
 pub mod Limited
 pub mod ReadsLeft
 pub mod Sizes
+pub mod Wear

@@ -4,6 +4,7 @@ ghost use Rattle.std.specs.Prelude.{◌≡◌, ℕ, ◌+◌, ◌<◌, ◌≤◌,
 ghost use Rattle.jffs_flash.specs.Image.{window};
 ghost use Rattle.jffs_flash.specs.Device.{Device, IsWhole, Reads, Programs, Erases};
 ghost use Rattle.jffs_flash.specs.ReadsLeft.{TakesReads};
+ghost use Rattle.jffs_flash.specs.Wear.{Wear, Wears, uncounted, no_erase, one_erase};
 
 use thiserror::Error;
 
@@ -27,6 +28,10 @@ pub trait Flash {
     // How often the byte at each index can still be read before a read of it may fail. A device
     // that promises nothing of the kind says 0.
     ghost reads_left: { Self → ℕ → ℕ } = { λ _ _. 0 };
+
+    // What the device counts of the erases and programs that it was called for. A device that
+    // counts nothing says 0 for ever.
+    ghost wear: { Self → Wear } = { λ _. uncounted };
 
     /// How many sectors the device has. The image is as long as all of them together.
     fn sectors(&self) -> u32
@@ -53,24 +58,27 @@ pub trait Flash {
         ensures filled { OnOk result
             (buffer.new ≡ window at (length buffer.old) (device self.old).image) }
         ensures left { TakesReads at (length buffer.old) result (reads_left self.old)
-            (reads_left self.new) };
+            (reads_left self.new) }
+        ensures unworn { wear self.new ≡ wear self.old };
 
     /// Programs the bytes from `at` on: each byte `old` of the range becomes `old & new`.
     /// Precondition: the range lies inside the device.
     ///
     /// After a failure some bits of the range may not be cleared yet: none that was zero is one,
     /// and none that should stay one is zero. Outside the range nothing changes, whether the call
-    /// failed or not.
+    /// failed or not. A device that counts what is programmed counts these bytes at most.
     fn program(&mut self, at: u32, bytes: &[u8]) -> Result<(), FlashFault>
         requires { at + length bytes.now ≤ length (device self.old).image }
-        ensures { Programs at bytes.now result (device self.old) (device self.new) };
+        ensures device { Programs at bytes.now result (device self.old) (device self.new) }
+        ensures worn { Wears no_erase (length bytes.now) (wear self.old) (wear self.new) };
 
     /// Erases a sector, counted from 0: each of its bytes becomes [`ERASED_BYTE`]. Precondition:
     /// the device has that sector.
     ///
     /// After a failure that sector may hold any bytes. The rest of the image is the same either
-    /// way.
+    /// way. A device that counts its erases counts one of this sector at most.
     fn erase(&mut self, sector: u32) -> Result<(), FlashFault>
         requires { sector < (device self.old).sectors }
-        ensures { Erases sector result (device self.old) (device self.new) };
+        ensures device { Erases sector result (device self.old) (device self.new) }
+        ensures worn { Wears (one_erase sector) 0 (wear self.old) (wear self.new) };
 }

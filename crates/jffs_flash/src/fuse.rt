@@ -4,6 +4,7 @@ ghost use Rattle.std.specs.Prelude.{◌≡◌, ◌+◌, ◌<◌, ◌≤◌, ◌�
 ghost use Rattle.std.specs.Prelude.{IsTrue, MatchResult};
 ghost use Rattle.jffs_flash.specs.Device.{Reads, Programs, Erases};
 ghost use Rattle.jffs_flash.specs.ReadsLeft.{TakesReads};
+ghost use Rattle.jffs_flash.specs.Wear.{Wears, uncounted, no_erase, one_erase};
 ghost use Rattle.jffs_flash.specs.Image.{window, programmed, erased};
 ghost use Rattle.jffs_flash.specs.Fuse.{seen_device, is_blown, fuses_reads, after_pass, after_read};
 ghost use Rattle.jffs_flash.specs.Fuse.{after_fault, after_failed_erase, program_left, erase_left};
@@ -41,10 +42,12 @@ pub struct FuseFlash {
     fused: Fused,
     fail: Fail,
     faults: u64,
-    erase_failed: bool,
+    /// How many erases are among the faults.
+    failed_erases: u64,
 }
 
 impl Model for FuseFlash {
+    ghost use Rattle.std.specs.Prelude.{◌≤◌};
     ghost use Rattle.jffs_flash.specs.Fuse.{Fuse};
 
     ghost Value = { Fuse };
@@ -55,8 +58,10 @@ impl Model for FuseFlash {
       fused = f.fused;
       fail = f.fail;
       faults = f.faults;
-      erase_failed = f.erase_failed;
+      failed_erases = f.failed_erases;
     } };
+
+    ghost invariant = { λ f. f.failed_erases ≤ f.faults };
 }
 
 impl FuseFlash {
@@ -74,7 +79,7 @@ impl FuseFlash {
             fused,
             fail,
             faults: 0,
-            erase_failed: false,
+            failed_erases: 0,
         }
     }
 
@@ -158,8 +163,8 @@ impl FuseFlash {
                 self.inner.set_bits(sector, half);
             }
         }
-        self.erase_failed = true;
         self.count_fault();
+        self.failed_erases += 1;
     }
 }
 
@@ -191,6 +196,7 @@ impl Flash for FuseFlash {
         ensures filled { OnOk result
             (buffer.new ≡ window at (length buffer.old) self.old.inner.image) }
         ensures left { TakesReads at (length buffer.old) result (λ _. 0) (λ _. 0) }
+        ensures unworn { uncounted ≡ uncounted }
     {
         if self.fused == Fused::Writes {
             self.inner.copy_out(at, buffer);
@@ -218,6 +224,7 @@ impl Flash for FuseFlash {
         // What each device promises.
         ensures device { Programs at bytes.now result (seen_device self.old)
             (seen_device self.new) }
+        ensures worn { Wears no_erase (length bytes.now) uncounted uncounted }
     {
         if self.is_blown() {
             self.fail_program(at, bytes);
@@ -241,6 +248,7 @@ impl Flash for FuseFlash {
 
         // What each device promises.
         ensures device { Erases sector result (seen_device self.old) (seen_device self.new) }
+        ensures worn { Wears (one_erase sector) 0 uncounted uncounted }
     {
         let size = self.inner.sector_size();
         if self.is_blown() {

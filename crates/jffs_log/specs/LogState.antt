@@ -9,6 +9,7 @@ use Rattle.jffs_tree.specs.declared.wish.Cause.{Cause}
 use Rattle.jffs_tree.specs.declared.wish.Cause.TheVariants as cause
 use Rattle.jffs_flash.specs.Image.{erased, IsHalfErased}
 use Rattle.jffs_flash.specs.Device.{Device, with_image, Fails, EraseFails, Unchanged}
+use Rattle.jffs_flash.specs.Wear.{Wear, Wears, no_erase, one_erase}
 use Rattle.jffs_log.specs.declared.log_index.LogIndex.{LogIndex}
 use Rattle.jffs_log.specs.declared.room.Room.{Room}
 use Rattle.jffs_log.specs.declared.room.Room.TheVariants as room
@@ -21,11 +22,14 @@ use Rattle.jffs_log.specs.Room.{has_room_in}
 use Rattle.jffs_log.specs.Volume.{sectors_in}
 use Rattle.jffs_log.specs.Wear.{sector_after}
 
--- its device, what is known of it in memory, and whether a call of the device failed
+-- its device, what that counts of its wear, what is known of it in memory, whether a call of the
+-- device failed, and whether that was an erase
 pub record LogState : Type 0 where
   pub device : Device
+  pub wear : Wear
   pub index : LogIndex
   pub failed : Bool
+  pub erase_failed : Bool
 
 -- the records of the image, each with its sector and offset, in the order of the log
 abbrev pub log_records : LogState → List Placed
@@ -66,8 +70,10 @@ is_clean_log s = is_clean (sectors_in s.index.sectors s.index.sector_size s.devi
 -- only the capacity reserved for records may differ
 pub record IsSameLog (old new : LogState) : Type 0 where
   pub device : Unchanged old.device new.device
+  pub wear : new.wear ≡ old.wear
   pub index : IsSameLogIndex old.index new.index
   pub failed : new.failed ≡ old.failed
+  pub erase_failed : new.erase_failed ≡ old.erase_failed
 
 -- the numbers that an append leaves
 pub record KeepsNumbers (old new : LogIndex) : Type 0 where
@@ -78,8 +84,17 @@ pub record KeepsNumbers (old new : LogIndex) : Type 0 where
 -- A log that still works, of which the device has another image.
 pub record Works (old new : LogState) : Type 0 where
   pub failed : new.failed ≡ false
+  pub no_erase_failed : new.erase_failed ≡ old.erase_failed
   pub told : IsLogIndex new.device.image new.index
   pub device : new.device ≡ with_image old.device new.device.image
+
+-- for a record no sector is erased, and its bytes are programmed once, the gate's once more
+abbrev pub WearsByRecord : Node → LogState → LogState → Type 0
+WearsByRecord n old new = Wears no_erase (record_len n + 1) old.wear new.wear
+
+-- the oldest sector is erased once, or the device was asked for that
+abbrev pub WearsOldest : LogState → LogState → Type 0
+WearsOldest old new = Wears (one_erase old.index.first) 0 old.wear new.wear
 
 -- the record stands there, and the log has this layout
 pub record AppendedAt (sector offset : ℕ) (layout : Layout) (n : Node) (old new : LogState) :
@@ -90,6 +105,7 @@ pub record AppendedAt (sector offset : ℕ) (layout : Layout) (n : Node) (old ne
   pub added : log_records new ≡ log_records old ++ placed_at sector offset n ∷ []
   pub layout_is : log_layout new ≡ layout
   pub clean : is_clean_log new ≡ is_unmount n.kind
+  pub worn : WearsByRecord n old new
 
 -- the device failed while the record was written there
 pub record AppendFailedAt (sector offset : ℕ) (n : Node) (why : Cause) (old new : LogState) :
@@ -99,6 +115,8 @@ pub record AppendFailedAt (sector offset : ℕ) (n : Node) (why : Cause) (old ne
   pub device : Fails (λ image. IsCut old.index old.device.image image (placed_at sector offset n))
       old.device new.device
   pub numbers : KeepsNumbers old.index new.index
+  pub no_erase_failed : new.erase_failed ≡ old.erase_failed
+  pub worn : WearsByRecord n old new
 
 -- The node's record is the last of the log, in the tail or in the next sector.
 pub record Appended (r : Room) (n : Node) (old new : LogState) : Type 0 where
@@ -108,6 +126,7 @@ pub record Appended (r : Room) (n : Node) (old new : LogState) : Type 0 where
       ≡ log_records old ++ placed_at new.index.tail (new.index.used - record_len n) n ∷ []
   pub layout_is : log_layout new ≡ put old.index.sector_size r n (log_layout old)
   pub clean : is_clean_log new ≡ is_unmount n.kind
+  pub worn : WearsByRecord n old new
   pub history : (past : List Node) → HasHistory past old → KeepsRules (n ∷ past)
       → HasHistory (n ∷ past) new
 
@@ -118,6 +137,8 @@ pub record AppendFailed (n : Node) (why : Cause) (old new : LogState) : Type 0 w
   pub device : Fails (λ image. IsCutSomewhere old.index old.device.image image n) old.device
       new.device
   pub numbers : KeepsNumbers old.index new.index
+  pub no_erase_failed : new.erase_failed ≡ old.erase_failed
+  pub worn : WearsByRecord n old new
   pub history : (past : List Node) → HasHistory past old → KeepsRules (n ∷ past)
       → HasHistory past new ⊎ HasHistory (n ∷ past) new
 
@@ -144,14 +165,17 @@ pub record EraseFailed (why : Cause) (old new : LogState) : Type 0 where
   pub device : EraseFails
       (IsHalfErased (old.index.first * old.index.sector_size) old.index.sector_size
       old.device.image) old.device new.device
+  pub erase_failed : new.erase_failed ≡ true
   pub sizes : HasSizes old.index.sectors old.index.sector_size new.index
   pub erases : new.index.erases ≡ one_erase_more old.index
 
 -- A read of the device failed: no byte has changed.
 pub record ReadFailed (old new : LogState) : Type 0 where
   pub device : Fails (λ image. image ≡ old.device.image) old.device new.device
+  pub wear : new.wear ≡ old.wear
   pub index : new.index ≡ old.index
   pub failed : new.failed ≡ true
+  pub erase_failed : new.erase_failed ≡ old.erase_failed
 
 -- why nothing was read
 abbrev pub ReadStopped : Cause → LogState → LogState → Type 0

@@ -73,6 +73,7 @@ pub record IsMounted (device : FlashDevice) (log : LogState) (tree : Tree) (clea
     (limits : Limits) : Type 0 where
   pub device_is : log.device ≡ device
   pub works : log.failed ≡ false
+  pub no_erase_failed : log.erase_failed ≡ false
   pub found : IsFound device.sectors device.sector_size device.image log.index tree clean limits
 
 -- no log was found, and nothing but the count of faults has changed

@@ -10,10 +10,10 @@ use jffs_tree::{Cause, Tree};
 use std::collections::VecDeque;
 
 impl<F: Flash> Log<F> {
-    ghost use Rattle.jffs_log.specs.LogState.{OldestIsDead, ErasedOldest, EraseFailed};
+    ghost use Rattle.jffs_log.specs.LogState.{OldestIsDead, ErasedOldest, EraseFailed, WearsOldest};
 
-    /// Erases the sector that was begun first. The call counts in `erases`, failed or not. Takes no
-    /// memory.
+    /// Erases the sector that was begun first, with one call of the device. The call counts in
+    /// `erases`, failed or not. Takes no memory.
     /// Precondition: no call of the device failed, the sector isn't the tail, and none of its
     /// records lives in the tree of all nodes.
     ///
@@ -25,6 +25,7 @@ impl<F: Flash> Log<F> {
         requires dead { OldestIsDead tree.now self.old }
         ensures done { OnOk result (ErasedOldest tree.now self.old self.new) }
         ensures failed { IfErr result (λ cause. EraseFailed cause self.old self.new) }
+        ensures worn { WearsOldest self.old self.new }
     {
         let index = &mut self.index;
         index.erases = index.erases.saturating_add(1);
@@ -35,7 +36,10 @@ impl<F: Flash> Log<F> {
                 index.held -= 1;
                 Ok(())
             }
-            Err(fault) => Err(failure(&mut self.failed, fault)),
+            Err(fault) => {
+                self.erase_failed = true;
+                Err(failure(&mut self.failed, fault))
+            }
         }
     }
 }

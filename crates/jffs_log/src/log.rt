@@ -25,6 +25,8 @@ pub struct Log<F: Flash> {
     pub(crate) index: LogIndex,
     /// Whether a call of the device failed.
     pub(crate) failed: bool,
+    /// Whether that was an erase.
+    pub(crate) erase_failed: bool,
 }
 
 impl<F: Flash> Model for Log<F> {
@@ -32,10 +34,22 @@ impl<F: Flash> Model for Log<F> {
 
     ghost Value = { LogState };
 
-    ghost view = { λ l. record { device = F.device l.flash; index = l.index; failed = l.failed } };
+    ghost view = { λ l. record {
+      device = F.device l.flash;
+      wear = F.wear l.flash;
+      index = l.index;
+      failed = l.failed;
+      erase_failed = l.erase_failed;
+    } };
 
     ghost invariant = { λ l.
-        IsLog (record { device = F.device l.flash; index = l.index; failed = l.failed }) };
+        IsLog (record {
+          device = F.device l.flash;
+          wear = F.wear l.flash;
+          index = l.index;
+          failed = l.failed;
+          erase_failed = l.erase_failed;
+        }) };
 }
 
 impl<F: Flash> Log<F> {
@@ -50,7 +64,8 @@ impl<F: Flash> Log<F> {
 
     /// The device.
     pub fn flash(&self) -> &F
-        ensures { F.device result.now ≡ self.now.device }
+        ensures device { F.device result.now ≡ self.now.device }
+        ensures wear { F.wear result.now ≡ self.now.wear }
     {
         &self.flash
     }
@@ -209,12 +224,14 @@ impl<F: Flash> Log<F> {
 
     /// Gives the device back. Takes no memory.
     pub fn into_flash(self) -> F
-        ensures { F.device result ≡ self.device }
+        ensures device { F.device result ≡ self.device }
+        ensures wear { F.wear result ≡ self.wear }
     {
         let Log {
             flash,
             index: _,
             failed: _,
+            erase_failed: _,
         } = self;
         flash
     }

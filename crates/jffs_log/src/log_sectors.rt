@@ -39,6 +39,7 @@ pub(crate) fn read_sectors<F: Flash>(
         (first_bad 0 (sectors_in sectors sector_size (F.device flash.old).image))) }
     ensures once { 1 ≤ sector_size
         → FailsWhereSpent (F.reads_left flash.old) (F.device flash.old) (F.device flash.new) }
+    ensures unworn { F.wear flash.new ≡ F.wear flash.old }
 {
     let mut found = Vec::new(alloc);
     let mut buffer = vec![in alloc; 0u8; sector_size as usize]?;
@@ -72,6 +73,7 @@ fn read_one<F: Flash>(
     ensures length { length buffer.new ≡ length buffer.old }
     ensures once { IsReadOnce (sector * length buffer.old) (length buffer.old) (F.device flash.old)
         (F.device flash.new) (F.reads_left flash.old) (F.reads_left flash.new) }
+    ensures unworn { F.wear flash.new ≡ F.wear flash.old }
 {
     let len = buffer.len() as u32;
     flash.read(sector * len, buffer)?;

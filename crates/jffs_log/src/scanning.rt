@@ -1,6 +1,6 @@
 //! A scan of a whole image.
 
-ghost use Rattle.std.specs.Prelude.{◌≡◌, IfOk, IfErr};
+ghost use Rattle.std.specs.Prelude.{◌≡◌, IfOk, IfErr, MatchResult};
 ghost use Rattle.jffs_flash.specs.Device.{Unchanged};
 ghost use Rattle.jffs_flash.specs.ReadsLeft.{FailsWhereSpent};
 ghost use Rattle.jffs_log.specs.ScanFound.{IsFound, IsMounted, IsRefused};
@@ -115,6 +115,8 @@ pub fn scan<F: Flash>(alloc: Global, mut flash: F) -> Result<Mounted<F>, ScanFau
     ensures refused { IfErr result (λ f. IsRefused (F.device flash) f.why (F.device f.flash)) }
     ensures once { IfErr result
         (λ f. FailsWhereSpent (F.reads_left flash) (F.device flash) (F.device f.flash)) }
+    ensures unworn { MatchResult result (λ m. m.log.wear ≡ F.wear flash)
+        (λ f. F.wear f.flash ≡ F.wear flash) }
 {
     match find_log(alloc, &mut flash) {
         Ok(found) => Ok(Mounted {
@@ -122,6 +124,7 @@ pub fn scan<F: Flash>(alloc: Global, mut flash: F) -> Result<Mounted<F>, ScanFau
                 flash,
                 index: found.index,
                 failed: false,
+                erase_failed: false,
             },
             tree: found.tree,
             clean: found.clean,
@@ -151,6 +154,7 @@ fn find_log<F: Flash>(alloc: Global, flash: &mut F) -> Result<FoundLog, ScanWhy>
         (λ why. IsRefused (F.device flash.old) why (F.device flash.new)) }
     ensures once { FailsWhereSpent (F.reads_left flash.old)
         (F.device flash.old) (F.device flash.new) }
+    ensures unworn { F.wear flash.new ≡ F.wear flash.old }
 {
     let sectors = flash.sectors();
     let sector_size = flash.sector_size();

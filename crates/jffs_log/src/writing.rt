@@ -1,6 +1,7 @@
 //! A record is written in two programs: with its gate open, and then the gate.
 
-ghost use Rattle.std.specs.Prelude.{◌≤◌, length};
+ghost use Rattle.std.specs.Prelude.{◌+◌, ◌≤◌, length};
+ghost use Rattle.jffs_flash.specs.Wear.{Wears, no_erase};
 ghost use Rattle.jffs_node.specs.Record.{record_len as length_of};
 ghost use Rattle.jffs_log.specs.Gate.{AreErased, MayWrite, ProgramsErased, Writes};
 
@@ -24,7 +25,8 @@ const EIGHTH: usize = RECORD_MAX / 8;
 /// After a failure the whole record stands there, or bytes that don't count as one.
 pub(crate) fn write_record<F: Flash>(flash: &mut F, at: u32, node: &Node) -> Result<(), FlashFault>
     requires { MayWrite at node.now (F.device flash.old).image }
-    ensures { Writes at node.now result (F.device flash.old) (F.device flash.new) }
+    ensures written { Writes at node.now result (F.device flash.old) (F.device flash.new) }
+    ensures worn { Wears no_erase (length_of node.now + 1) (F.wear flash.old) (F.wear flash.new) }
 {
     // A buffer is filled before a record is made in it, so a short record gets a small one.
     let len = record_len(node) as usize;
@@ -50,7 +52,8 @@ fn write_in<const SIZE: usize, F: Flash>(
     requires may { MayWrite at node.now (F.device flash.old).image }
     requires long { length_of node.now ≤ SIZE }
     requires size { SIZE ≤ RECORD_MAX }
-    ensures { Writes at node.now result (F.device flash.old) (F.device flash.new) }
+    ensures written { Writes at node.now result (F.device flash.old) (F.device flash.new) }
+    ensures worn { Wears no_erase (length_of node.now + 1) (F.wear flash.old) (F.wear flash.new) }
 {
     write_through(flash, &mut [GATE_OPEN; SIZE], at, node)
 }
@@ -64,7 +67,8 @@ fn write_through<F: Flash>(
 ) -> Result<(), FlashFault>
     requires may { MayWrite at node.now (F.device flash.old).image }
     requires long { length_of node.now ≤ length buffer.old }
-    ensures { Writes at node.now result (F.device flash.old) (F.device flash.new) }
+    ensures written { Writes at node.now result (F.device flash.old) (F.device flash.new) }
+    ensures worn { Wears no_erase (length_of node.now + 1) (F.wear flash.old) (F.wear flash.new) }
 {
     let record = &mut buffer[..record_len(node) as usize];
     encode_into(node, record);
@@ -76,7 +80,9 @@ fn write_through<F: Flash>(
 /// Programs bytes into erased flash.
 fn program_erased<F: Flash>(flash: &mut F, at: u32, bytes: &[u8]) -> Result<(), FlashFault>
     requires { AreErased at (length bytes.now) (F.device flash.old).image }
-    ensures { ProgramsErased at bytes.now result (F.device flash.old) (F.device flash.new) }
+    ensures programmed { ProgramsErased at bytes.now result (F.device flash.old)
+        (F.device flash.new) }
+    ensures worn { Wears no_erase (length bytes.now) (F.wear flash.old) (F.wear flash.new) }
 {
     flash.program(at, bytes)?;
     Ok(())

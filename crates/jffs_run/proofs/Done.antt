@@ -23,7 +23,7 @@ use Rattle.jffs_run.specs.Account.{Account}
 use Rattle.jffs_run.specs.Headline.{IsRun}
 use Rattle.jffs_run.specs.Faults.{LeftByTurns}
 use Rattle.jffs_run.specs.Done.{done_by_all, granted_done, AllFree, IsDoneToo, RunsAreFree, GrantedIsDone, EachIsDone, FailedIsDoneOrNot}
-use Rattle.jffs_run.proofs.Scanning.{ends_so, same_scan}
+use Rattle.jffs_run.proofs.Scanning.{ends_so, no_erase_failed, same_scan}
 use Rattle.jffs_run.proofs.Turns.{turn_in}
 
 -- a turn does what its answer says
@@ -138,14 +138,15 @@ done_too start replies after n h s is =
 -- where the core failed, but not in an erase, they are done, and at most one that was answered Device besides
 pub turned_failed :
     (before after : Device) (start : CoreState) (fresh : IsFresh before start) (turns : LeftByTurns start after)
-    → turns.core.failed ≡ true → after.erase_failed ≡ false
+    → turns.core.failed ≡ true → after.failed_erases ≡ before.failed_erases
     → ScanFinds (λ s. (s ≡ granted_done fresh turns.replies) ⊎ IsDoneToo turns.replies (granted_done fresh turns.replies) s) after.sectors after.sector_size after.image
 turned_failed before after start fresh turns fails intact =
     let mounted = past_of fresh.scanned.log in
     let ran = turns.lawful mounted mounted fresh.stands in
     let left = turns.left in
     let ends = ends_so start turns.core mounted turns.replies fresh.stands ran in
-    let f = failed_found (IsRequested (volume_of start) turns.replies ran.after) ran.after turns.core (ends.in_hand fresh.works fails) (sym left.erases_are ∙ intact) in
+    let f = failed_found (IsRequested (volume_of start) turns.replies ran.after) ran.after turns.core (ends.in_hand fresh.works fails)
+    (no_erase_failed before after start turns.core fresh left ends.device intact) in
     let done_all = chain_done mounted mounted ran.after start turns.core turns.replies ran.chain ∙ ap (λ x. done_by_all x turns.replies) (state_mounted before start fresh) in
     record {
       scanned = f.0;

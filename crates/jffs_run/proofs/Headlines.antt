@@ -23,6 +23,7 @@ use Rattle.jffs_text.specs.Wishes.{wishes_of}
 use Rattle.jffs_run.specs.Numbered.{numbered}
 use Rattle.jffs_run.specs.Ends.{EachFrom, AskForCopies, commands_at, accepted_by, HandedIn, HandedInAll}
 use Rattle.jffs_flash.specs.Device.{Device}
+use Rattle.jffs_flash.specs.Wear.{Wear}
 use Rattle.jffs_core.specs.Past.{IsLeftBy}
 use Rattle.jffs_run.specs.Account.{Account}
 use Rattle.jffs_run.specs.Headline.{IsRun, requests_in, numbers_of}
@@ -172,8 +173,8 @@ module _ {H : Type 0} (g : Hand.Ghosts H) where
       ]
 
   -- the account of a run with these hands
-  abbrev pub account_with : List Writer → Option ℕ → List ReaderStatement → Hands H → List Answer → List Request → List ReaderEnd → Served → Device → Account
-  account_with script rounds statements hands answers waiting ends served device = record {
+  abbrev pub account_with : List Writer → Option ℕ → List ReaderStatement → Hands H → List Answer → List Request → List ReaderEnd → Served → Device → Wear → Account
+  account_with script rounds statements hands answers waiting ends served device wear = record {
     script = script;
     cleaner = rounds;
     statements = statements;
@@ -183,11 +184,12 @@ module _ {H : Type 0} (g : Hand.Ghosts H) where
     ends = ends;
     served = served;
     device = device;
+    wear = wear;
   }
 
   -- what all threads did makes a run
   pub is_run :
-      (start core : CoreState) (script : List Writer) (rounds : Option ℕ) (statements : List ReaderStatement) (hands : Hands H) (replies : List Reply) (waiting : List Request) (ends : List ReaderEnd) (served : Served) (device : Device)
+      (start core : CoreState) (script : List Writer) (rounds : Option ℕ) (statements : List ReaderStatement) (hands : Hands H) (replies : List Reply) (waiting : List Request) (ends : List ReaderEnd) (served : Served) (device : Device) (wear : Wear)
       → length script ≤ 8 → length hands.writers.items ≡ length script
       → map g.sender (all_hands hands) ≡ senders (length script)
       → EachFrom (HandedIn g script) 0 hands.writers.items
@@ -200,10 +202,10 @@ module _ {H : Type 0} (g : Hand.Ghosts H) where
       → ((sender : ℕ) → (Contains (map g.sender (all_hands hands)) sender → ⊥) → of sender (requests_in replies) ++ of sender waiting ≡ [])
       → HaveSeen (record { opening = start.tree; steps = map (λ (r : Reply). r.step) replies }) statements ends
       → HasSizes start.index.sectors start.index.sector_size core.index → ErasesSince start (length replies) core
-      → IsLeftBy core device → ((mounted past : List Node) → Represents mounted past start → RunsTo start core mounted past replies)
+      → IsLeftBy core device → wear ≡ core.wear → ((mounted past : List Node) → Represents mounted past start → RunsTo start core mounted past replies)
       → FitsServed served (any_closed (map answer_in replies)) replies → EndsAs served replies
-      → IsRun start (account_with script rounds statements hands (map answer_in replies) waiting ends served device)
-  is_run start core script rounds statements hands replies waiting ends served device eight count numbers first whole copies unmounts replied settled counted others seen sizes erases left lawful ending stops =
+      → IsRun start (account_with script rounds statements hands (map answer_in replies) waiting ends served device wear)
+  is_run start core script rounds statements hands replies waiting ends served device wear eight count numbers first whole copies unmounts replied settled counted others seen sizes erases left worn lawful ending stops =
       let writers : List H = hands.writers.items in
       let tail : List H = hands.cleaner ∷ hands.control.hand ∷ [] in
       let accepted : ℕ → List Request = λ sender. accepted_by g sender (writers ++ tail) in
@@ -228,6 +230,7 @@ module _ {H : Type 0} (g : Hand.Ghosts H) where
         ends = stops;
         core = core;
         left = left;
+        worn = worn;
         sizes = sizes;
         erases = erases;
         lawful = lawful;

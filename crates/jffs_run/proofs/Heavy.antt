@@ -60,7 +60,7 @@ heavy_then :
     → heavy turn.within.was.index.sectors turn.within.was.index.sector_size ≡ heavy start.index.sectors start.index.sector_size
 heavy_then {start} run mounted first r later turn stands =
     let at = turn.within in
-    let so : EndsSo mounted start at.was first at.taken = chains_end_so mounted mounted at.taken start at.was first stands at.so_far in
+    let so : EndsSo mounted mounted start at.was first at.taken = chains_end_so mounted mounted at.taken start at.was first stands at.so_far in
     ap (λ (v : Volume). heavy v.sectors v.sector_size) (same_volume start at.was so.sizes)
 
 pub turns_have_room : TurnsHaveRoom

@@ -36,6 +36,7 @@ use Rattle.jffs_run.specs.Ends.{end_of}
 use Rattle.jffs_run.specs.Crew.{HasHandedIn, UnmountsLast, crew_hands}
 use Rattle.jffs_run.specs.Looking.{HaveSeen, IsWhole}
 use Rattle.jffs_flash.specs.Device.{Device}
+use Rattle.jffs_flash.specs.Wear.{Wear}
 use Rattle.jffs_core.specs.Past.{IsLeftBy}
 use Rattle.jffs_run.specs.Headline.{IsRun, requests_in}
 use Rattle.jffs_run.proofs.Headlines.{account_with, is_run}
@@ -70,7 +71,7 @@ module _ {H : Type 0} (g : Hand.Ghosts H) where
   pub whole_run :
       (script : List Writer) (rounds : Option ℕ) (statements : List ReaderStatement) (crew : Crew H) (hands : Hands H)
       (core : CoreState) (unsent : Option PendingStep) (published : History) (pending : List Step)
-      (start : Start) (taken : ℕ → List Request) (replies : List Reply) (waiting : List Request) (ends : List ReaderEnd) (served : Served) (device : Device)
+      (start : Start) (taken : ℕ → List Request) (replies : List Reply) (waiting : List Request) (ends : List ReaderEnd) (served : Served) (device : Device) (wear : Wear)
       → length script ≤ 8 → map g.sender (crew_hands g crew) ≡ senders (length script)
       → HasHandedIn g script rounds crew hands → UnmountsLast g script hands
       → ((w : ℕ) → start.taken w ≡ []) → start.core.answers ≡ [] → start.put ≡ [] → published.opening ≡ start.core.tree
@@ -79,10 +80,10 @@ module _ {H : Type 0} (g : Hand.Ghosts H) where
       → All (λ hand. IsNumbered (g.accepted hand)) (all_hands hands)
       → ((w : ℕ) → (Contains (map g.sender (all_hands hands)) w → ⊥) → taken w ++ of w waiting ≡ [])
       → ((history : History) → IsWhole published (length core.answers) history → HaveSeen history statements ends)
-      → IsLeftBy core device
+      → IsLeftBy core device → wear ≡ core.wear
       → StopsAt None replies (ending_in (Some served) core unsent)
-      → IsRun start.core (account_with g script rounds statements hands core.answers waiting ends served device)
-  whole_run script rounds statements crew hands core unsent published pending start taken replies waiting ends served device eight numbers handed whole_handed untaken unanswered unput_before opened_is has settled numbered others seen left stops =
+      → IsRun start.core (account_with g script rounds statements hands core.answers waiting ends served device wear)
+  whole_run script rounds statements crew hands core unsent published pending start taken replies waiting ends served device wear eight numbers handed whole_handed untaken unanswered unput_before opened_is has settled numbered others seen left worn stops =
       let answers_are : core.answers ≡ map answer_in replies = has.answered ∙ ap (λ (l : List Answer). l ++ map answer_in replies) unanswered in
       let taken_is : (w : ℕ) → taken w ≡ of w (requests_in replies) = λ w. has.all_taken w ∙ ap (λ (l : List Request). l ++ of w (requests_in replies)) (untaken w) in
       let now = same_senders (all_hands hands) (crew_hands g crew) handed.ends ∙ numbers in
@@ -96,12 +97,12 @@ module _ {H : Type 0} (g : Hand.Ghosts H) where
       let replies_many : length (map answer_in replies) ≡ length replies = length-map replies answer_in in
       let steps_many : length steps ≡ length replies = length-map replies (λ (r : Reply). r.step) in
       ap₂ (λ (t : Tree) (l : List Step). let h : History = record { opening = t; steps = l } in h) (sym opened_is) (sym (prefix_whole published.steps steps (pending ++ unput unsent, put) (omega arith))) in
-      subst (λ (answers : List Answer). IsRun start.core (account_with g script rounds statements hands answers waiting ends served device)) (sym answers_are)
-      (is_run g start.core core script rounds statements hands replies waiting ends served device eight
+      subst (λ (answers : List Answer). IsRun start.core (account_with g script rounds statements hands answers waiting ends served device wear)) (sym answers_are)
+      (is_run g start.core core script rounds statements hands replies waiting ends served device wear eight
       (count_writers hands.writers.items hands.cleaner hands.control.hand (length script) now) now
       handed.first whole_handed handed.cleaner handed.control (stopped_in_order replies _ stops has.reply)
       (λ k d below. let w : ℕ = g.sender (get_or (all_hands hands) k d) in ap (λ (l : List Request). l ++ of w waiting) (sym (taken_is w)) ∙ settled k d below)
       numbered
       (λ w none. ap (λ (l : List Request). l ++ of w waiting) (sym (taken_is w)) ∙ others w none)
-      (seen history whole) has.sizes has.erases left has.lawful
+      (seen history whole) has.sizes has.erases left worn has.lawful
       (stopped_fits_served served replies core unsent stops) (ends_as served replies core unsent stops))

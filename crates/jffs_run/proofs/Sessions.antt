@@ -18,7 +18,7 @@ scan_same a b same = λ i. scan (same.sizes_are i) (split (same.sectors_are i) (
 
 -- what a scan finds after one session
 one_made :
-    (given left : Device) (session : HadSession given left) → left.erase_failed ≡ false
+    (given left : Device) (session : HadSession given left) → left.failed_erases ≡ given.failed_erases
     → ScanFinds (Makes session (state_in session.fresh.scanned.tree)) left.sectors left.sector_size left.image
 one_made given left session intact = ⊎_elim failed worked (cases_Bool session.turns.core.failed)
   where

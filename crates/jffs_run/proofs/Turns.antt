@@ -38,7 +38,7 @@ failed_stays_failed before start account fresh run first later r are tells =
     let mounted = past_of fresh.scanned.log in
     let turn = turn_in run mounted first r later fresh.stands are in
     let at = turn.within in
-    let so : EndsSo mounted start at.was first at.taken = chains_end_so mounted mounted at.taken start at.was first fresh.stands at.so_far in
+    let so : EndsSo mounted mounted start at.was first at.taken = chains_end_so mounted mounted at.taken start at.was first fresh.stands at.so_far in
     says_failed at.replied (so.failed tells)
 
 pub answers_are_durable : AnswersAreDurable

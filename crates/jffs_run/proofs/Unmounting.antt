@@ -89,7 +89,7 @@ refused_one (r ∷ q ∷ replies) cause all refuses = inr (refused_one (q ∷ re
 closes_unmount : (o : Outcome) (t : Turn) (q : Request) (copies own : List Node) → OutcomeIs o t q copies own → is_closed o ≡ true → (q.wish ≡ Unmount) × (o ≡ Closed)
 closes_unmount (Appended inode version) t q copies own so closed = absurd (cc)
 closes_unmount (Copied version) t q copies own so closed = absurd (cc)
-closes_unmount Closed t q copies own so closed = (unmount_wish q.wish so.0, refl)
+closes_unmount Closed t q copies own so closed = (unmount_wish q.wish so.wish, refl)
 closes_unmount (Refused cause) t q copies own so closed = absurd (cc)
 
 closed_one :

@@ -10,10 +10,11 @@ use Rattle.jffs_text.specs.declared.script.ReaderStatement.{ReaderStatement}
 use Rattle.jffs_run.specs.declared.outcome.Run.{Run}
 use Rattle.jffs_run.specs.declared.reader.ReaderEnd.{ReaderEnd}
 use Rattle.jffs_flash.specs.Device.{Device}
+use Rattle.jffs_flash.specs.Wear.{Wear}
 
 -- The writers, the cleaner's rounds and the readers' statements of a script; what each sender had
 -- accepted, all answers, what waits, what became of each reader, what was served, and the device at
--- the end.
+-- the end, with what it counts of its wear.
 pub record Account : Type 0 where
   pub script : List Writer
   pub cleaner : Option ℕ
@@ -24,6 +25,7 @@ pub record Account : Type 0 where
   pub ends : List ReaderEnd
   pub served : Served
   pub device : Device
+  pub wear : Wear
 
 -- the account of a run of this script, whose senders had accepted this
 abbrev pub account_of : {F A : Type 0} → Flash.Ghosts F → Script → (ℕ → List Request) → Run F A
@@ -38,4 +40,5 @@ account_of g script accepted run = record {
   ends = run.readers.items;
   served = run.served;
   device = g.device run.flash;
+  wear = g.wear run.flash;
 }

@@ -75,7 +75,8 @@ pub record IsDoneToo (replies : List Reply) (before s : State) : Type 0 where
 abbrev pub FailedIsDoneOrNot : Type 0
 FailedIsDoneOrNot =
     (before : Device) (start : CoreState) (account : Account) (fresh : IsFresh before start)
-    (run : IsRun start account) → run.core.failed ≡ true → account.device.erase_failed ≡ false
+    (run : IsRun start account) → run.core.failed ≡ true
+    → account.device.failed_erases ≡ before.failed_erases
     → ScanFinds
     (λ s. (s ≡ granted_done fresh run.replies)
     ⊎ IsDoneToo run.replies (granted_done fresh run.replies) s)

@@ -66,6 +66,7 @@ pub record IsRun (start : CoreState) (account : Account) : Type 0 where
       → sender ≢ CLEANER → sender ≢ CONTROL → account.accepted sender ≡ []
   pub core : CoreState
   pub left : IsLeftBy core account.device
+  pub worn : account.wear ≡ core.wear
   pub sizes : HasSizes start.index.sectors start.index.sector_size core.index
   pub erases : ErasesSince start (length replies) core
   pub lawful : (mounted past : List Node) → Represents mounted past start

@@ -51,7 +51,7 @@ abbrev pub FailedRunsLeaveHistory : Type 0
 FailedRunsLeaveHistory =
     (before : Device) (start : CoreState) (account : Account) (fresh : IsFresh before start)
     (run : IsRun start account)
-    → run.core.failed ≡ true → account.device.erase_failed ≡ false
+    → run.core.failed ≡ true → account.device.failed_erases ≡ before.failed_erases
     → LeavesHistory start (past_of fresh.scanned.log) run.replies account
 
 -- Where the device's count of faults is at the end what it was at the mount, nothing was answered

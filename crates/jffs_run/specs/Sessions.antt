@@ -40,11 +40,12 @@ pub record Stretch : Type 0 where
   pub given : Device
   pub left : Device
 
--- One session after another, each on what the one before it left, and in none an erase failed.
+-- One session after another, each on what the one before it left, and in none an erase failed: the
+-- device's count of those is after it what it was before.
 abbrev pub Sessions : Device → List Stretch → Type 0
 Sessions device [] = Unit {0}
 Sessions device (s ∷ later) = HoldSame device s.given × HadSession s.given s.left
-    × (s.left.erase_failed ≡ false) × Sessions s.left later
+    × (s.left.failed_erases ≡ s.given.failed_erases) × Sessions s.left later
 
 -- the device as the last of them left it
 abbrev pub left_last : Device → List Stretch → Device

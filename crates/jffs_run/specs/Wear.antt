@@ -1,9 +1,10 @@
 -- The sectors of a device wear evenly over a run, and over runs that follow one another.
 use Rattle.std.specs.Prelude.{◌≡◌, ℕ, ◌+◌, ◌<◌, ◌≤◌, false, List, [], ◌∷◌, ◌++◌}
 use Rattle.jffs_log.specs.Image.{past_of}
-use Rattle.jffs_log.specs.Wear.{ErasedInTurn, erases_of, erases_over, sector_after_each}
+use Rattle.jffs_log.specs.Wear.{erases_of, erases_over, sector_after_each}
 use Rattle.jffs_core.specs.CoreState.{CoreState}
 use Rattle.jffs_core.specs.Past.{IsFresh}
+use Rattle.jffs_core.specs.Erases.{ErasesInTurn}
 use Rattle.jffs_flash.specs.Device.{Device}
 use Rattle.jffs_serve.specs.Replies.{Reply}
 use Rattle.jffs_run.specs.Account.{Account}
@@ -11,13 +12,14 @@ use Rattle.jffs_run.specs.Headline.{IsRun}
 use Rattle.jffs_run.specs.Turns.{InRun}
 use Rattle.jffs_run.specs.Sessions.{HadSession, Stretch, Sessions}
 
--- Since the start the sectors were erased around the ring, from the one on that the log began with:
--- so of any two the one was erased at most once more often than the other.
+-- Since the start the sectors were erased around the ring, from the one on that the log began with,
+-- by the device's own count none more often: so of any two the one was erased at most once more often
+-- than the other.
 pub record IsWornEvenly (start now : CoreState) : Type 0 where
-  pub turned : ErasedInTurn start.index now.index
+  pub erases : ErasesInTurn start now
   pub even : (j k : ℕ) → j < start.index.sectors → k < start.index.sectors
-      → erases_of start.index.sectors start.index.first turned.many j
-      ≤ erases_of start.index.sectors start.index.first turned.many k + 1
+      → erases_of start.index.sectors start.index.first erases.turned.many j
+      ≤ erases_of start.index.sectors start.index.first erases.turned.many k + 1
 
 -- So it is at the end of a run, and with each of its answers, while the device works.
 abbrev pub EachRunWearsEvenly : Type 0
@@ -32,8 +34,8 @@ EachRunWearsEvenly =
 -- In a session so many sectors were erased in turn, of `count` and from `first` on.
 pub record ErasedInSession (count first many : ℕ) {given left : Device}
     (session : HadSession given left) : Type 0 where
-  pub turned : ErasedInTurn session.start.index session.turns.core.index
-  pub many_are : turned.many ≡ many
+  pub erases : ErasesInTurn session.start session.turns.core
+  pub many_are : erases.turned.many ≡ many
   pub sectors : session.start.index.sectors ≡ count
   pub begins : session.start.index.first ≡ first
 

@@ -156,6 +156,8 @@ fn settle_all<R: Wait, F: Flash + Drop, T: Settle, W: Wait + Drop>(
         (T.taken finished.log.side.taker) }
     ensures left { IfOk result
         (λ run. IsLeftBy finished.log.side.session.core (F.device run.flash)) }
+    ensures worn { IfOk result
+        (λ run. F.wear run.flash ≡ finished.log.side.session.core.wear) }
 {
     let Finished {
         hands,
@@ -200,6 +202,7 @@ pub fn run_threads<R: Threads + Wait + Sync, F: Flash + Send + Drop, G: Gate + S
         (GivesBack F.device (IsGivenUp script.now.writers.items (F.device flash))) }
     ensures run { IfOk result
         (λ run. (start : CoreState) × IsFresh (F.device flash) start
+        × (start.wear ≡ F.wear flash)
         × IsRun start (account_of F.Flash script.now (accepted_of run.accepted) run)) }
 {
     let core = match Core::mount(alloc, flash) {

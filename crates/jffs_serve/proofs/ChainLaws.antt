@@ -18,11 +18,12 @@ use Rattle.jffs_core.specs.History.{IsOwnCopy}
 use Rattle.jffs_core.specs.Step.{Volume, Turn, IsStep, OutcomeIs, IsInHand}
 use Rattle.jffs_core.specs.Past.{Represents, RepresentsWorking, HasFailed}
 use Rattle.jffs_core.specs.Run.{OnlyCopies, AreAnswered, IsInOrder, is_failure}
-use Rattle.jffs_core.specs.Answering.{turn_of, keeps_two, is_closed}
+use Rattle.jffs_core.specs.Answering.{ProgramsFor, turn_of, keeps_two, is_closed}
 use Rattle.jffs_core.specs.declared.answer.Answer.{Answer}
-use Rattle.jffs_log.proofs.erase.Wear.{in_turn_none, turns_go_on}
 use Rattle.jffs_core.proofs.Lawful.{none_made}
-use Rattle.jffs_core.proofs.Refusing.{failed_more}
+use Rattle.jffs_core.specs.Calls.{ProgramsOnce}
+use Rattle.jffs_core.proofs.Erasing.{uses_nothing, uses_along}
+use Rattle.jffs_core.proofs.Refusing.{failed_more, same_programs, programs_along}
 use Rattle.jffs_core.proofs.Stepping.{unmounts_have_room}
 use Rattle.jffs_serve.specs.Replies.{Reply, AllReply, answer_in}
 use Rattle.jffs_serve.specs.Chain.{KeepsHistory, IsReplied, Chain, after_reply}
@@ -75,6 +76,14 @@ module _ {mounted past : List Node} {was now : CoreState} {r : Reply} (replied :
 
   pub worked_before : now.failed ≡ false → was.failed ≡ false
   worked_before works = false_from_ne_true was.failed (λ f. both_ways now.failed works (fails_as ∙ ap is_failure (says_failed f)))
+
+  -- while the core works, what is written for the nodes that the turn added
+  pub programs_now : now.failed ≡ false → ProgramsOnce past after was now
+  programs_now works = by_hand replied.answer.answers.programs
+    where
+      by_hand : ProgramsFor the_turn r.request r.step.outcome past after was now → ProgramsOnce past after was now
+      by_hand (inl none) = none
+      by_hand (inr hand) = absurd (both_ways now.failed works (fails_as ∙ ap is_failure hand.1.0))
 
   -- a core that had failed
   failed_before : (volume : Volume) (replies : List Reply) → was.failed ≡ true → HasFailed (InHandOf volume replies past) past was → HasFailed (InHandOf volume (replies ++ r ∷ []) after) after now
@@ -140,12 +149,13 @@ pub same_volume : (a b : CoreState) → HasSizes a.index.sectors a.index.sector_
 same_volume a b sizes = ap (λ k. record (volume_of b) { sectors = k }) (sym sizes.0) ∙ ap (λ k. record (volume_of a) { sector_size = k }) (sym sizes.1)
 
 -- where no turn was taken yet
-ends_at_start : (mounted past : List Node) (start : CoreState) → Represents mounted past start → EndsSo mounted start start [] past
+ends_at_start : (mounted past : List Node) (start : CoreState) → Represents mounted past start → EndsSo mounted past start start [] past
 ends_at_start mounted past start stands = record {
   sizes = (refl, refl);
   stands = stands;
   two = λ keep works two. two;
-  turned = λ works. in_turn_none start.index start.index refl refl refl;
+  device = uses_nothing start;
+  programs = λ works. same_programs past start start refl;
   works = λ works. refl;
   faults = λ works fails. absurd (both_ways start.failed works fails);
   failed = λ f. absurd (cc);
@@ -153,16 +163,18 @@ ends_at_start mounted past start stands = record {
 }
 
 -- with what passes between two turns
-ends_same : (mounted past : List Node) (start old new : CoreState) (replies : List Reply) → KeepsHistory old new → EndsSo mounted start old replies past → EndsSo mounted start new replies past
-ends_same mounted past start old new replies keeps so = record {
+ends_same : (mounted began past : List Node) (start old new : CoreState) (replies : List Reply) → KeepsHistory old new → EndsSo mounted began start old replies past → EndsSo mounted began start new replies past
+ends_same mounted began past start old new replies keeps so = record {
   sizes = (so.sizes.0 ∙ keeps.sizes.0, so.sizes.1 ∙ keeps.sizes.1);
   stands = keeps.stands mounted past so.stands;
   two = λ keep works two.
       let worked = keeps_worked old new keeps works in
       keeps.two works past (working worked) (so.two keep worked two);
-  turned = λ works.
-      let erases = keeps.erases in
-      turns_go_on start.index old.index new.index (so.turned (keeps_worked old new keeps works)) (erases.turned works);
+  device = let erases = keeps.erases in uses_along start old new (keeps_worked old new keeps) so.device erases.device;
+  programs = λ works.
+      let so_far = so.programs (keeps_worked old new keeps works) in
+      let none = keeps.programs mounted past so.stands in
+      omega (arith, so_far, none);
   works = λ works.
       let worked = keeps_worked old new keeps works in
       keeps.faults works past (working worked) ∙ so.works worked;
@@ -184,17 +196,16 @@ ends_same mounted past start old new replies keeps so = record {
 
 -- with one turn more
 ends_more :
-    (mounted past : List Node) (start old new : CoreState) (replies : List Reply) (r : Reply)
-    → EndsSo mounted start old replies past → (replied : IsReplied mounted past old r new) → EndsSo mounted start new (replies ++ r ∷ []) (after_reply replied)
-ends_more mounted past start old new replies r so replied = record {
+    (mounted began past : List Node) (start old new : CoreState) (replies : List Reply) (r : Reply)
+    → EndsSo mounted began start old replies past → (replied : IsReplied mounted past old r new) → EndsSo mounted began start new (replies ++ r ∷ []) (after_reply replied)
+ends_more mounted began past start old new replies r so replied = record {
   sizes = (so.sizes.0 ∙ replied.sizes.0, so.sizes.1 ∙ replied.sizes.1);
   stands = replied.answer.answers.stands;
   two = λ keep works two.
       let both = all_keep_parts replies r keep in
       replied.answer.answers.two both.1 (so.two both.0 (worked_before replied works) two);
-  turned = λ works.
-      let erases = replied.erases in
-      turns_go_on start.index old.index new.index (so.turned (worked_before replied works)) (erases.turned works);
+  device = let erases = replied.erases in uses_along start old new (worked_before replied) so.device erases.device;
+  programs = λ works. programs_along began past (after_reply replied) start old new (so.programs (worked_before replied works)) (programs_now replied works);
   works = λ works. replied.answer.answers.faults works ∙ so.works (worked_before replied works);
   faults = λ began fails. ⊎_elim
       (λ had. subst (λ (c : CoreState). start.faults < c.faults) (sym (replied.kept had)) (so.faults began had))
@@ -211,21 +222,21 @@ ends_more mounted past start old new replies r so replied = record {
 }
 
 ends_along :
-    (mounted past after : List Node) (start middle core : CoreState) (done rest : List Reply)
-    → EndsSo mounted start middle done past → Chain mounted past middle rest core after → EndsSo mounted start core (done ++ rest) after
-ends_along mounted past after start middle core done [] so chain =
-    subst (λ (replies : List Reply). EndsSo mounted start core replies after) (sym (append-nil done))
-    (subst (EndsSo mounted start core done) (sym chain.1) (ends_same mounted past start middle core done chain.0 so))
-ends_along mounted past after start middle core done (r ∷ rest) so chain =
+    (mounted began past after : List Node) (start middle core : CoreState) (done rest : List Reply)
+    → EndsSo mounted began start middle done past → Chain mounted past middle rest core after → EndsSo mounted began start core (done ++ rest) after
+ends_along mounted began past after start middle core done [] so chain =
+    subst (λ (replies : List Reply). EndsSo mounted began start core replies after) (sym (append-nil done))
+    (subst (EndsSo mounted began start core done) (sym chain.1) (ends_same mounted began past start middle core done chain.0 so))
+ends_along mounted began past after start middle core done (r ∷ rest) so chain =
     let link = chain.0 in
-    let before = ends_same mounted past start middle link.was done link.between so in
-    let now = ends_more mounted past start link.was link.now done r before link.replied in
-    subst (λ (replies : List Reply). EndsSo mounted start core replies after) (append_assoc done (r ∷ []) rest)
-    (ends_along mounted (after_reply link.replied) after start link.now core (done ++ r ∷ []) rest now chain.1)
+    let before = ends_same mounted began past start middle link.was done link.between so in
+    let now = ends_more mounted began past start link.was link.now done r before link.replied in
+    subst (λ (replies : List Reply). EndsSo mounted began start core replies after) (append_assoc done (r ∷ []) rest)
+    (ends_along mounted began (after_reply link.replied) after start link.now core (done ++ r ∷ []) rest now chain.1)
 
 pub chains_end_so : ChainsEndSo
 chains_end_so mounted past after start core replies stands chain =
-    ends_along mounted past after start start core [] replies (ends_at_start mounted past start stands) chain
+    ends_along mounted past past after start start core [] replies (ends_at_start mounted past start stands) chain
 
 -- the turns of a chain are answers to their requests
 each_answered :

@@ -1,5 +1,5 @@
 -- Calls after which the core represents the history that it represented.
-use Rattle.std.proofs.Common.{◌≡◌, ◌<◌, ℕ, List, inl, inr, ⊎_elim, true, false, not, refl, sym, ap, subst, ◌∙◌, arith, Result, Ok, Err, OnOk, IfOk, IfErr}
+use Rattle.std.proofs.Common.{◌≡◌, ◌<◌, ◌≤◌, ℕ, List, inl, inr, ⊎_elim, true, false, not, refl, sym, ap, subst, ◌∙◌, arith, Result, Ok, Err, OnOk, IfOk, IfErr}
 use Rattle.std.proofs.lemmas.Bool.{and_parts, both_ways, cases_Bool, false_from_ne_true, not-true}
 use Rattle.jffs_node.specs.declared.node.Node.{Node}
 use Rattle.jffs_tree.specs.declared.wish.Cause.{Cause}
@@ -7,16 +7,15 @@ use Rattle.jffs_tree.specs.declared.wish.Cause.TheVariants as causes
 use Rattle.jffs_log.specs.LogIndex.{HasSizes}
 use Rattle.jffs_core.specs.CoreState.{CoreState, IsSameButCapacity}
 use Rattle.jffs_core.specs.History.{MayFollow}
-use Rattle.jffs_core.specs.Past.{RepresentsWorking, Represents, HasFailed}
-use Rattle.jffs_core.specs.Calls.{FailsIn}
+use Rattle.jffs_core.specs.Past.{RepresentsWorking, Represents, HasFailed, OrOneMore}
+use Rattle.jffs_core.specs.Calls.{FailsIn, ProgramsOnce}
 use Rattle.jffs_core.specs.Cleaning.{ErasesDead, ErasingStopped, EraseStopIs}
-use Rattle.jffs_core.specs.Erases.{ErasesAtMost}
+use Rattle.jffs_core.specs.Erases.{ErasesAtMost, UsesDevice}
 use Rattle.jffs_core.specs.Jobs.{wants_cleaning, ReadRefused}
-use Rattle.jffs_log.proofs.erase.Wear.{turns_go_on}
 use Rattle.jffs_core.proofs.Contents.{no_growth}
-use Rattle.jffs_core.proofs.Erasing.{erased_same}
+use Rattle.jffs_core.proofs.Erasing.{erased_same, uses_none, uses_along}
 use Rattle.jffs_core.proofs.Mounting.{clean_ends}
-use Rattle.jffs_core.proofs.Refusing.{works_past}
+use Rattle.jffs_core.proofs.Refusing.{works_past, same_programs}
 use Rattle.jffs_serve.specs.Chain.{KeepsHistory}
 
 -- a core that had failed has failed still
@@ -35,12 +34,13 @@ failed_but_capacity More past old new same h = subst (HasFailed More past) (sym 
 pub same_but_capacity : (old new : CoreState) → IsSameButCapacity old new → KeepsHistory old new
 same_but_capacity old new same = subst (KeepsHistory old) (sym same) (record {
   sizes = (refl, refl);
-  erases = erased_same 0 old (record old { capacity = new.capacity }) refl;
+  erases = erased_same 0 old (record old { capacity = new.capacity }) refl (uses_none old (record old { capacity = new.capacity }) refl refl refl refl refl (λ k. omega arith));
   closed = λ is. (is, refl, refl);
   failed = λ f. refl;
   faults = λ w past k. refl;
   two = λ w past k two. two;
   fails = λ works f. absurd (both_ways old.failed works f);
+  programs = λ mounted past s. omega arith;
   stands = λ mounted past s. record {
     grown = s.grown;
     stands = record {
@@ -58,6 +58,11 @@ represents_itself past c works known = record { grown = no_growth past; stands =
 represents_still : (old new : CoreState) → KeepsHistory old new → new.failed ≡ false → (past : List Node) → RepresentsWorking past old → RepresentsWorking past new
 represents_still old new keeps works past known = (keeps.stands past past (represents_itself past old (keeps_worked old new keeps works) known)).stands.working works
 
+-- With no node in hand nothing was programmed.
+unprogrammed : (past : List Node) (old new : CoreState) → OrOneMore (λ n. ⊥) past (λ found. ProgramsOnce past found old new) → new.wear.bytes ≤ old.wear.bytes
+unprogrammed past old new (inl none) = omega (arith, none)
+unprogrammed past old new (inr hand) = absurd hand.1
+
 erased_along : (a b c : CoreState) → KeepsHistory a b → KeepsHistory b c → ErasesAtMost 0 a c
 erased_along a b c h k =
     let first = h.erases in
@@ -68,7 +73,7 @@ erased_along a b c h k =
         | inr works ↦ let e = first.held works in let f = second.erases in omega arith
       ];
       held = λ works. let e = first.held (keeps_worked b c k works) in let f = second.held works in omega arith;
-      turned = λ works. turns_go_on a.index b.index c.index (first.turned (keeps_worked b c k works)) (second.turned works);
+      device = uses_along a b c (keeps_worked b c k) first.device second.device;
     }
 
 -- two such calls are one
@@ -90,12 +95,19 @@ keeps_along a b c h k = record {
       record {
         fails = f;
         faults = subst (λ (n : ℕ). a.faults < n) (sym (ap (λ (s : CoreState). s.faults) (k.failed had))) g.faults;
+        programs = inl (let one = unprogrammed past a b g.programs in let same = ap (λ (s : CoreState). s.wear.bytes) (k.failed had) in omega (arith, one, same));
         left = failed_but_capacity (λ n. ⊥) past b c (k.failed had) g.left;
       })
       (λ between.
       let g = k.fails between f past (represents_still a b h between past known) in
-      record { fails = f; faults = subst (λ (n : ℕ). n < c.faults) (h.faults between past known) g.faults; left = g.left })
+      let one = h.programs past past (represents_itself past a works known) in
+      let two = unprogrammed past b c g.programs in
+      record { fails = f; faults = subst (λ (n : ℕ). n < c.faults) (h.faults between past known) g.faults; programs = inl (omega (arith, one, two)); left = g.left })
       (cases_Bool b.failed);
+  programs = λ mounted past s.
+      let one = h.programs mounted past s in
+      let two = k.programs mounted past (h.stands mounted past s) in
+      omega arith;
   stands = λ mounted past s. k.stands mounted past (h.stands mounted past s);
 }
 
@@ -119,12 +131,13 @@ read_failed old new works same now risen stands =
     }) in
     record {
       sizes = subst (λ (c : CoreState). HasSizes old.index.sectors old.index.sector_size c.index) (sym same) (refl, refl);
-      erases = erased_same 0 old new (ap (λ (c : CoreState). c.index) same);
+      erases = erased_same 0 old new (ap (λ (c : CoreState). c.index) same) (subst (UsesDevice old) (sym same) (uses_none old (record old { failed = new.failed; faults = new.faults }) refl refl refl refl refl (λ k. omega arith)));
       closed = λ is. (ap (λ (c : CoreState). c.closed) same ∙ is, ap (λ (c : CoreState). c.index) same, ap (λ (c : CoreState). c.image) same);
       failed = λ f. absurd (both_ways old.failed works f);
       faults = λ w past k. absurd (both_ways new.failed w now);
       two = λ w past k. absurd (both_ways new.failed w now);
-      fails = λ w f past k. record { fails = now; faults = risen; left = left past k };
+      fails = λ w f past k. record { fails = now; faults = risen; programs = inl (same_programs past old new (ap (λ (c : CoreState). c.wear) same)); left = left past k };
+      programs = λ mounted past s. let none = ap (λ (c : CoreState). c.wear.bytes) same in omega arith;
       stands = stands;
     }
 
@@ -159,6 +172,7 @@ erased_dead old new (Ok count) works opened sizes erased stopped erases =
       faults = λ w past known. (did past known).faults;
       two = λ w past known. (did past known).two;
       fails = λ w f past known. absurd (both_ways new.failed (did past known).still_works f);
+      programs = λ mounted past s. let none = (erased mounted past s).programs in omega (arith, none);
       stands = λ mounted past s. (erased mounted past s).stands;
     }
 erased_dead old new (Err cause) works opened sizes erased stopped erases =
@@ -170,14 +184,15 @@ erased_dead old new (Err cause) works opened sizes erased stopped erases =
       faults = λ w past known. absurd (both_ways new.failed w (let h = fell past known in h.fails));
       two = λ w past known. absurd (both_ways new.failed w (let h = fell past known in h.fails));
       fails = λ w f past known. fell past known;
+      programs = λ mounted past s. let d = fell past (s.stands.working works) in unprogrammed past old new d.programs;
       stands = λ mounted past s. (stopped.history mounted past s).0;
     }
   where
-    by_cause : (past : List Node) → EraseStopIs cause past old new → FailsIn (λ n. ⊥) past old new
+    by_cause : (past : List Node) → EraseStopIs cause past old new → FailsIn (λ n. ⊥) past past old new
     by_cause past why = elim stopped.either [
       | inl device ↦ (subst (λ (c : Cause). EraseStopIs c past old new) device why).1
       | inr failed ↦ absurd (both_ways old.failed works (subst (λ (c : Cause). EraseStopIs c past old new) failed why).0)
     ]
 
-    fell : (past : List Node) → RepresentsWorking past old → FailsIn (λ n. ⊥) past old new
+    fell : (past : List Node) → RepresentsWorking past old → FailsIn (λ n. ⊥) past past old new
     fell past known = by_cause past (stopped.history past past (represents_itself past old works known)).1

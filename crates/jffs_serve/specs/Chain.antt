@@ -1,5 +1,5 @@
 -- The states of a core from turn to turn.
-use Rattle.std.specs.Prelude.{◌≡◌, true, false, List, [], ◌∷◌}
+use Rattle.std.specs.Prelude.{◌≡◌, ◌≤◌, true, false, List, [], ◌∷◌}
 use Rattle.jffs_node.specs.declared.node.Node.{Node}
 use Rattle.jffs_log.specs.LogIndex.{HasSizes}
 use Rattle.jffs_core.specs.CoreState.{CoreState, IsSameButCapacity}
@@ -18,7 +18,7 @@ KeepsClosed old new =
 -- The core represents the history that it represented, on a device of the same sizes, and what it
 -- erased held the log. Where the session was closed, nothing is erased. Where the core had failed,
 -- nothing is changed; where it works on, no call of the device failed, and two erased sectors stay
--- so; where it fails now, one did, and no node was in hand.
+-- so; where it fails now, one did, and no node was in hand. Nothing is programmed.
 pub record KeepsHistory (old new : CoreState) : Type 0 where
   pub sizes : HasSizes old.index.sectors old.index.sector_size new.index
   pub erases : ErasesAtMost 0 old new
@@ -28,7 +28,9 @@ pub record KeepsHistory (old new : CoreState) : Type 0 where
       → new.faults ≡ old.faults
   pub two : new.failed ≡ false → (past : List Node) → RepresentsWorking past old → KeepsTwo old new
   pub fails : old.failed ≡ false → new.failed ≡ true → (past : List Node)
-      → RepresentsWorking past old → FailsIn (λ n. ⊥) past old new
+      → RepresentsWorking past old → FailsIn (λ n. ⊥) past past old new
+  pub programs : (mounted past : List Node) → Represents mounted past old
+      → new.wear.bytes ≤ old.wear.bytes
   pub stands : (mounted past : List Node) → Represents mounted past old
       → Represents mounted past new
 

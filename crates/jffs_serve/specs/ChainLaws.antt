@@ -11,14 +11,14 @@ use Rattle.jffs_tree.specs.declared.wish.Outcome.TheVariants.{Refused}
 use Rattle.jffs_tree.specs.Decide.{with}
 use Rattle.jffs_log.specs.LogIndex.{HasSizes, layout_in}
 use Rattle.jffs_log.specs.Room.{weight, heavy}
-use Rattle.jffs_log.specs.Wear.{ErasedInTurn}
 use Rattle.jffs_core.specs.CoreState.{CoreState}
 use Rattle.jffs_core.specs.History.{IsOwnCopy}
 use Rattle.jffs_core.specs.Past.{Represents, HasFailed}
 use Rattle.jffs_core.specs.Run.{IsLawful, OnlyCopies, is_failure}
 use Rattle.jffs_core.specs.Step.{Volume, Turn, IsNodeFor, HadNoRoom, decision}
 use Rattle.jffs_core.specs.Answering.{keeps_two, turn_of}
-use Rattle.jffs_core.specs.Calls.{KeepsTwo}
+use Rattle.jffs_core.specs.Calls.{KeepsTwo, ProgramsOnce}
+use Rattle.jffs_core.specs.Erases.{UsesDevice}
 use Rattle.jffs_core.specs.declared.answer.Answer.{Answer}
 use Rattle.jffs_serve.specs.Replies.{Reply, AllReply, answer_in}
 use Rattle.jffs_serve.specs.Chain.{IsReplied, Chain, RunsTo, after_reply}
@@ -53,16 +53,17 @@ pub record IsRequested (volume : Volume) (replies : List Reply) (after : List No
 
 -- What a chain tells of the core at its end: it represents the history, on a device of the same
 -- sizes. Two erased sectors stay so, but for an answer that may not keep them. While the core
--- works, sectors were erased in turn, and the count of faults is the same; it has risen where the
--- core failed meanwhile. Where an answer tells of a failure, the core has failed. A core that fails
+-- works, sectors were erased in turn, no more was programmed than the records of the nodes since the
+-- start take, and the count of faults is the same; it has risen where the core failed meanwhile. Where an answer tells of a failure, the core has failed. A core that fails
 -- meanwhile has nothing else in hand than an own copy, or the node of the request that was answered
 -- Device.
-pub record EndsSo (mounted : List Node) (start core : CoreState) (replies : List Reply)
+pub record EndsSo (mounted past : List Node) (start core : CoreState) (replies : List Reply)
     (after : List Node) : Type 0 where
   pub sizes : HasSizes start.index.sectors start.index.sector_size core.index
   pub stands : Represents mounted after core
   pub two : all_keep_two replies ≡ true → core.failed ≡ false → KeepsTwo start core
-  pub turned : core.failed ≡ false → ErasedInTurn start.index core.index
+  pub device : UsesDevice start core
+  pub programs : core.failed ≡ false → ProgramsOnce past after start core
   pub works : core.failed ≡ false → core.faults ≡ start.faults
   pub faults : start.failed ≡ false → core.failed ≡ true → start.faults < core.faults
   pub failed : any_failure (map answer_in replies) ≡ true → core.failed ≡ true
@@ -73,7 +74,7 @@ pub record EndsSo (mounted : List Node) (start core : CoreState) (replies : List
 abbrev pub ChainsEndSo : Type 0
 ChainsEndSo = (mounted past after : List Node) (start core : CoreState) (replies : List Reply)
     → Represents mounted past start → Chain mounted past start replies core after
-    → EndsSo mounted start core replies after
+    → EndsSo mounted past start core replies after
 
 -- One turn of a chain, with what was before it and what came after it.
 pub record Within (mounted past : List Node) (start : CoreState) (before : List Reply) (r : Reply)

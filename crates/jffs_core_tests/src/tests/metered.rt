@@ -43,6 +43,8 @@ impl Flash for Metered {
 
     ghost device = { λ m. device_of m.inner.sectors m.inner.sector_size m.inner.image };
 
+    ghost wear = { λ m. record { erases = m.calls.erased; bytes = m.calls.bytes } };
+
     fn sectors(&self) -> u32 {
         self.inner.sectors()
     }

@@ -74,7 +74,7 @@ replaced_inside at k g part image below fits =
 abbrev pub opened : Node → List ℕ
 opened n = set (spelling n) 7 255
 
-length-opened : (n : Node) → is_lawful n ≡ true → length (opened n) ≡ record_len n
+pub length-opened : (n : Node) → is_lawful n ≡ true → length (opened n) ≡ record_len n
 length-opened n lawful = length-set (spelling n) 7 255 ∙ length_spelled n lawful
 
 gate_closed : (n : Node) → set (opened n) 7 0 ≡ spelling n

@@ -48,6 +48,7 @@ module _ (r : Room) (n : Node) (old : LogState) (h : IsLogIndex old.device.image
             ∙ ap (λ (k : ℕ). log ++ placed_at b.tail k n ∷ []) at;
         layout_is = done.layout_is ∙ is;
         clean = done.clean;
+        worn = done.worn;
         history = λ past known rules.
             index_appends old.index b old.device.image new.device.image past (placed_at sector offset n) done.numbers.sizes known rules done.works.told done.added;
       }
@@ -74,5 +75,7 @@ put_fails n why old new sector offset failed =
       device = fails_weaker (λ image. IsCut old.index old.device.image image p) (λ image. IsCutSomewhere old.index old.device.image image n) old.device new.device
           (λ cut. record { sector = sector; offset = offset; cut = cut }) failed.device;
       numbers = failed.numbers;
+      no_erase_failed = failed.no_erase_failed;
+      worn = failed.worn;
       history = λ past known rules. index_cuts old.index new.index old.device.image new.device.image past p failed.numbers.sizes known rules failed.device.left;
     }

@@ -23,7 +23,7 @@ use Rattle.jffs_log.proofs.append.Open.{length-sectors_in, get_or-split}
 use Rattle.jffs_log.proofs.ring.Live.{sound_set}
 
 -- a sector of erased bytes
-blank_sector : (len : ℕ) → sector_of (replicate len 255) ≡ record { erased = true; reading = record { nodes = []; ending = Free } }
+pub blank_sector : (len : ℕ) → sector_of (replicate len 255) ≡ record { erased = true; reading = record { nodes = []; ending = Free } }
 blank_sector len =
     let holds : HoldsNodes (replicate len 255) [] (replicate len 255) = record { spelled = refl; fit = tt } in
     let r = reading_open (replicate len 255) [] (replicate len 255) holds (erased_open len) ∙ ap (λ b. record { nodes = []; ending = cond b Free Torn }) (all_same len 255) in

@@ -151,7 +151,7 @@ after_both count first (suc more) many =
     let same : suc (many + more) ≡ many + suc more = omega arith in
     ap (sector_after count) (after_both count first more many) ∙ ap (sector_after_each count first) same
 
-pub turns_go_on : TurnsGoOn
+unfoldable pub turns_go_on : TurnsGoOn
 turns_go_on old middle new a b = record {
   many = a.many + b.many;
   sectors = b.sectors ∙ a.sectors;
@@ -167,5 +167,5 @@ pub in_turn_none : (old new : LogIndex) → new.sectors ≡ old.sectors → new.
 in_turn_none old new sectors first erases = record { many = 0; sectors = sectors; counted = omega arith; first = first }
 
 -- the oldest sector was
-pub in_turn_one : (old new : LogIndex) → new.sectors ≡ old.sectors → new.first ≡ sector_after old.sectors old.first → new.erases ≡ min (old.erases + 1) (2 ^ 64 - 1) → ErasedInTurn old new
+unfoldable pub in_turn_one : (old new : LogIndex) → new.sectors ≡ old.sectors → new.first ≡ sector_after old.sectors old.first → new.erases ≡ min (old.erases + 1) (2 ^ 64 - 1) → ErasedInTurn old new
 in_turn_one old new sectors first erases = record { many = 1; sectors = sectors; counted = omega arith; first = first }

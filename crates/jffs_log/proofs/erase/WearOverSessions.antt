@@ -19,7 +19,7 @@ moved : (x y a b c : ℕ) → x ≡ y → a ≡ b + c → x + a ≡ b + (y + c)
 moved x y a b c same sum = omega arith
 
 -- Erases one after another are counted in two parts.
-erases_both : (count first more many k : ℕ) → erases_of count first (many + more) k ≡ erases_of count first many k + erases_of count (sector_after_each count first many) more k
+pub erases_both : (count first more many k : ℕ) → erases_of count first (many + more) k ≡ erases_of count first many k + erases_of count (sector_after_each count first many) more k
 erases_both count first zero many k =
     let same : many + 0 ≡ many = omega arith in
     let e = ap (λ (n : ℕ). erases_of count first n k) same in

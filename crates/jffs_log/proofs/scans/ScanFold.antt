@@ -31,7 +31,7 @@ fits_next past n fits next =
     let same = trees_test_as_nodes past n d.0 in
     each_fits_from n past fits (sym same.0 ∙ d.1) (sym same.1 ∙ b.1) a.0
 
-next_fits : (past : List Node) (n : Node) → is_lawful n ≡ true → each_fits (n ∷ past) ≡ true → fits_after past n ≡ true
+pub next_fits : (past : List Node) (n : Node) → is_lawful n ≡ true → each_fits (n ∷ past) ≡ true → fits_after past n ≡ true
 next_fits past n lawful fits =
     let parts = fits_parts n past fits in
     let same = trees_test_as_nodes past n lawful in
@@ -40,7 +40,7 @@ next_fits past n lawful fits =
     (and_from (is_lawful n) (keeps_kind_in (tree_of past) n) lawful (same.0 ∙ parts.1))
     (same.1 ∙ parts.2))
 
-older_fit : (newer past : List Node) → each_fits (newer ++ past) ≡ true → each_fits past ≡ true
+pub older_fit : (newer past : List Node) → each_fits (newer ++ past) ≡ true → each_fits past ≡ true
 older_fit [] past fits = fits
 older_fit (n ∷ newer) past fits = older_fit newer past (fits_parts n (newer ++ past) fits).0
 

@@ -64,6 +64,7 @@ loop-sector-preserved g c =
     record {
       read = one_read k len image c.loop-sector.found.items c.push.new.self.items c.in_ok-read.read w.read one.read one.sound one.spelled c.in_ok-push.ensures.items;
       device = c.in_ok-read.ensures.same ∙ w.device;
+      unworn = c.read_one.ensures.unworn ∙ w.unworn;
       buffer = refilled c.loop-sector.buffer.len c.read_one.new.buffer c.loop-sector.buffer.items full ∙ sym c.deref_mut.ensures.len ∙ at;
       left = λ i from.
           let kept = once.rest (ap (λ (d : FlashDevice). d.faults) same) i (inr (omega arith)) in

@@ -10,7 +10,7 @@ invariant_of-result g c =
     let e = c.in-Ok.ensures in
     let index = c.in-Ok.found.index in
     let one = some_erased _ _ _ _ _ _ _ _ _ e.found.index in
-    let P : Device → Type 0 = λ d. IsLog (record { device = d; index = index; failed = false }) in
+    let P : Device → Type 0 = λ d. IsLog (record { device = d; wear = g.F.Flash.wear c.find_log.new.flash; index = index; failed = false; erase_failed = false }) in
     subst P (sym e.same) (record {
       sizes = e.found.sizes;
       held = omega (arith, one);

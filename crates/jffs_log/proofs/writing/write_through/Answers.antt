@@ -1,19 +1,21 @@
-use Rattle.std.proofs.Common.{◌≡◌, ℕ, ◌+◌, List, [], ◌∷◌, set, ap, subst, ◌∙◌}
-use Rattle.jffs_node.specs.Record.{spelling}
+use Rattle.std.proofs.Common.{◌≡◌, ℕ, ◌+◌, ◌≤◌, true, List, [], ◌∷◌, length, set, refl, ap, subst, ◌∙◌, arith}
+use Rattle.jffs_node.specs.declared.node.Node.{Node}
+use Rattle.jffs_node.specs.Record.{spelling, record_len, is_lawful}
+use Rattle.jffs_flash.specs.Wear.{Wear, Wears, no_erase}
 use Rattle.jffs_flash.specs.Device.{Device, with_image, Fails}
 use Rattle.jffs_flash.specs.Image.{replaced, programmed, IsHalfProgrammed}
 use Rattle.jffs_log.specs.Gate.{IsWritten}
-use Rattle.jffs_log.proofs.append.Gate.{opened, first_half, second_whole, second_half}
+use Rattle.jffs_log.proofs.append.Gate.{opened, length-opened, first_half, second_whole, second_half}
 use Rattle.std.proofs.lemmas.Result.{MatchResult-from_err, MatchResult-weaker}
 use Rattle.jffs_log.proofs.writing.write_through.Goals as goal
 
-pub returns-in_err-program_erased : goal.returns-in_err-program_erased
-returns-in_err-program_erased g c =
+pub returns-in_err-program_erased-clause-written : goal.returns-in_err-program_erased-clause-written
+returns-in_err-program_erased-clause-written g c =
     let n = c.args.node.now in
     let at = c.args.at in
     let old = g.F.Flash.device c.args.flash.now in
     let new = g.F.Flash.device c.program_erased.new.flash in
-    let fails = c.in_err-program_erased.ensures in
+    let fails = c.in_err-program_erased.ensures.programmed in
     let open_gate : set c.encode_into.new.out 7 255 ≡ opened n = ap (λ (xs : List ℕ). set xs 7 255) c.encode_into.ensures in
     let half = subst (λ (xs : List ℕ). IsHalfProgrammed at xs old.image new.image) open_gate fails.left in
     let written : Fails (IsWritten at n old.image) old new = record {
@@ -24,8 +26,8 @@ returns-in_err-program_erased g c =
     MatchResult-from_err c.from_residual.result (λ _. new ≡ with_image old (replaced at (spelling n) old.image)) (λ _. Fails (IsWritten at n old.image) old new)
     c.from_residual.ensures.0 (λ _. written)
 
-pub returns : goal.returns
-returns g c =
+pub returns-clause-written : goal.returns-clause-written
+returns-clause-written g c =
     let n = c.args.node.now in
     let at = c.args.at in
     let old = g.F.Flash.device c.args.flash.now in
@@ -33,10 +35,10 @@ returns g c =
     let new = g.F.Flash.device c.program.new.self in
     let open_gate : set c.encode_into.new.out 7 255 ≡ opened n = ap (λ (xs : List ℕ). set xs 7 255) c.encode_into.ensures in
     let first : mid ≡ with_image old (replaced at (opened n) old.image) =
-    c.in_ok-program_erased.ensures ∙ ap (λ (xs : List ℕ). with_image old (replaced at xs old.image)) open_gate in
+    c.in_ok-program_erased.ensures.programmed ∙ ap (λ (xs : List ℕ). with_image old (replaced at xs old.image)) open_gate in
     let Done : Device → Type 0 = λ d. new ≡ with_image d (programmed (at + 7) (0 ∷ []) d.image) in
     let Failed : Device → Type 0 = λ d. Fails (IsHalfProgrammed (at + 7) (0 ∷ []) d.image) d new in
-    MatchResult-weaker c.program.result c.program.ensures
+    MatchResult-weaker c.program.result c.program.ensures.device
     (λ _ e. subst Done first e ∙ ap (with_image old) (second_whole at n old.image c.requires.may.lawful c.requires.may.free.inside))
     (λ _ h.
     let fails = subst Failed first h in
@@ -45,3 +47,26 @@ returns g c =
       faults = fails.faults;
       rest = fails.rest;
     })
+
+-- a record that was written, or perhaps its gate besides
+record_wears : (n : Node) (old mid new : Wear) (bytes : List ℕ) (gate : ℕ) → length bytes ≡ record_len n → gate ≤ 1 → Wears no_erase (length bytes) old mid → Wears no_erase gate mid new → Wears no_erase (record_len n + 1) old new
+record_wears n old mid new bytes gate long few one two = record {
+  erased = λ k. let none : no_erase k ≡ 0 = refl in let a = one.erased k in let b = two.erased k in omega arith;
+  programmed = let a = one.programmed in let b = two.programmed in omega arith;
+}
+
+-- the bytes that are programmed first are as many as the record's
+record_long : (n : Node) (out : List ℕ) → out ≡ spelling n → is_lawful n ≡ true → length (set out 7 255) ≡ record_len n
+record_long n out is lawful = ap (λ (xs : List ℕ). length (set xs 7 255)) is ∙ length-opened n lawful
+
+pub returns-in_err-program_erased-clause-worn : goal.returns-in_err-program_erased-clause-worn
+returns-in_err-program_erased-clause-worn g c =
+    let n = c.args.node.now in
+    let mid = g.F.Flash.wear c.program_erased.new.flash in
+    record_wears n _ mid mid _ 0 (record_long n _ c.encode_into.ensures c.requires.may.lawful) (omega arith) c.program_erased.ensures.worn
+    (record { erased = λ k. omega arith; programmed = omega arith })
+
+pub returns-clause-worn : goal.returns-clause-worn
+returns-clause-worn g c =
+    let n = c.args.node.now in
+    record_wears n _ _ _ _ 1 (record_long n _ c.encode_into.ensures c.requires.may.lawful) (omega arith) c.program_erased.ensures.worn c.program.ensures.worn

@@ -69,18 +69,18 @@ returns-clause-run g c =
     let count : vec_len script.writers ≡ length script.writers.items = let ok = script.writers.ok in omega arith in
     let run = whole_run g.T.Of.Hand script.writers.items script.cleaner script.readers.items _ finished.hands
     finished.log.side.session.core finished.log.side.session.unsent (published finished.log.side.publisher) (pending finished.log.side.publisher)
-    start (g.T.Taker.taken finished.log.side.taker) more.0 c.in_ok-run.run'.waiting.items finished.readers.items finished.log.served _
+    start (g.T.Taker.taken finished.log.side.taker) more.0 c.in_ok-run.run'.waiting.items finished.readers.items finished.log.served _ _
     (let eight = line.eight in omega (arith, count)) (line.numbers ∙ ap senders count) ran.hands (ran.whole no_fault)
     line.untaken (ap (λ (s : CoreState). s.answers) c.new.ensures.core ∙ c.requires.core.0)
     (ap₂ (λ (s : List Step) (k : Option PendingStep). s ++ unput k) (ap₂ (λ (h : History) (s : List Step). h.steps ++ s) opened.0 opened.1) c.new.ensures.unsent)
     (ran.served.opening ∙ (ap (λ (h : History). h.opening) opened.0 ∙ sym (ap (λ (s : CoreState). s.tree) c.new.ensures.core)))
-    more.1 settled.settled.each settled.settled.numbered settled.settled.others (ran.readers no_fault) settled.left stops in
+    more.1 settled.settled.each settled.settled.numbered settled.settled.others (ran.readers no_fault) settled.left settled.worn stops in
     rw (← c.new.ensures.core, c.of-accepted.ensures, settled.rest.0, settled.rest.1, settled.rest.2) run
 
 pub returns-in-Err-clause-fault : goal.returns-in-Err-clause-fault
 returns-in-Err-clause-fault g c =
     gives_back g.F.Flash.device _ _ _ _ c.with_flash.ensures
-    (left_at_once c.args.script.now.writers.items c.args.core _ _ (index_mounted _ c.in-Err.ensures.refused) c.into_flash.ensures)
+    (left_at_once c.args.script.now.writers.items c.args.core _ _ (index_mounted _ c.in-Err.ensures.refused) c.into_flash.ensures.device)
 
 pub returns-in_err-run-clause-fault : goal.returns-in_err-run-clause-fault
 returns-in_err-run-clause-fault g c =

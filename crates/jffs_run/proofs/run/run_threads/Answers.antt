@@ -4,7 +4,7 @@ use Rattle.jffs_run.proofs.Faults.{gives_back, gives_back_so}
 use Rattle.jffs_run.proofs.run.run_threads.Goals as goal
 
 pub returns-clause-run : goal.returns-clause-run
-returns-clause-run g c = IfOk-weaker c.run_mounted.result _ _ (λ run is. (c.in-Ok.core, c.in-Ok.ensures.mounted, is)) c.run_mounted.ensures.run
+returns-clause-run g c = IfOk-weaker c.run_mounted.result _ _ (λ run is. (c.in-Ok.core, c.in-Ok.ensures.mounted, c.in-Ok.ensures.unworn, is)) c.run_mounted.ensures.run
 
 pub returns-clause-fault : goal.returns-clause-fault
 returns-clause-fault g c = IfErr-weaker c.run_mounted.result _ _ (λ fault given. gives_back_so g.F.Flash.device _ _ fault (λ why d left. inr (c.in-Ok.core, c.in-Ok.ensures.mounted, left)) given) c.run_mounted.ensures.fault

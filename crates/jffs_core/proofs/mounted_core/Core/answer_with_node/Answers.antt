@@ -13,7 +13,7 @@ use Rattle.jffs_core.proofs.Stepping.{failed_answer, answered}
 use Rattle.jffs_core.proofs.Told.{node_told}
 use Rattle.jffs_core.proofs.Trees.{tells_node, tells_none}
 use Rattle.jffs_core.specs.Erases.{Leaves, erased_for}
-use Rattle.jffs_core.proofs.Erasing.{answer_bounded, erased_within, held_most, leaves_all}
+use Rattle.jffs_core.proofs.Erasing.{answer_bounded, erased_within, held_most, leaves_all, uses_kept}
 use Rattle.jffs_core.proofs.mounted_core.Core.answer_with_node.Goals as goal
 use Rattle.jffs_core.proofs.mounted_core.Core.answer_with_node.Goals.{then-failed, else-failed}
 
@@ -82,7 +82,7 @@ returns-clause-bounded g c =
           let leaves = subst (Leaves most old) (sym w.self-is) (leaves_all most old) in
           let same = ap (λ (v : CoreState). v.index.erases) w.self-is in
           let erases = ap (λ (b : LogIndex). b.erases) index in
-          answer_bounded c.args.request.now.wish old middle new leaves index (ap (λ (v : CoreState). v.failed) kept) held (omega arith)
+          answer_bounded c.args.request.now.wish old middle new leaves (uses_kept _ _ _ middle new kept) index (ap (λ (v : CoreState). v.failed) kept) held (omega arith)
       | else-failed w ↦
           let v = c.self.inside in
           let past = c.self.invariant.past (sym c.failed.ensures ∙ w.if-failed.false) in
@@ -93,7 +93,7 @@ returns-clause-bounded g c =
           let leaves = subst (Leaves (erased_for wish old.index.held) old) (sym w.self-is) w.act-answered.ensures.leaves in
           let bound = leaves.erases in
           let erases = ap (λ (b : LogIndex). b.erases) index in
-          answer_bounded wish old middle new leaves index (ap (λ (v : CoreState). v.failed) kept) held (omega arith)
+          answer_bounded wish old middle new leaves (uses_kept _ _ _ middle new kept) index (ap (λ (v : CoreState). v.failed) kept) held (omega arith)
     ]
 
 pub returns-clause-tree : goal.returns-clause-tree

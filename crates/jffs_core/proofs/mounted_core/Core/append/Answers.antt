@@ -1,7 +1,9 @@
-use Rattle.std.proofs.Common.{inl, inr, ◌<◌, ◌∷◌, refl, sym, ap, subst, ◌∙◌}
+use Rattle.std.proofs.Common.{◌≡◌, inl, inr, ◌<◌, ◌∷◌, refl, sym, ap, subst, ◌∙◌, arith}
 use Rattle.jffs_node.specs.Record.{record_len}
 use Rattle.jffs_flash.specs.Device.{Device}
+use Rattle.jffs_flash.specs.Wear.{Wear, erases_at, no_erase}
 use Rattle.jffs_tree.specs.Origin.{Tree}
+use Rattle.jffs_tree.proofs.Applied.{lawful_suits}
 use Rattle.jffs_log.specs.LogIndex.{layout_in}
 use Rattle.jffs_log.specs.Room.{has_room_in}
 use Rattle.jffs_log.specs.Cleaning.{put}
@@ -15,12 +17,12 @@ use Rattle.jffs_core.proofs.Putting.{mid_index, put_failed, offsets_kept, counte
 use Rattle.jffs_core.proofs.Mounting.{clean_ends}
 use Rattle.jffs_core.proofs.mounted_core.Core.append.Goals as goal
 
-pub apply-requires-clause-offsets : goal.apply-requires-clause-offsets
-apply-requires-clause-offsets g c =
+pub apply-requires : goal.apply-requires
+apply-requires g c =
     let past = c.requires.follows.0 in
     let may = c.requires.follows.2 in
     let h = subst (λ (v : CoreState). RepresentsWorking past v) (sym c.self.view_is) c.requires.follows.1 in
-    offsets_kept past c.args.node.now c.self.inside.tree h.tree_is may.rules
+    lawful_suits c.self.inside.tree c.args.node.now may.rules.lawful.each.0 (offsets_kept past c.args.node.now c.self.inside.tree h.tree_is may.rules)
 
 pub append-requires-clause-may : goal.append-requires-clause-may
 append-requires-clause-may g c =
@@ -48,12 +50,13 @@ returns-in_err-append-clause-refused g c =
       clean = λ is. clean_ends past old.device.image old.index c.self.inside.tree c.self.inside.limits c.self.inside.clean h is;
       tree = inr (n, refl, c.in_ok-apply.ensures.ok past h.tree_is);
       left = λ intact. elim (f.history past (mid_history past old mid same h.history) may.rules) [ inl as_it_was ↦ inl as_it_was | inr more ↦ inr (n, refl, more) ];
-    }))
+    })
+    (let more = f.worn.programmed in let reserved = ap (λ (w : Wear). w.bytes) same.wear in let seen = ap (λ (v : CoreState). v.wear.bytes) c.self.view_is in omega arith))
 
 pub returns-in_err-reserve-clause-leaves : goal.returns-in_err-reserve-clause-leaves
 returns-in_err-reserve-clause-leaves g c =
     let same = c.in_err-reserve.ensures.same in
-    leaves_reserved _ _ _ c.self.view_is (record { answers = refl; capacity = refl; closed = refl }) same.index
+    leaves_reserved _ _ _ c.self.view_is (record { answers = refl; capacity = refl; closed = refl }) same.index (ap (λ (d : Device). d.failed_erases) same.device) same.erase_failed same.wear
 
 pub invariant_of-self-in_err-apply : goal.invariant_of-self-in_err-apply
 invariant_of-self-in_err-apply g c =
@@ -65,13 +68,23 @@ invariant_of-self-in_err-apply g c =
 pub returns-in_err-apply-clause-leaves : goal.returns-in_err-apply-clause-leaves
 returns-in_err-apply-clause-leaves g c =
     let same = c.in_ok-reserve.ensures.same in
-    leaves_reserved _ _ _ c.self.view_is (record { answers = refl; capacity = refl; closed = refl }) same.index
+    leaves_reserved _ _ _ c.self.view_is (record { answers = refl; capacity = refl; closed = refl }) same.index (ap (λ (d : Device). d.failed_erases) same.device) same.erase_failed same.wear
 
 pub returns-clause-leaves : goal.returns-clause-leaves
 returns-clause-leaves g c =
     let same = c.in_ok-reserve.ensures.same in
     let e = c.in_ok-append.ensures.done in
     leaves_kept _ _ _ c.reserve.new.self.index c.self.view_is (record { answers = refl; capacity = refl; closed = refl }) same.index e.numbers
+    (ap (λ (d : Device). d.failed_erases) e.works.device ∙ ap (λ (d : Device). d.failed_erases) same.device) (e.works.no_erase_failed ∙ same.erase_failed)
+    (λ k. let none : no_erase k ≡ 0 = refl in let more = e.worn.erased k in let before = ap (λ (w : Wear). erases_at w k) same.wear in omega arith)
+
+pub returns-in_err-append-clause-leaves : goal.returns-in_err-append-clause-leaves
+returns-in_err-append-clause-leaves g c =
+    let same = c.in_ok-reserve.ensures.same in
+    let f = c.in_err-append.ensures.failed in
+    leaves_kept _ _ _ c.reserve.new.self.index c.self.view_is (record { answers = refl; capacity = refl; closed = refl }) same.index f.numbers
+    (ap (λ (d : Device). d.failed_erases) f.device.rest ∙ ap (λ (d : Device). d.failed_erases) same.device) (f.no_erase_failed ∙ same.erase_failed)
+    (λ k. let none : no_erase k ≡ 0 = refl in let more = f.worn.erased k in let before = ap (λ (w : Wear). erases_at w k) same.wear in omega arith)
 
 pub invariant_of-self-2 : goal.invariant_of-self-2
 invariant_of-self-2 g c =
@@ -110,6 +123,7 @@ returns-clause-done g c =
     record {
       works = e.works.failed;
       faults = ap (λ (d : Device). d.faults) e.works.device ∙ ap (λ (d : Device). d.faults) same.device ∙ ap (λ (v : CoreState). v.faults) c.self.view_is;
+      programs = let more = e.worn.programmed in let reserved = ap (λ (w : Wear). w.bytes) same.wear in let seen = ap (λ (v : CoreState). v.wear.bytes) c.self.view_is in omega arith;
       had_room = ap (λ (v : CoreState). has_room_for v c.args.room (record_len n)) (sym c.self.view_is) ∙ had;
       log =
           e.layout_is

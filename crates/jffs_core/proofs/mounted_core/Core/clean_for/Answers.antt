@@ -1,4 +1,4 @@
-use Rattle.std.proofs.Common.{◌≡◌, ◌∙◌, true, false, ◌/◌, ◌≤◌, inl, inr, Some, None, ap, sym, subst, arith}
+use Rattle.std.proofs.Common.{◌≡◌, ◌∷◌, ◌∙◌, true, false, ◌/◌, ◌≤◌, inl, inr, Some, None, ap, sym, subst, arith}
 use Rattle.std.proofs.lemmas.Result.{err_from_is_err_and}
 use Rattle.jffs_node.specs.declared.node.Node.{Node}
 use Rattle.jffs_tree.specs.declared.wish.Outcome.TheVariants.{Appended}
@@ -11,7 +11,7 @@ use Rattle.jffs_core.specs.History.{IsOwnCopy, MayFollow}
 use Rattle.jffs_core.specs.Step.{IsInHand}
 use Rattle.jffs_core.specs.Past.{has_room_for}
 use Rattle.jffs_core.specs.Answering.{turn_of}
-use Rattle.jffs_core.proofs.Refusing.{copies_follow, works_past, refused_along}
+use Rattle.jffs_core.proofs.Refusing.{copies_follow, works_past, refused_along, programs_along, put_programs}
 use Rattle.jffs_core.proofs.Unchanged.{layout_unchanged}
 use Rattle.jffs_core.proofs.Asked.{own_in_hand, known_version, may_later, its_makes_room, its_len, its_short, its_full, its_gets, its_past, fresh_is, fresh_room}
 use Rattle.jffs_core.proofs.Full.{turn_was_full}
@@ -81,7 +81,8 @@ returns-clause-acted g c = λ past known.
     )
     (ap (λ (x : Node). record x { version = c.in-Some.version }) d.is)
     (known_version m.0 c.make_room.new.self (Some c.in-Some.version) h.stands.represents next)
-    p.works (p.faults ∙ h.stands.faults) (later_put_keeps later c.args.self.now c.make_room.new.self c.append.new.self h.two p) (works_past _ _ p.works (p.represents m.0 h.stands.represents may)))
+    p.works (p.faults ∙ h.stands.faults) (later_put_keeps later c.args.self.now c.make_room.new.self c.append.new.self h.two p)
+    (programs_along past m.0 (later ∷ m.0) c.args.self.now c.make_room.new.self c.append.new.self h.stands.programs (put_programs later m.0 c.make_room.new.self c.append.new.self p.programs)) (works_past _ _ p.works (p.represents m.0 h.stands.represents may)))
 
 pub returns-in_err-append-clause-acted : goal.returns-in_err-append-clause-acted
 returns-in_err-append-clause-acted g c = let p = err_from_is_err_and c.from_residual-in_err-append.result c.from_residual-in_err-append.ensures.1 in rw (p.1, p.2) λ past known.
@@ -100,7 +101,7 @@ returns-in_err-append-clause-acted g c = let p = err_from_is_err_and c.from_resi
     make_stopped past _ _ q c.requires.working known (λ x. x ≡ later) n _ m.0 d
     (λ x same. (subst (IsInHand (turn_of past c.args.self.now c.append.new.self) q m.0) (sym same) own, subst (MayFollow m.0) (sym same) may.follows)) (fresh_is past _ q n known d c.requires.fresh.no_copy c.requires.fresh.no_unmount)
     (its_full past _ q n known d c.append.new.self (fresh_room past _ q n known d c.requires.fresh.no_copy c.requires.fresh.no_unmount) c.requires.no_room) h.copies (made_is_little c.record_len.result past m.0 _ c.make_room.new.self known h)
-    (refused_along (λ x. x ≡ later) _ m.0 _ c.make_room.new.self _ h.stands.faults (r.stands m.0 h.stands.represents may))
+    (refused_along (λ x. x ≡ later) _ past m.0 m.0 _ c.make_room.new.self _ h.stands (r.stands m.0 h.stands.represents may))
     (λ is two. turn_was_full c.record_len.result past m.0 _ c.make_room.new.self known h (subst (λ k. k ≤ c.args.self.now.index.sector_size / 4) (sym len) (its_short past _ q n known d))
     (subst (λ k. has_room_for c.make_room.new.self rooms.Fresh k ≡ false) (sym len) (r.no_room is)) two)
     (λ is. its_gets past _ q n known d c.append.new.self c.record_len.result false len (h.room ∙ ap (has_room_for c.make_room.new.self rooms.Fresh) len ∙ r.no_room is))

@@ -1,4 +1,4 @@
-use Rattle.std.proofs.Common.{◌≡◌, ◌∙◌, ℕ, ◌≤◌, ◌<◌, List, [], length, refl, sym, ap, subst, arith}
+use Rattle.std.proofs.Common.{◌≡◌, inl, ◌∙◌, ℕ, ◌≤◌, ◌<◌, List, [], length, refl, sym, ap, subst, arith}
 use Rattle.std.proofs.lemmas.Result.{err_from_is_err_and}
 use Rattle.jffs_log.specs.declared.log_index.LogIndex.{LogIndex}
 use Rattle.jffs_log.specs.LogIndex.{IsLogIndex, layout_in}
@@ -52,6 +52,6 @@ returns-in_err-nodes-clause-stopped g c = let p = err_from_is_err_and c.from_res
           no_room = λ e. absurd (other.0 e);
         };
         handled = record { done = []; rest = _; are = refl; turn = refl };
-        wants = record { at_turn = λ e. absurd (other.0 e); to_copy = λ e. absurd (other.1 e) };
+        wants = record { at_turn = λ e. absurd (other.0 e); to_copy = λ e. absurd (other.1 e); version = λ e. inl refl };
       },
     )

@@ -1,4 +1,4 @@
-use Rattle.std.proofs.Common.{◌∙◌, refl, sym, ap, subst, None}
+use Rattle.std.proofs.Common.{Some, ◌∙◌, sym, ap, subst, None}
 use Rattle.std.proofs.lemmas.Result.{on_ok_weaker, IfErr-weaker, err_from_is_err_and}
 use Rattle.jffs_log.specs.declared.room.Room.TheVariants as rooms
 use Rattle.jffs_tree.specs.Origin.{state_in}
@@ -7,6 +7,7 @@ use Rattle.jffs_core.specs.CoreState.{CoreState}
 use Rattle.jffs_core.specs.Appending.{MayPut, PutRefused}
 use Rattle.jffs_core.proofs.Sweeping.{lives_by_tree, copy_is, copy_may, copy_put, copy_refused}
 use Rattle.jffs_core.proofs.Asked.{known_version}
+use Rattle.jffs_core.proofs.Refusing.{works_still}
 use Rattle.jffs_core.proofs.Stepping.{none_left}
 use Rattle.jffs_core.proofs.mounted_core.Core.copy.Goals as goal
 
@@ -50,13 +51,15 @@ returns-in_default-clause-stopped g c = λ past known among.
     let none = ap (λ (v : CoreState). v.limits.next_version) (sym c.self.view_is) ∙ none_left _ c.in_default.not-Some in
     record {
       live = lives_by_tree past old c.args.source.now known among c.requires.live;
-      stands = (record { works = c.requires.source.works; faults = refl; represents = known }, known_version past old None known none);
+      stands = (works_still past _ c.requires.source.works known, known_version past old None known none);
       no_room = λ e. cc;
+      version = λ e. cc;
     }
 
 pub returns-in_err-copied-clause-stopped : goal.returns-in_err-copied-clause-stopped
 returns-in_err-copied-clause-stopped g c = let p = err_from_is_err_and c.from_residual.result c.from_residual.ensures.1 in rw (p.1, p.2) λ past known among. record {
   live = lives_by_tree past c.args.self.now c.args.source.now known among c.requires.live;
-  stands = record { works = c.requires.source.works; faults = refl; represents = known };
+  stands = works_still past _ c.requires.source.works known;
   no_room = λ e. cc;
+  version = λ e. (c.in-Some.version, known_version past c.args.self.now (Some c.in-Some.version) known (ap (λ (v : CoreState). v.limits.next_version) (sym c.self.view_is) ∙ c.in-Some.is));
 }

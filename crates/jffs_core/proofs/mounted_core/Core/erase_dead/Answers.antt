@@ -17,6 +17,7 @@ returns-clause-erased g c =
       works = works;
       still_works = e.stands.works;
       faults = e.stands.faults;
+      programs = e.stands.programs;
       stands = record { grown = s.grown; stands = works_past past _ e.stands.works e.stands.represents };
       log = e.log;
       dead = e.dead;

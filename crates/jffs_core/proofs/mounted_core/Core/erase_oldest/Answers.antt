@@ -1,4 +1,4 @@
-use Rattle.std.proofs.Common.{◌∙◌, ◌<◌, ◌≤◌, length, false, ◌≡◌, refl, sym, ap, subst, arith}
+use Rattle.std.proofs.Common.{◌∙◌, inl, ◌<◌, ◌≤◌, length, false, ◌≡◌, refl, sym, ap, subst, arith}
 use Rattle.std.specs.List.{AllByRecursion}
 use Rattle.std.proofs.lemmas.Bool.{both_ways}
 use Rattle.std.proofs.lemmas.Result.{on_ok_weaker, IfErr-weaker}
@@ -6,15 +6,13 @@ use Rattle.jffs_flash.specs.Device.{Device}
 use Rattle.jffs_log.specs.LogIndex.{layout_in, lives_in, oldest_in}
 use Rattle.jffs_log.specs.Cleaning.{Layout, erase_oldest}
 use Rattle.jffs_log.specs.LogState.{ErasedOldest, EraseFailed}
-use Rattle.jffs_log.specs.Wear.{ErasedInTurn}
 use Rattle.jffs_log.proofs.Results.{either_way}
-use Rattle.jffs_log.proofs.erase.Wear.{in_turn_one}
 use Rattle.jffs_log.proofs.Seen.{log_sizes}
 use Rattle.jffs_core.specs.CoreState.{CoreState}
 use Rattle.jffs_core.specs.Past.{RepresentsWorking}
 use Rattle.jffs_core.proofs.Handed.{erased_left, erase_left}
 use Rattle.jffs_core.proofs.Sweeping.{held_is}
-use Rattle.jffs_core.proofs.Erasing.{erased_one, erase_failed, leaves_one, one_fewer}
+use Rattle.jffs_core.proofs.Erasing.{erased_one, erase_failed, leaves_one, one_fewer, uses_one, uses_failed, uses_seen}
 use Rattle.jffs_core.proofs.mounted_core.Core.erase_oldest.Goals as goal
 
 -- the log of the core inside has several sectors
@@ -60,6 +58,7 @@ returns-clause-erased g c = on_ok_weaker c.erase_oldest.result (λ e.
         stands = record {
           works = e.works.failed;
           faults = ap (λ (d : Device). d.faults) e.works.device ∙ ap (λ (v : CoreState). v.faults) c.self.view_is;
+          programs = let none = c.erase_oldest.ensures.worn.programmed in let was = ap (λ (v : CoreState). v.wear.bytes) c.self.view_is in omega arith;
           represents = erased_left past c.self.inside.log _ c.self.inside.tree c.self.inside.limits c.self.inside.clean (subst (λ (v : CoreState). RepresentsWorking past v) (sym c.self.view_is) known) (several_inside _ _ c.self.view_is c.requires.dead.several) e;
         };
         log = log;
@@ -76,6 +75,7 @@ returns-clause-stopped g c = IfErr-weaker c.erase_oldest.result _ _ (λ why f. r
       record {
         fails = f.failed;
         faults = subst (λ k. k < new.device.faults) (ap (λ (v : CoreState). v.faults) c.self.view_is) f.device.faults;
+        programs = inl (let none = c.erase_oldest.ensures.worn.programmed in let was = ap (λ (v : CoreState). v.wear.bytes) c.self.view_is in omega arith);
         left = erase_left past c.self.inside.log new _ why h f refl;
       };
 })
@@ -97,9 +97,8 @@ returns-clause-erases g c =
     let after = held_is new.device.image new.index e.works.told in
     let log = ap (λ (l : Layout). length l.sectors) e.layout_is in
     let sizes = e.sizes in
-    let turned = subst (λ (v : CoreState). ErasedInTurn v.index new.index) c.self.view_is (in_turn_one old.index new.index (sym sizes.0) e.first e.erases) in
-    erased_one c.args.self.now _ (omega arith) (omega arith) turned)
-    (λ why f. let counted = f.erases in erase_failed c.args.self.now _ f.failed (omega arith) (omega arith))
+    erased_one c.args.self.now _ (omega arith) (omega arith) (uses_seen _ _ _ c.self.view_is (uses_one _ _ (sym sizes.0) e.first e.erases (ap (λ (d : Device). d.failed_erases) e.works.device) e.works.no_erase_failed c.erase_oldest.ensures.worn.erased)))
+    (λ why f. let counted = f.erases in erase_failed c.args.self.now _ f.failed (omega arith) (omega arith) (uses_seen _ _ _ c.self.view_is (uses_failed _ _ f.failed (ap (λ (d : Device). d.failed_erases) f.device.rest))))
     c.erase_oldest.ensures.done c.erase_oldest.ensures.failed
 
 pub returns-clause-leaves : goal.returns-clause-leaves
@@ -109,6 +108,6 @@ returns-clause-leaves g c =
     either_way c.erase_oldest.result (ErasedOldest c.self.inside.tree old new) (λ why. EraseFailed why old new) _
     (λ e.
     let sizes = e.sizes in
-    leaves_one _ _ _ c.self.view_is (record { answers = refl; capacity = refl; closed = refl }) e.sizes (let counted = e.erases in omega arith) (λ w. in_turn_one old.index new.index (sym sizes.0) e.first e.erases))
-    (λ why f. leaves_one _ _ _ c.self.view_is (record { answers = refl; capacity = refl; closed = refl }) f.sizes (let counted = f.erases in omega arith) (λ w. absurd (both_ways _ w f.failed)))
+    leaves_one _ _ _ c.self.view_is (record { answers = refl; capacity = refl; closed = refl }) e.sizes (let counted = e.erases in omega arith) (uses_one _ _ (sym sizes.0) e.first e.erases (ap (λ (d : Device). d.failed_erases) e.works.device) e.works.no_erase_failed c.erase_oldest.ensures.worn.erased))
+    (λ why f. leaves_one _ _ _ c.self.view_is (record { answers = refl; capacity = refl; closed = refl }) f.sizes (let counted = f.erases in omega arith) (uses_failed _ _ f.failed (ap (λ (d : Device). d.failed_erases) f.device.rest)))
     c.erase_oldest.ensures.done c.erase_oldest.ensures.failed

@@ -35,7 +35,7 @@ returns-in_err-erase_oldest-clause-stopped g c =
       cause_is = stopped.cause_is;
       history = λ past known.
           let d = c.loop-self.invariant.done past known in
-          fails_along (λ n. ⊥) past c.args.self.now c.loop-self.self c.erase_oldest.new.self d.faults (stopped.history past d.represents);
+          fails_along (λ n. ⊥) past past past c.args.self.now c.loop-self.self c.erase_oldest.new.self d (stopped.history past d.represents);
     })
 
 pub returns-in_err-erase_oldest-clause-leaves : goal.returns-in_err-erase_oldest-clause-leaves
@@ -48,10 +48,10 @@ returns-in_err-erase_oldest-clause-leaves g c =
     leaves_within _ 1 _ c.args.self.now c.loop-self.self c.erase_oldest.new.self (omega arith) v.works v.leaves e.leaves
 
 pub returns-clause-erases : goal.returns-clause-erases
-returns-clause-erases g c = let v = c.loop-self.invariant in erased_along c.args.self.now c.loop-self.self c.loop-self.self v.erases (let leaves = v.leaves in leaves.turned v.works) (erased_none c.loop-self.self)
+returns-clause-erases g c = let v = c.loop-self.invariant in erased_along c.args.self.now c.loop-self.self c.loop-self.self v.erases (let leaves = v.leaves in leaves.device) v.works (erased_none c.loop-self.self)
 
 pub returns-in_err-erase_oldest-clause-erases : goal.returns-in_err-erase_oldest-clause-erases
-returns-in_err-erase_oldest-clause-erases g c = let v = c.loop-self.invariant in erased_along c.args.self.now c.loop-self.self c.erase_oldest.new.self v.erases (let leaves = v.leaves in leaves.turned v.works) c.in_err-erase_oldest.ensures.erases
+returns-in_err-erase_oldest-clause-erases g c = let v = c.loop-self.invariant in erased_along c.args.self.now c.loop-self.self c.erase_oldest.new.self v.erases (let leaves = v.leaves in leaves.device) v.works c.in_err-erase_oldest.ensures.erases
 
 pub loop-self-smaller : goal.loop-self-smaller
 loop-self-smaller g c =

@@ -11,5 +11,5 @@ returns-clause-mounted g c =
     let m = c.in_ok-log.ensures.found in
     let same = sym m.device_is in
     found_fresh _ _ m.found
-    (record { sizes = m.found.sizes; image_is = ap (λ (d : Device). d.image) same; faults_are = ap (λ (d : Device). d.faults) same; erases_are = ap (λ (d : Device). d.erase_failed) same })
-    m.works refl c.new.ensures.items
+    (record { sizes = m.found.sizes; image_is = ap (λ (d : Device). d.image) same; faults_are = ap (λ (d : Device). d.faults) same; failed_erases_are = ap (λ (d : Device). d.failed_erases) same })
+    m.works m.no_erase_failed refl c.new.ensures.items

@@ -22,8 +22,8 @@ returns-clause-stands g c = λ mounted past s.
           (λ same. works_past past _ (ap (λ (l : LogState). l.failed) same ∙ works) (subst (λ (l : LogState). IsPast past l.device.image l.index c.self.inside.tree c.self.inside.limits c.self.inside.clean) (sym same) h))
           c.oldest_image.ensures.same)
           (IfErr-weaker c.oldest_image.result _ _
-          (λ why stopped. refused_past (IsOwnCopy past) past (copies_follow past) why c.args.self.now _
-          (read_stops why past old c.oldest_image.new.self c.args.self.now _ stopped works h (ap (λ (v : CoreState). v.faults) (sym c.self.view_is)) refl refl refl refl))
+          (λ why stopped. refused_past (IsOwnCopy past) past past (copies_follow past) why c.args.self.now _
+          (read_stops why past old c.oldest_image.new.self c.args.self.now _ stopped works h (ap (λ (v : CoreState). v.faults) (sym c.self.view_is)) (ap (λ (v : CoreState). v.wear) (sym c.self.view_is)) refl refl refl refl refl))
           c.oldest_image.ensures.stopped);
     }
 

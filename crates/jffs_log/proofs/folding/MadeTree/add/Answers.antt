@@ -6,6 +6,7 @@ use Rattle.jffs_node.specs.declared.node.Node.{Node}
 use Rattle.jffs_tree.specs.Origin.{tree_of}
 use Rattle.jffs_tree.specs.Check.{each_fits}
 use Rattle.jffs_tree.specs.After.{can_apply}
+use Rattle.jffs_tree.proofs.Applied.{lawful_suits}
 use Rattle.jffs_log.specs.ScanFound.{keeps_form_after}
 use Rattle.jffs_log.proofs.scans.ScanFold.{refused_at, fits_next, next_past, sized, fits_after}
 use Rattle.jffs_log.proofs.folding.MadeTree.add.Goals as goal
@@ -13,6 +14,9 @@ use Rattle.jffs_log.proofs.folding.MadeTree.add.Goals as goal
 -- the test on the tree is the test on the nodes so far
 same_test : (old : Bool) (tree : _) (past : List Node) (n : Node) (answer : Bool) → tree ≡ tree_of past → old ≡ sized past → answer ≡ (keeps_form_after old n && can_apply tree n) → fits_after past n ≡ answer
 same_test old tree past n answer is sizes h = sym (h ∙ (λ i. keeps_form_after (sizes i) n && can_apply (is i) n))
+
+pub apply-requires : goal.apply-requires
+apply-requires c = lawful_suits c.loop-node.self.tree c.node-item.result (c.if-not-fits.ensures.lawful refl) (c.if-not-fits.ensures.offsets refl)
 
 pub loop-node-preserved : goal.loop-node-preserved
 loop-node-preserved c = λ past made.

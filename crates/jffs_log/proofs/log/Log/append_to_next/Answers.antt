@@ -47,10 +47,10 @@ invariant_of-self g c =
     let h = told _ _ c.self.view_is c.self.invariant c.requires.working in
     let b = c.self.inside.index in
     let room = may.1 in
-    let index = next_index b (g.F.Flash.device c.self.inside.flash) h c.args.node.now may.0 may.1 c.sector_at-next.result c.sector_at-next.ensures _ c.in-Ok.ensures
+    let index = next_index b (g.F.Flash.device c.self.inside.flash) h c.args.node.now may.0 may.1 c.sector_at-next.result c.sector_at-next.ensures _ c.in-Ok.ensures.written
     c.record_len-len.result _ c.record_len-len.ensures c.push_back_reserved.ensures.items in
     record {
-      sizes = same_sizes (g.F.Flash.device c.self.inside.flash) _ b _ c.in-Ok.ensures c.self.invariant.sizes;
+      sizes = same_sizes (g.F.Flash.device c.self.inside.flash) _ b _ c.in-Ok.ensures.written c.self.invariant.sizes;
       held = omega arith;
       few = records_few _ _ _ _ _ _ _ _ _ index;
       told = λ works. index;
@@ -65,7 +65,7 @@ returns-in-Ok-clause-done g c =
     let h = told _ _ c.self.view_is c.self.invariant c.requires.working in
     let next = c.sector_at-next.result in
     let at = c.sector_at-next.ensures in
-    let written = c.in-Ok.ensures in
+    let written = c.in-Ok.ensures.written in
     let is = c.record_len-len.ensures in
     done_seen _ _ _ n c.self.view_is (
       next,
@@ -73,6 +73,7 @@ returns-in-Ok-clause-done g c =
       record {
         works = record {
           failed = ap (λ (v : LogState). v.failed) c.self.view_is ∙ c.requires.working;
+          no_erase_failed = refl;
           told = next_index b old h n may.0 may.1 next at _ written c.record_len-len.result _ c.record_len-len.ensures c.push_back_reserved.ensures.items;
           device = only_image old _ _ written;
         };
@@ -81,6 +82,7 @@ returns-in-Ok-clause-done g c =
         added = next_added b old h n may.0 may.1 next at _ written;
         layout_is = next_layout b old h n may.0 may.1 next at _ written;
         clean = next_clean b old h n may.0 may.1 next at _ written;
+        worn = c.in-Ok.ensures.worn;
       },
     )
 
@@ -96,7 +98,9 @@ returns-in-Err-clause-failed g c =
       record {
         cause_is = c.failure.ensures.cause;
         failed = c.failure.ensures.kept;
-        device = next_fails b (g.F.Flash.device c.self.inside.flash) h n may.0 may.1 next c.sector_at-next.ensures _ c.in-Err.ensures;
+        device = next_fails b (g.F.Flash.device c.self.inside.flash) h n may.0 may.1 next c.sector_at-next.ensures _ c.in-Err.ensures.written;
         numbers = record { sizes = (refl, refl); first = refl; erases = refl };
+        no_erase_failed = refl;
+        worn = c.in-Err.ensures.worn;
       },
     )

@@ -45,9 +45,9 @@ invariant_of-self g c =
     let fits = fits_inside _ _ _ c.self.view_is c.requires.fits in
     let h = told _ _ c.self.view_is c.self.invariant c.requires.working in
     let b = c.self.inside.index in
-    let index = tail_index b (g.F.Flash.device c.self.inside.flash) h c.args.node.now fits _ c.in-Ok.ensures c.record_len-len.result _ c.record_len-len.ensures c.push_back_reserved.ensures.items in
+    let index = tail_index b (g.F.Flash.device c.self.inside.flash) h c.args.node.now fits _ c.in-Ok.ensures.written c.record_len-len.result _ c.record_len-len.ensures c.push_back_reserved.ensures.items in
     record {
-      sizes = same_sizes (g.F.Flash.device c.self.inside.flash) _ b _ c.in-Ok.ensures c.self.invariant.sizes;
+      sizes = same_sizes (g.F.Flash.device c.self.inside.flash) _ b _ c.in-Ok.ensures.written c.self.invariant.sizes;
       held = c.self.invariant.held;
       few = records_few _ _ _ _ _ _ _ _ _ index;
       told = λ works. index;
@@ -60,11 +60,12 @@ returns-in-Ok-clause-done g c =
     let old = g.F.Flash.device c.self.inside.flash in
     let fits = fits_inside _ _ _ c.self.view_is c.requires.fits in
     let h = told _ _ c.self.view_is c.self.invariant c.requires.working in
-    let written = c.in-Ok.ensures in
+    let written = c.in-Ok.ensures.written in
     done_seen _ _ _ n c.self.view_is
     (record {
       works = record {
         failed = ap (λ (v : LogState). v.failed) c.self.view_is ∙ c.requires.working;
+        no_erase_failed = refl;
         told = tail_index b old h n fits _ written c.record_len-len.result _ c.record_len-len.ensures c.push_back_reserved.ensures.items;
         device = only_image old _ _ written;
       };
@@ -73,6 +74,7 @@ returns-in-Ok-clause-done g c =
       added = tail_added b old h n fits _ written;
       layout_is = tail_layout b old h n fits _ written;
       clean = tail_clean b old h n fits _ written;
+      worn = c.in-Ok.ensures.worn;
     })
 
 pub returns-in-Err-clause-failed : goal.returns-in-Err-clause-failed
@@ -85,6 +87,8 @@ returns-in-Err-clause-failed g c =
     (record {
       cause_is = c.failure.ensures.cause;
       failed = c.failure.ensures.kept;
-      device = tail_fails b (g.F.Flash.device c.self.inside.flash) h n fits _ c.in-Err.ensures;
+      device = tail_fails b (g.F.Flash.device c.self.inside.flash) h n fits _ c.in-Err.ensures.written;
       numbers = record { sizes = (refl, refl); first = refl; erases = refl };
+      no_erase_failed = refl;
+      worn = c.in-Err.ensures.worn;
     })

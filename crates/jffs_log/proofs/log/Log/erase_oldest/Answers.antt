@@ -36,7 +36,7 @@ pub invariant_of-self : goal.invariant_of-self
 invariant_of-self g c =
     let b = c.self.inside.index in
     let old = g.F.Flash.device c.self.inside.flash in
-    let done = c.in-Ok.ensures in
+    let done = c.in-Ok.ensures.device in
     let after = index_erased _ _ _ _ _ _ _ _ _ _ _ c.forget_sector.new.records.items
     (told _ _ c.self.view_is c.self.invariant c.requires.working) (several_inside _ _ c.self.view_is c.requires.several)
     c.sector_at-index.ensures (changed old _ b.sector_size b.first done c.self.invariant.sizes.1) c.forget_sector.ensures in
@@ -54,7 +54,7 @@ returns-in-Ok-clause-done g c =
     let old = g.F.Flash.device c.self.inside.flash in
     let new = g.F.Flash.device c.erase.new.self in
     let tree = c.args.tree.now in
-    let done = c.in-Ok.ensures in
+    let done = c.in-Ok.ensures.device in
     let image = changed old new b.sector_size b.first done c.self.invariant.sizes.1 in
     let after = index_erased _ _ _ new.image _ _ _ _ _ _ _ c.forget_sector.new.records.items
     (told _ _ c.self.view_is c.self.invariant c.requires.working) (several_inside _ _ c.self.view_is c.requires.several) c.sector_at-index.ensures image c.forget_sector.ensures in
@@ -64,6 +64,7 @@ returns-in-Ok-clause-done g c =
     (record {
       works = record {
         failed = ap (λ (v : LogState). v.failed) c.self.view_is ∙ c.requires.working;
+        no_erase_failed = refl;
         told = after.index;
         device = only_image old new _ done;
       };

@@ -8,3 +8,4 @@ pub mod Results
 pub mod Staying
 pub mod Histories
 pub mod Seen
+pub mod SavedWhole

@@ -18,3 +18,4 @@ pub mod History
 pub mod ScanRead
 pub mod ScanFound
 pub mod Wear
+pub mod Salvage

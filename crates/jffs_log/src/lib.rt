@@ -1,5 +1,5 @@
-//! The log on flash: what a scan of an image finds, how a node is appended, and how the oldest
-//! sector is erased.
+//! The log on flash: what a scan of an image finds, what can be saved of one that it refuses, how a
+//! node is appended, and how the oldest sector is erased.
 //!
 //! It stands on `jffs_flash` for the device, on `jffs_node` for records, and on `jffs_tree`
 //! for the tree that the log makes.
@@ -15,6 +15,7 @@ mod log_index;
 mod log_sectors;
 mod oldest;
 mod room;
+mod salvaging;
 mod scanning;
 mod sector;
 mod weighing;
@@ -30,6 +31,7 @@ pub use laws::{
 pub use log::Log;
 pub use log_index::{LogIndex, RecordRef};
 pub use room::Room;
+pub use salvaging::{CutSector, Salvaged, salvage};
 pub use scanning::{Mounted, ScanFault, ScanWhy, scan};
 pub use sector::RECORDS_PER_SECTOR;
 pub use writing::RECORD_MAX;

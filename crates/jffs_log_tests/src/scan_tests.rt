@@ -9,11 +9,11 @@ use std::alloc::{AllocError, Global};
 use std::process::Abort;
 use std::test::Fail as TestFail;
 
-const SECTORS: u32 = 8;
+pub(super) const SECTORS: u32 = 8;
 
-const SECTOR_SIZE: u32 = 1024;
+pub(super) const SECTOR_SIZE: u32 = 1024;
 
-const LEN: usize = 8192;
+pub(super) const LEN: usize = 8192;
 
 /// The first bytes of three records of the first form, each filled up with zeros to 64 bytes: a
 /// file `f` is created, `hello` is written into it, and the session is closed.
@@ -54,7 +54,7 @@ fn erased(alloc: Global) -> Result<Vec<u8>, AllocError> {
 }
 
 /// A file's node of the first form, without data.
-fn file(alloc: Global, version: u32, inode: u32) -> Node {
+pub(super) fn file(alloc: Global, version: u32, inode: u32) -> Node {
     Node {
         kind: Kind::File,
         deleted: false,
@@ -73,7 +73,7 @@ fn file(alloc: Global, version: u32, inode: u32) -> Node {
 }
 
 /// Puts the record of a node at an offset.
-fn put(rt: &(impl Abort + AllocGlobal), image: &mut Vec<u8>, at: usize, node: &Node) {
+pub(super) fn put(rt: &(impl Abort + AllocGlobal), image: &mut Vec<u8>, at: usize, node: &Node) {
     assert!(rt; Tree::new(rt.alloc()).can_apply(node) && node.bytes.len() <= RECORD_MAX);
     let len = record_len(node) as usize;
     assert!(rt; len <= LEN && at <= LEN - len && image.len() == LEN);
@@ -86,7 +86,7 @@ fn put_bytes(rt: &impl Abort, image: &mut Vec<u8>, at: usize, bytes: &[u8]) {
 }
 
 /// The image of an old volume: the file, its bytes, and an unmount node, all of the first form.
-fn old_image(rt: &(impl Abort + AllocGlobal)) -> Result<Vec<u8>, AllocError> {
+pub(super) fn old_image(rt: &(impl Abort + AllocGlobal)) -> Result<Vec<u8>, AllocError> {
     let mut image = erased(rt.alloc())?;
     for (at, head) in [(0, CREATED), (64, WRITTEN), (136, UNMOUNTED)] {
         put_bytes(rt, &mut image, at, &[0; 64]);
@@ -143,7 +143,7 @@ fn bad(place: u32, why: Why) -> Seen {
 }
 
 /// An image of files without data: the offset of each, its version and its inode.
-fn with_files(
+pub(super) fn with_files(
     rt: &(impl Abort + AllocGlobal),
     files: &[(usize, u32, u32)],
 ) -> Result<Vec<u8>, AllocError> {
@@ -155,21 +155,24 @@ fn with_files(
 }
 
 /// An image that begins with a node.
-fn with_node(rt: &(impl Abort + AllocGlobal), node: Node) -> Result<Vec<u8>, AllocError> {
+pub(super) fn with_node(
+    rt: &(impl Abort + AllocGlobal),
+    node: Node,
+) -> Result<Vec<u8>, AllocError> {
     let mut image = erased(rt.alloc())?;
     put(rt, &mut image, 0, &node);
     Ok(image)
 }
 
 /// The image with another byte at an offset.
-fn changed(rt: &impl Abort, image: Vec<u8>, at: usize, byte: u8) -> Vec<u8> {
+pub(super) fn changed(rt: &impl Abort, image: Vec<u8>, at: usize, byte: u8) -> Vec<u8> {
     let mut image = image;
     put_bytes(rt, &mut image, at, &[byte]);
     image
 }
 
 /// An image of which no sector is erased.
-fn full_image(rt: &(impl Abort + AllocGlobal)) -> Result<Vec<u8>, AllocError> {
+pub(super) fn full_image(rt: &(impl Abort + AllocGlobal)) -> Result<Vec<u8>, AllocError> {
     let mut full = erased(rt.alloc())?;
     for sector in 0..8usize {
         put_bytes(rt, &mut full, sector * 1024, &[0]);
@@ -188,7 +191,7 @@ fn a_log_out_of_order_is_refused(rt: HostRuntime) -> Result<(), TestFail> {
 }
 
 /// A file in a directory that is not there.
-fn orphan(alloc: Global) -> Node {
+pub(super) fn orphan(alloc: Global) -> Node {
     let mut node = file(alloc, 1, 2);
     node.parent = 9;
     node
@@ -257,7 +260,7 @@ fn one_byte_changed(rt: HostRuntime) -> Result<(), TestFail> {
 }
 
 /// The old volume with a hundred bytes that are erased.
-fn cut_image(rt: &(impl Abort + AllocGlobal)) -> Result<Vec<u8>, AllocError> {
+pub(super) fn cut_image(rt: &(impl Abort + AllocGlobal)) -> Result<Vec<u8>, AllocError> {
     let mut cut = old_image(rt)?;
     put_bytes(rt, &mut cut, 100, &[0xFF; 100]);
     Ok(cut)
@@ -284,7 +287,7 @@ fn sized_image(rt: &(impl Abort + AllocGlobal)) -> Result<Vec<u8>, TestFail> {
 }
 
 /// A file of the second form, and then another one of the first.
-fn mixed_image(rt: &(impl Abort + AllocGlobal)) -> Result<Vec<u8>, TestFail> {
+pub(super) fn mixed_image(rt: &(impl Abort + AllocGlobal)) -> Result<Vec<u8>, TestFail> {
     let mut mixed = sized_image(rt)?;
     let mut first = file(rt.alloc(), 2, 3);
     first.name = Name::from_bytes(b"g");
@@ -309,8 +312,12 @@ fn a_log_goes_on_behind_the_last_sector(rt: HostRuntime) -> Result<(), TestFail>
 }
 
 /// The old volume, with a byte after its end that is not erased.
+pub(super) fn torn_image(rt: &(impl Abort + AllocGlobal)) -> Result<Vec<u8>, AllocError> {
+    Ok(changed(rt, old_image(rt)?, 300, 0))
+}
+
 fn torn(rt: &(impl Abort + AllocGlobal)) -> Result<MemoryFlash, AllocError> {
-    let image = changed(rt, old_image(rt)?, 300, 0);
+    let image = torn_image(rt)?;
     assert!(rt; image.len() == LEN);
     Ok(MemoryFlash::from_bytes(SECTORS, SECTOR_SIZE, image))
 }

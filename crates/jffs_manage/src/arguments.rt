@@ -54,7 +54,7 @@ impl Command {
             Command::Usage => "df FILE",
             Command::Check => "check FILE",
             Command::Map => "map [--svg] FILE",
-            Command::Save => "save FILE DIRECTORY",
+            Command::Save => "save [--from-damaged] FILE DIRECTORY",
             Command::Load => "load FILE DIRECTORY",
         }
     }
@@ -112,8 +112,9 @@ pub(crate) enum Task<'a> {
     Look(Look<'a>),
     /// It is changed.
     Change(Change<'a>),
-    /// All of it is written into this directory of the host.
-    Save(&'a str),
+    /// All of it is written into this directory of the host; of a volume that is refused, if
+    /// `damaged`, what its records make.
+    Save { directory: &'a str, damaged: bool },
 }
 
 /// What is to be seen of a volume.
@@ -154,7 +155,8 @@ pub enum CallFault<'a> {
     map, save and load")]
     Command(&'a str),
     /// A word that begins with `-` is no option.
-    #[error("unknown option '{0}'; options are -l, -r, --svg, --sector-size, --help and --version")]
+    #[error("unknown option '{0}'; options are -l, -r, --svg, --from-damaged, --sector-size, \
+    --help and --version")]
     Option(&'a str),
     /// An option that this command doesn't have, and the words that it has.
     #[error("unexpected option '{0}': {1}")]
@@ -195,6 +197,7 @@ struct Options {
     long: bool,
     recursive: bool,
     svg: bool,
+    from_damaged: bool,
 }
 
 impl Options {
@@ -206,6 +209,8 @@ impl Options {
             Some("-r")
         } else if self.svg && command != Command::Map {
             Some("--svg")
+        } else if self.from_damaged && command != Command::Save {
+            Some("--from-damaged")
         } else {
             None
         }
@@ -221,6 +226,7 @@ pub(crate) fn call_of<'a>(alloc: Global, words: &'a [String]) -> Result<Call<'a>
         long: false,
         recursive: false,
         svg: false,
+        from_damaged: false,
     };
     let mut wants_number = false;
     for word in words.iter().skip(1) {
@@ -240,6 +246,7 @@ pub(crate) fn call_of<'a>(alloc: Global, words: &'a [String]) -> Result<Call<'a>
             "-l" => options.long = true,
             "-r" => options.recursive = true,
             "--svg" => options.svg = true,
+            "--from-damaged" => options.from_damaged = true,
             _ if word.starts_with('-') => return Err(CallFault::Option(word)),
             _ => plain.push(word)?,
         }
@@ -313,7 +320,10 @@ fn task_of<'a>(
         Command::Usage => Task::Look(Look::Usage),
         Command::Check => Task::Look(Look::Check),
         Command::Map => Task::Look(Look::Map { svg: options.svg }),
-        Command::Save => Task::Save(first),
+        Command::Save => Task::Save {
+            directory: first,
+            damaged: options.from_damaged,
+        },
         Command::Put => Task::Change(Change::Put(first)),
         Command::MakeDir => Task::Change(Change::MakeDir(first)),
         Command::Move => Task::Change(Change::Move {

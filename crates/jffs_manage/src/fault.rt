@@ -47,6 +47,9 @@ pub enum VolumeFault {
     /// More than one size of the sectors makes a volume of the file.
     #[error("the file is a volume with sectors of more than one size: give --sector-size")]
     Sizes,
+    /// No size of the sectors makes a volume of the file, and it may have more than one.
+    #[error("no volume, and the file may have sectors of more than one size: give --sector-size")]
+    AnySize,
     /// No size of the sectors makes a volume of the file.
     #[error("no volume, whatever the size of its sectors: --sector-size tells why not")]
     NoSize,
@@ -119,6 +122,9 @@ pub enum VolumeFault {
     /// Standard output can't be written.
     #[error("standard output can't be written")]
     Write,
+    /// Standard error can't be written, where that says what is missing.
+    #[error("standard error can't be written")]
+    Errors,
     /// Allocation failed.
     #[error("out of memory")]
     Memory,
@@ -138,6 +144,7 @@ impl VolumeFault {
             | VolumeFault::Sectors(_)
             | VolumeFault::SectorSize(_)
             | VolumeFault::Sizes
+            | VolumeFault::AnySize
             | VolumeFault::Path(_)
             | VolumeFault::Reserved
             | VolumeFault::HostMissing
@@ -155,9 +162,11 @@ impl VolumeFault {
             | VolumeFault::Left
             | VolumeFault::NoSpace
             | VolumeFault::Stuck => { REFUSED },
-            VolumeFault::Medium | VolumeFault::Read | VolumeFault::Write | VolumeFault::Memory => {
-                BROKEN
-            }
+            VolumeFault::Medium
+            | VolumeFault::Read
+            | VolumeFault::Write
+            | VolumeFault::Errors
+            | VolumeFault::Memory => { BROKEN },
         }
     }
 

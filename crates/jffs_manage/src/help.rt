@@ -13,6 +13,8 @@ Looks into the volume in FILE, and changes what is there:
   rm FILE PATH                      removes a file or an empty directory
   rm -r FILE PATH                   removes a directory with all below it, the deepest first
   save FILE DIRECTORY               all of the volume into a directory of the host
+  save --from-damaged FILE DIRECTORY
+                                    the same; and of a volume that is refused what can be had
   load FILE DIRECTORY               all of a directory of the host into the volume's root
   df FILE                           how full the volume is
   map [--svg] FILE                  what each sector holds; with --svg as a picture, in SVG
@@ -31,6 +33,9 @@ one of both is there, whole. A put without room for all of it is refused before 
 below which weight there is room. rm -r and load are many changes: where one stops, by a fault or a
 loss of power, what was removed is removed, and what was loaded is there. A load looks at all names
 of DIRECTORY first, and replaces files as put does. A save makes DIRECTORY, and writes over no file.
+With --from-damaged what is missing is said on standard error, and what has lost its place in the
+tree stands in DIRECTORY/lost+found-of-the-volume; if the file may have sectors of several sizes,
+--sector-size has to say which.
 
   jffs_volume format notes.img 6 1024
   echo hello | jffs_volume put notes.img /greeting

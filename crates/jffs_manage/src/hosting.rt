@@ -4,7 +4,7 @@ use crate::changing::{UNFINISHED, put, read_some};
 use crate::fault::VolumeFault;
 use crate::looking::show;
 use crate::session::Session;
-use crate::walking::below;
+use crate::walking::{Entry, below};
 use jffs_flash::Flash;
 use jffs_node::{Path, ROOT_INODE};
 use jffs_tree::{Tree, Wish};
@@ -28,6 +28,17 @@ pub(crate) fn save<Rt: Files + AllocGlobal>(
     reached: &mut String,
 ) -> Result<(), VolumeFault> {
     let all = below(rt.alloc(), tree, "", ROOT_INODE)?;
+    save_all(rt, tree, &all, directory, reached)
+}
+
+/// Writes these directories and files of a tree into a directory of the host, as [`save`] does.
+pub(crate) fn save_all<Rt: Files + AllocGlobal>(
+    rt: &Rt,
+    tree: &Tree,
+    all: &[Entry],
+    directory: &str,
+    reached: &mut String,
+) -> Result<(), VolumeFault> {
     for found in all.iter() {
         if has_dots(found.path.as_str()) {
             set(reached, found.path.as_str())?;
@@ -48,9 +59,9 @@ pub(crate) fn save<Rt: Files + AllocGlobal>(
     Ok(())
 }
 
-/// Whether the last name of a path is one that each directory of the host has.
-fn has_dots(path: &str) -> bool {
-    path.ends_with("/.") || path.ends_with("/..")
+/// Whether a name of a path is one that each directory of the host has.
+pub(crate) fn has_dots(path: &str) -> bool {
+    path.split('/').any(|name| name == "." || name == "..")
 }
 
 fn set(reached: &mut String, path: &str) -> Result<(), AllocError> {

@@ -4,8 +4,8 @@
 //! It stands on `jffs_core` for the volume and on `jffs_file` for the file. [`run_volume`] is the
 //! program; `arguments` reads its words, `mounting` opens the file, `looking`, `mapping` and
 //! `drawing` write what is there, `changing` does what is asked, in a `session` that ends with an
-//! unmount, `rooming` sees that a put has room before it begins, and `hosting` carries whole trees
-//! from and to a directory of the host.
+//! unmount, `rooming` sees that a put has room before it begins, `hosting` carries whole trees from
+//! and to a directory of the host, and `salvaging` saves what is left of a volume that is refused.
 #![tactic(auto)]
 
 mod arguments;
@@ -19,6 +19,7 @@ mod mapping;
 mod mounting;
 mod program;
 mod rooming;
+mod salvaging;
 mod session;
 mod walking;
 

@@ -53,7 +53,10 @@ pub(crate) fn mount_copy<Rt: Files + AllocGlobal>(
 }
 
 /// The bytes of a file, which are no more than a volume has.
-fn read_image<Rt: Files + AllocGlobal>(rt: &Rt, file: &str) -> Result<Vec<u8>, VolumeFault> {
+pub(crate) fn read_image<Rt: Files + AllocGlobal>(
+    rt: &Rt,
+    file: &str,
+) -> Result<Vec<u8>, VolumeFault> {
     let opened = File::open(rt, file).map_err(VolumeFault::of_file_read)?;
     let mut bytes = Vec::new(rt.alloc());
     opened
@@ -68,7 +71,10 @@ fn read_image<Rt: Files + AllocGlobal>(rt: &Rt, file: &str) -> Result<Vec<u8>, V
 
 /// Mounts a copy of these bytes with each size of the sectors that may be theirs, and gives the one
 /// volume that is found, after the size of its sectors.
-fn find_volume(alloc: Global, bytes: &[u8]) -> Result<(u32, Core<MemoryFlash>), VolumeFault> {
+pub(crate) fn find_volume(
+    alloc: Global,
+    bytes: &[u8],
+) -> Result<(u32, Core<MemoryFlash>), VolumeFault> {
     let mut found = None;
     let mut fits = false;
     for &size in SECTOR_SIZES.iter() {
@@ -90,12 +96,32 @@ fn find_volume(alloc: Global, bytes: &[u8]) -> Result<(u32, Core<MemoryFlash>), 
 }
 
 /// Mounts flash in memory that holds these bytes, of sectors of this size.
-fn mount_bytes(alloc: Global, bytes: Vec<u8>, size: u32) -> Result<Core<MemoryFlash>, VolumeFault> {
+pub(crate) fn mount_bytes(
+    alloc: Global,
+    bytes: Vec<u8>,
+    size: u32,
+) -> Result<Core<MemoryFlash>, VolumeFault> {
     let sectors = sectors_of(bytes.len(), size)?;
     match Core::mount(alloc, MemoryFlash::from_bytes(sectors, size, bytes)) {
         Ok(core) => Ok(core),
         Err(fault) => Err(refused(fault.why)),
     }
+}
+
+/// The one size that the sectors of a volume of so many bytes may have. `AnySize` where they may
+/// have several, `NoLength` where they may have none.
+pub(crate) fn only_size(len: usize) -> Result<u32, VolumeFault> {
+    let mut only = None;
+    for &size in SECTOR_SIZES.iter() {
+        if !may_have(len, size) {
+            continue;
+        }
+        if only.is_some() {
+            return Err(VolumeFault::AnySize);
+        }
+        only = Some(size);
+    }
+    only.ok_or(VolumeFault::NoLength(len as u64))
 }
 
 /// Whether a volume of so many bytes may have sectors of this size.
@@ -108,7 +134,7 @@ fn may_have(len: usize, size: u32) -> bool {
 
 /// How many sectors of this size `len` bytes are. `SectorSize` where no volume has such sectors,
 /// `Length` where they are no whole number of them.
-fn sectors_of(len: usize, size: u32) -> Result<u32, VolumeFault>
+pub(crate) fn sectors_of(len: usize, size: u32) -> Result<u32, VolumeFault>
     ensures whole { IfOk result (λ sectors. len ≡ sectors * size) }
 {
     if !SECTOR_SIZES.contains(&size) {

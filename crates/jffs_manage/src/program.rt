@@ -9,6 +9,7 @@ use crate::hosting::{load, save};
 use crate::looking::{check, file_at, list, show, write_usage};
 use crate::mapping::{Map, map_of};
 use crate::mounting::{mount, mount_copy};
+use crate::salvaging::save_damaged;
 use crate::session::Session;
 use jffs_core::Core;
 use jffs_file::create_image;
@@ -25,7 +26,8 @@ use std::rt::Files;
 ///
 /// Gives the exit status: 0; 1 where memory, a stream or a file failed, 2 after a wrong call or
 /// where the file, or what is on the host, can't be used, 3 where the file is no volume, 4 where
-/// the file system refused. For all but the first one line goes to `errors`.
+/// the file system refused. For all but the first one line goes to `errors`; so does a
+/// line for all that is missing where a damaged volume is saved.
 pub fn run_volume<Rt: Files + AllocGlobal + Clone + Drop, R: Read, W: Write, E: Write>(
     rt: &Rt,
     words: &[String],
@@ -48,7 +50,7 @@ pub fn run_volume<Rt: Files + AllocGlobal + Clone + Drop, R: Read, W: Write, E: 
     let done = match call {
         Call::Help => write_text(HELP, out),
         Call::Version => write_text(VERSION, out),
-        Call::Do(work) => carry_out(rt, work, input, out, coloured, &mut reached),
+        Call::Do(work) => carry_out(rt, work, input, out, errors, coloured, &mut reached),
     };
     match done {
         Ok(()) => DONE,
@@ -85,11 +87,12 @@ fn write_text<W: Write>(text: &str, out: &mut W) -> Result<(), VolumeFault> {
 }
 
 /// Does what a call asks for. `reached` is left with the path at which a walk stopped.
-fn carry_out<Rt: Files + AllocGlobal + Clone + Drop, R: Read, W: Write>(
+fn carry_out<Rt: Files + AllocGlobal + Clone + Drop, R: Read, W: Write, E: Write>(
     rt: &Rt,
     work: Work<'_>,
     input: &mut R,
     out: &mut W,
+    errors: &mut E,
     coloured: bool,
     reached: &mut String,
 ) -> Result<(), VolumeFault> {
@@ -103,7 +106,14 @@ fn carry_out<Rt: Files + AllocGlobal + Clone + Drop, R: Read, W: Write>(
         }
         Task::Look(asked) => look(rt, &work, asked, out, coloured)?,
         Task::Change(asked) => change(rt, &work, asked, input, reached)?,
-        Task::Save(directory) => {
+        Task::Save {
+            directory,
+            damaged: true,
+        } => save_damaged(rt, &work, directory, reached, errors)?,
+        Task::Save {
+            directory,
+            damaged: false,
+        } => {
             let core = mount_copy(rt, work.file, work.sector_size)?;
             save(rt, core.tree(), directory, reached)?;
         }

@@ -1,5 +1,6 @@
 //! Calls of the program, each with its status and what it writes.
 
+mod damaged;
 mod faults;
 mod filling;
 mod images;

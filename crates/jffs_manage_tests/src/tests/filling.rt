@@ -78,23 +78,31 @@ fn a_file_that_may_only_be_read_is_read(rt: HostRuntime) -> Result<(), Fail> {
     } else {
         "no volume"
     };
-    let mut words = Vec::new(rt.alloc());
-    for word in ["jffs_volume", "check", "/proc/self/exe"] {
-        words.push(String::from_str(rt.alloc(), word)?)?;
+    for (line, word) in [
+        ("jffs_volume check /proc/self/exe", ""),
+        (
+            "jffs_volume save --from-damaged /proc/self/exe had",
+            "had: ",
+        ),
+    ] {
+        let mut words = Vec::new(rt.alloc());
+        for word in line.split(' ') {
+            words.push(String::from_str(rt.alloc(), word)?)?;
+        }
+        let mut out = Vec::new(rt.alloc());
+        let mut errors = Vec::new(rt.alloc());
+        let _ = run_volume(
+            &rt,
+            &words,
+            &mut b"".as_slice(),
+            &mut out,
+            &mut errors,
+            false,
+        );
+        let errors = String::from_utf8(errors)?;
+        let head = format!(in rt.alloc(); "jffs_volume: /proc/self/exe: {word}{told}")?;
+        assert!(rt; errors.as_str().starts_with(head.as_str()), "got {errors}");
     }
-    let mut out = Vec::new(rt.alloc());
-    let mut errors = Vec::new(rt.alloc());
-    let _ = run_volume(
-        &rt,
-        &words,
-        &mut b"".as_slice(),
-        &mut out,
-        &mut errors,
-        false,
-    );
-    let errors = String::from_utf8(errors)?;
-    let head = format!(in rt.alloc(); "jffs_volume: /proc/self/exe: {told}")?;
-    assert!(rt; errors.as_str().starts_with(head.as_str()), "got {errors}");
     plays(
         &rt,
         &[(

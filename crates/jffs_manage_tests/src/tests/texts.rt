@@ -66,6 +66,13 @@ fn what_no_command_meets_has_its_text(rt: HostRuntime) -> Result<(), Fail> {
         3,
         "no volume: the flash failed",
     )?;
+    has_text(
+        &rt,
+        rt.alloc(),
+        VolumeFault::Errors,
+        1,
+        "standard error can't be written",
+    )?;
     for (fault, wanted) in [
         (
             VolumeFault::Part(Cause::VersionsSpent),

@@ -18,14 +18,14 @@ fn each_word_that_is_wrong_has_its_line(rt: HostRuntime) -> Result<(), Fail> {
             (
                 "ls r.image --all",
                 2,
-                "unknown option '--all'; options are -l, -r, --svg, --sector-size, --help and \
-                --version",
+                "unknown option '--all'; options are -l, -r, --svg, --from-damaged, --sector-size, \
+                --help and --version",
             ),
             (
                 "ls -",
                 2,
-                "unknown option '-'; options are -l, -r, --svg, --sector-size, --help and \
-                --version",
+                "unknown option '-'; options are -l, -r, --svg, --from-damaged, --sector-size, \
+                --help and --version",
             ),
             (
                 "ls r.image --help",
@@ -96,8 +96,12 @@ fn each_command_refuses_an_option_of_another(rt: HostRuntime) -> Result<(), Fail
         ("df --svg a", "'--svg': df FILE"),
         ("check -l a", "'-l': check FILE"),
         ("map -l a", "'-l': map [--svg] FILE"),
-        ("save -r a b", "'-r': save FILE DIRECTORY"),
+        ("save -r a b", "'-r': save [--from-damaged] FILE DIRECTORY"),
         ("load -r a b", "'-r': load FILE DIRECTORY"),
+        (
+            "load --from-damaged a b",
+            "'--from-damaged': load FILE DIRECTORY",
+        ),
     ] {
         refuses(&rt, "jffs_volume: unexpected option ", &[(line, 2, told)])?;
     }
@@ -119,10 +123,14 @@ fn each_command_wants_its_words(rt: HostRuntime) -> Result<(), Fail> {
             (
                 "map -x a",
                 2,
-                "unknown option '-x'; options are -l, -r, --svg, --sector-size, --help and \
-                --version",
+                "unknown option '-x'; options are -l, -r, --svg, --from-damaged, --sector-size, \
+                --help and --version",
             ),
-            ("save a", 2, "words are missing: save FILE DIRECTORY"),
+            (
+                "save a",
+                2,
+                "words are missing: save [--from-damaged] FILE DIRECTORY",
+            ),
             ("load a", 2, "words are missing: load FILE DIRECTORY"),
             ("map", 2, "words are missing: map [--svg] FILE"),
             ("rm -r a", 2, "words are missing: rm [-r] FILE PATH"),

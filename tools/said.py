@@ -8,10 +8,10 @@ TOP = pathlib.Path(__file__).resolve().parent.parent
 ERASED = b"\xff"
 
 
-def record(kind=1, inode=2, version=1, offset=0, removed=0, data=b"", size=0, form=1, name=b"f"):
-    """The closed record of a node in the root, as docs/FORMAT.md lays it out."""
+def record(kind=1, inode=2, version=1, offset=0, removed=0, data=b"", size=0, form=1, name=b"f", parent=1):
+    """The closed record of a node, in the root unless another directory is named, as docs/FORMAT.md lays it out."""
     header = b"JFF1" + bytes([kind, 0, len(name), 0])
-    for number in (inode, 1, version, offset, len(data), removed):
+    for number in (inode, parent, version, offset, len(data), removed):
         header += number.to_bytes(4, "big")
     header += (1).to_bytes(2, "big") + form.to_bytes(2, "big") + bytes(4) + size.to_bytes(4, "big")
     return header + name.ljust(20, b"\0") + data + ERASED * (-len(data) % 4)
@@ -33,8 +33,18 @@ def on_core(*lines):
 # The oldest sector holds 15 records, all dead, and isn't erased.
 DEAD = on_core("request 1 1 create /f", *(f"request 1 {n} truncate /f 0" for n in range(2, 17)), "request 10 1 unmount")
 FULL_TAIL = on_core("request 1 1 create /f", *(f"request 1 {n} truncate /f 0" for n in range(2, 16)), "request 10 1 unmount")
+# Damaged volumes: a record of a kind that there is none of, between two others; the later name first; a file over a
+# directory; a file without its directory.
+DAMAGED = {
+    "kind.image": image(record(), record(kind=9, version=2), record(version=3, inode=3, name=b"g")),
+    "order.image": image(record(version=2, name=b"new"), record(name=b"old")),
+    "unfit.image": image(record(kind=2, name=b"d"), record(version=2), record(version=3, inode=3, name=b"g")),
+    "lost.image": image(record(parent=9)),
+}
 HELD = "sectors 0 1\n"
 FREED = "sectors 1\n"
+
+LOADED = [("jffs_volume format new.image 6 1024", "", 0, "", ""), ("jffs_volume load new.image had", "", 0, "", "")]
 
 # The page, words of the sentence, and the calls: program and words, standard input, status, and what standard output and
 # standard error have among other things; where nothing is to be written, the empty text.
@@ -114,6 +124,23 @@ CASES = [
     ("TOOLS", "A path that ends in\n`/.put.new` itself is refused for a put", [
         ("jffs_volume put dead.image /.put.new", "x", 2, "", "is kept for puts"),
         ("jffs_volume mkdir dead.image /.put.new", "", 0, "", "")]),
+    ("TOOLS", "What stands from there on in its\nsector is left out", [
+        ("jffs_volume save --from-damaged kind.image had", "", 0, "", "sector 0 is left out from byte 64 on: the record there is bad"),
+        *LOADED, ("jffs_volume ls new.image", "", 0, "f 0 f\n", ""), ("jffs_volume cat new.image /g", "", 4, "", "nothing")]),
+    ("TOOLS", "taken in the order of their versions", [
+        ("jffs_volume save --from-damaged order.image had", "", 0, "", "the versions of the log don't rise"),
+        *LOADED, ("jffs_volume ls new.image", "", 0, "f 0 new\n", ""), ("jffs_volume cat new.image /old", "", 4, "", "nothing")]),
+    ("TOOLS", "Else it alone is left out, with a line of its own", [
+        ("jffs_volume save --from-damaged unfit.image had", "", 0, "", "the record at byte 64 of sector 0 is left out"),
+        *LOADED, ("jffs_volume ls new.image", "", 0, "d d\nf 0 g\n", "")]),
+    ("TOOLS", "is saved with all\nbelow it in `lost+found-of-the-volume/INODE` of DIRECTORY", [
+        ("jffs_volume save --from-damaged lost.image had", "", 0, "", "had/lost+found-of-the-volume/2: its directory is missing"),
+        ("jffs_volume format new.image 6 1024", "", 0, "", ""),
+        ("jffs_volume load new.image had/lost+found-of-the-volume/2", "", 0, "", ""),
+        ("jffs_volume ls new.image", "", 0, "f 0 f\n", "")]),
+    ("TOOLS", "Of a volume that a mount takes it does what `save` does", [
+        ("jffs_volume save --from-damaged dead.image had", "", 0, "", ""),
+        *LOADED, ("jffs_volume ls new.image", "", 0, "f 0 f\n", "")]),
     ("TOOLS", "So is `-`", [
         ("jffs -", script(), 2, "", "unknown option '-'"), ("jffs_volume ls -", "", 2, "", "unknown option '-'")]),
 ]
@@ -144,6 +171,8 @@ def said(check):
             dead = subprocess.run(play, input=DEAD.encode(), capture_output=True, check=False).stdout
             (folder / "dead.image").write_bytes(dead)
             (folder / "zero.image").write_bytes(bytes(6144))
+            for name, bytes_of_it in DAMAGED.items():
+                (folder / name).write_bytes(bytes_of_it)
             (folder / "old.image").write_bytes((TOP / "crates/jffs_replay/data/old.image").read_bytes())
             for call in calls:
                 check(holds(*call, folder), path, f"not so: {words}: {call[0]}")

@@ -71,8 +71,9 @@ impl Flash for Metered {
     }
 
     fn erase(&mut self, sector: u32) -> Result<(), FlashFault> {
-        if let Some(count) = self.calls.erased.get_mut(sector as usize) {
-            *count = count.saturating_add(1);
+        let index = sector as usize;
+        if index < SECTORS {
+            self.calls.erased[index] = self.calls.erased[index].saturating_add(1);
         }
         self.inner.erase(sector)
     }

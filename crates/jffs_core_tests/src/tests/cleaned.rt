@@ -28,9 +28,12 @@ fn full_of_live_data(rt: HostRuntime) -> Result<(), Fail> {
     session.play(&rt, "write /f 1728 192*a : refused NoSpace")?;
     assert_eq!(rt; session.erased_sectors(), Some(3));
     assert_eq!(rt; session.core.log().erases(), 3);
+    assert!(rt; session.has_versions_from(11, &[3, 3, 3, 4, 4, 4, 5, 5, 5]));
     assert!(rt; session.whole(2)? == vec![in rt.alloc(); b'a'; 1728]?);
     session.play(&rt, "remove /f : appended 2 20")?;
+    assert!(rt; session.has_versions_from(11, &[3, 3, 3, 4, 4, 4, 5, 5, 5, 5]));
     assert_eq!(rt; session.erase_dead(), Ok(2));
+    assert!(rt; session.has_versions_from(17, &[5, 5, 5, 5]));
     let image = session.image()?;
     assert!(rt; is_blank(part(&image, 0, 5120)));
     Ok(())

@@ -105,6 +105,17 @@ impl<F: Flash + Drop> Session<F> {
         records.filter(|entry| entry.sector == sector).count()
     }
 
+    /// Whether the log has records of these versions, from `first` on, in these sectors, and no
+    /// others.
+    pub(super) fn has_versions_from(&self, first: u32, sectors: &[u32]) -> bool {
+        let records = self.core.log().records();
+        let mut wanted = sectors.iter().zip(first..);
+        records.len() == sectors.len()
+            && records.iter().all(|record| {
+                wanted.next() == Some((&record.sector, record.version))
+            })
+    }
+
     /// How many sectors are erased.
     pub(super) fn erased_sectors(&self) -> Option<u32> {
         if self.core.failed() {

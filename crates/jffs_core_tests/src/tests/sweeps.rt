@@ -71,8 +71,8 @@ fn shown(alloc: Global, tree: &Tree) -> Result<Vec<u8>, Fail> {
     Ok(out)
 }
 
-/// Answers the wishes and cleans a sector, until the device fails; gives the tree before the first
-/// request and after each that was answered by a device that works.
+/// Answers the wishes, erases what is dead and cleans twice, until the device fails; gives the tree
+/// before the first request and after each that was answered by a device that works.
 fn trees_of<F: Flash + Drop>(session: &mut Session<F>, run: &str) -> Result<Vec<Vec<u8>>, Fail> {
     let alloc = session.alloc;
     let mut trees = Vec::new(alloc);
@@ -84,6 +84,8 @@ fn trees_of<F: Flash + Drop>(session: &mut Session<F>, run: &str) -> Result<Vec<
         }
         trees.push(shown(alloc, session.core.tree())?)?;
     }
+    let _ = session.erase_dead();
+    let _ = session.clean_oldest();
     let _ = session.clean_oldest();
     Ok(trees)
 }

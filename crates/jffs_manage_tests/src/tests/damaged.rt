@@ -19,7 +19,7 @@ const DIRECTORY: u8 = 2;
 /// Appends the record of a node whose bytes stand at the start of a file that ends with them.
 fn spell(out: &mut Vec<u8>, record: Record<'_>) -> Result<(), AllocError> {
     let (kind, inode, parent, version, name, data) = record;
-    let len = (data.len() as u32).to_be_bytes();
+    let len = u32::try_from(data.len()).unwrap_or(u32::MAX).to_be_bytes();
     let form = if kind == FILE { 2 } else { 1 };
     out.extend_from_slice(&[b'J', b'F', b'F', b'1', kind, 0, 1, 0])?;
     for field in [inode, parent, version, 0] {

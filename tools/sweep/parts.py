@@ -19,7 +19,7 @@ SOON = 2
 # left out compares errors, of which Memory is one.
 STEADFAST = re.compile(r"jffs_(flash|node|tree)_tests |jffs_line_tests (?!tests::a_line_refuses_)|jffs_core_tests tests::refusals::")
 # Tests of threads that wait for one another: where no thread can be made, all run in one, and never end.
-NEED_THREADS = re.compile(r"jffs_line_tests tests::(a_taker_asleep|an_unmount_asleep|eight_writers_hand_in)_")
+NEED_THREADS = re.compile(r"jffs_line_tests tests::(an_unmount_asleep|eight_writers_hand_in)_")
 # Where an assertion of a test's own has stopped it.
 STOPPED = re.compile(r"test stopped at src/\w*tests[./]")
 GAVE_UP = re.compile(r"\Aerror: [^\n]*(memory|AllocError|AllocFailed)[^\n]*\nthe test failed: its result", re.IGNORECASE)

@@ -4,10 +4,11 @@ ghost use Rattle.std.specs.Prelude.{◌≡◌, map, [], ◌∷◌, ◌++◌};
 ghost use Rattle.jffs_line.specs.Line.{End};
 
 mod sessions;
+mod turns;
 mod waking;
 
 use crate::tests::sessions::{Session, run_session};
-use crate::tests::waking::{Taken, take_asleep, unmount_asleep};
+use crate::tests::waking::{Taken, take_asleep, take_from_control, unmount_asleep};
 use jffs_line::{
     Ends, Hand, Hands, LineFault, Request, RingHand, RingLine, Settle, SharedHand, SharedLine,
     SharedTaker, Taker, Why, ring_line, shared_line,
@@ -337,6 +338,14 @@ fn a_taker_asleep_is_woken_by_a_request_and_by_the_last_hand(rt: HostRuntime) ->
     let alloc = rt.alloc();
     was_woken_twice(&rt, take_asleep(&rt, shared_line(&rt, alloc, 1, 1)?));
     was_woken_twice(&rt, take_asleep(&rt, ring_line(alloc, 1, 1)?));
+    Ok(())
+}
+
+#[test]
+fn a_taker_waits_for_the_control_alone(rt: HostRuntime) -> Result<(), Fail> {
+    let alloc = rt.alloc();
+    was_woken_twice(&rt, take_from_control(&rt, shared_line(&rt, alloc, 1, 1)?));
+    was_woken_twice(&rt, take_from_control(&rt, ring_line(alloc, 1, 1)?));
     Ok(())
 }
 

@@ -1,5 +1,5 @@
 //! An end that sleeps is woken by the other.
-use jffs_line::{Ends, Hand, Taker};
+use jffs_line::{Control, Ends, Hand, Hands, Taker};
 use std::sync::Wait;
 use std::thread;
 use std::thread::Threads;
@@ -19,29 +19,61 @@ pub(super) struct Taken {
     pub(super) is_none: bool,
 }
 
-pub(super) fn take_asleep<H: Hand + Send, T: Taker + Send, R: Threads + Wait + Sync + Clock>(
+/// The control asks for the Unmount while the taker sleeps, and goes with the rest while it sleeps
+/// again.
+fn take_beside<H: Hand + Send, D: Drop + Send, T: Taker + Send, R: Threads + Wait + Sync + Clock>(
     rt: &R,
-    line: Ends<H, T>,
+    control: Control<H>,
+    rest: D,
+    taker: T,
 ) -> Taken {
-    let Ends {
-        mut hands,
-        mut taker,
-    } = line;
-    let (_, taken) = thread::join(
+    let mut control = control;
+    let mut taker = taker;
+    let (taken, ()) = thread::join(
         rt,
-        move || {
-            nap(rt);
-            let _ = hands.control.unmount(rt);
-            nap(rt);
-            drop(hands);
-        },
         move || {
             let writer = taker.take(rt).map(|request| request.writer);
             let is_none = taker.take(rt).is_none();
             Taken { writer, is_none }
         },
+        move || {
+            nap(rt);
+            let _ = control.unmount(rt);
+            nap(rt);
+            drop(control);
+            drop(rest);
+        },
     );
     taken
+}
+
+pub(super) fn take_asleep<H: Hand + Send, T: Taker + Send, R: Threads + Wait + Sync + Clock>(
+    rt: &R,
+    line: Ends<H, T>,
+) -> Taken {
+    let Ends { hands, taker } = line;
+    let Hands {
+        writers,
+        cleaner,
+        control,
+    } = hands;
+    take_beside(rt, control, (writers, cleaner), taker)
+}
+
+/// The same on a line of which the control's hand alone is left.
+pub(super) fn take_from_control<H: Hand + Send, T: Taker + Send, R: Threads + Wait + Sync + Clock>(
+    rt: &R,
+    line: Ends<H, T>,
+) -> Taken {
+    let Ends { hands, taker } = line;
+    let Hands {
+        writers,
+        cleaner,
+        control,
+    } = hands;
+    drop(writers);
+    drop(cleaner);
+    take_beside(rt, control, (), taker)
 }
 
 /// The numbers of two unmounts on a line of capacity 1, of which the second slept until the first

@@ -1,7 +1,9 @@
 //! Sessions that are served, and a cleaner beside them.
 
 mod copying;
+mod ending;
 mod growths;
+mod order;
 mod rounds;
 mod tidying;
 mod volumes;
@@ -109,7 +111,7 @@ fn cleaner_hands_in_copies(rt: HostRuntime) -> Result<(), Fail> {
     Ok(())
 }
 
-/// However many rounds it has, and though an image waits.
+/// Though it has many more rounds, and an image waits.
 #[test]
 fn a_cleaner_ends_with_the_log_thread(rt: HostRuntime) -> Result<(), Fail> {
     let alloc = rt.alloc();
@@ -124,7 +126,7 @@ fn a_cleaner_ends_with_the_log_thread(rt: HostRuntime) -> Result<(), Fail> {
     let mut hand = hands.cleaner;
     let ended = Ended::new();
     ended.tell();
-    let rounds = u32::MAX;
+    let rounds = 1_000;
     let end = clean_until(
         &rt,
         alloc,

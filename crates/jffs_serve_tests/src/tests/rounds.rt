@@ -6,12 +6,13 @@ ghost use Rattle.jffs_index.specs.Ends.{published, pending};
 
 use crate::tests::volumes::cut;
 use jffs_core::Core;
-use jffs_flash::MemoryFlash;
+use jffs_flash::{Flash, MemoryFlash};
 use jffs_index::{Publisher, Reader, publish_index};
 use jffs_line::{Ends, Hand, Request, SharedTaker, Taker, shared_line};
 use jffs_serve::{JobEnd, Jobs, Served, Session, clean_loop, job_ring, serve};
 use jffs_tree::{Outcome, Tree, Wish};
 use std::alloc::Global;
+use std::cell::Cell;
 use std::sync::Wait;
 use std::test::Fail;
 
@@ -33,7 +34,7 @@ pub(super) fn index<R: Wait + Drop>(
 
 /// The taker of a line on which a writer wants `/f` to have 1,728 bytes, and then the control to
 /// unmount.
-fn cut_and_unmount<R: Wait>(rt: &R, alloc: Global) -> Result<SharedTaker, Fail> {
+pub(super) fn cut_and_unmount<R: Wait>(rt: &R, alloc: Global) -> Result<SharedTaker, Fail> {
     let Ends { mut hands, taker } = shared_line(rt, alloc, 4, 1)?;
     let mut writer = hands.writers.pop().ok_or("one writer")?;
     let accepted = writer.hand_in(rt, cut(alloc, "/f", 1728)?).is_ok();
@@ -52,25 +53,43 @@ fn last_two(core: &Core<MemoryFlash>) -> Result<[Outcome; 2], Fail> {
     }
 }
 
-/// What serving left.
+/// What serving left. Its publisher is still there, so a reader sees what was published.
 #[derive(Drop)]
-pub(super) struct Left {
-    pub(super) session: Session<MemoryFlash>,
+pub(super) struct Left<'r, R: Wait, F: Flash> {
+    pub(super) session: Session<F>,
     pub(super) served: Served,
+    publisher: Publisher<&'r R>,
+}
+
+/// Serves all that waits on a line, while the one reader of the index is in `slot`.
+pub(super) fn served_seen<'r, R: Wait, F: Flash + Drop>(
+    rt: &'r R,
+    alloc: Global,
+    core: Core<F>,
+    mut taker: SharedTaker,
+    mut jobs: Jobs,
+    slot: &Cell<Option<Reader>>,
+) -> Result<Left<'r, R, F>, Fail> {
+    let (mut publisher, reader) = index(rt, alloc, core.tree().copy_tree()?)?;
+    slot.set(Some(reader));
+    let mut session = Session::new(core);
+    let served = serve(rt, &mut session, &mut taker, &mut publisher, &mut jobs);
+    Ok(Left {
+        session,
+        served,
+        publisher,
+    })
 }
 
 /// Serves all that waits on a line.
-pub(super) fn served_from<R: Wait>(
-    rt: &R,
+pub(super) fn served_from<'r, R: Wait, F: Flash + Drop>(
+    rt: &'r R,
     alloc: Global,
-    core: Core<MemoryFlash>,
-    mut taker: SharedTaker,
-    mut jobs: Jobs,
-) -> Result<Left, Fail> {
-    let (mut publisher, _reader) = index(rt, alloc, core.tree().copy_tree()?)?;
-    let mut session = Session::new(core);
-    let served = serve(rt, &mut session, &mut taker, &mut publisher, &mut jobs);
-    Ok(Left { session, served })
+    core: Core<F>,
+    taker: SharedTaker,
+    jobs: Jobs,
+) -> Result<Left<'r, R, F>, Fail> {
+    served_seen(rt, alloc, core, taker, jobs, &Cell::new(None))
 }
 
 /// Serves a file of 1,728 bytes; gives the last two outcomes, and the cleaner's end of the jobs.

@@ -1,6 +1,7 @@
 //! Whole programs: a script in, lines out.
 
 mod calls;
+mod ending;
 mod gates;
 mod hundred;
 mod lines;

@@ -161,31 +161,54 @@ impl<'a> Flash for Held<'a> {
     }
 }
 
-/// While the log thread stands in the write of a writer's first node, four more of its wishes wait
-/// on a line of capacity 4, and the sixth finds no place.
+/// How often a gate was called until no writer could go on, while the log thread stood in the write
+/// of a first node, where the device waits for `wanted` calls; and how many answers came in all.
+fn calls_while_held<Rt: AllocGlobal + Threads + Wait + Sync>(
+    rt: &Rt,
+    script: &str,
+    wanted: u64,
+) -> Result<(u64, usize), Fail> {
+    let alloc = rt.alloc();
+    let gate = Counting::new();
+    let noted = AtomicU64::new(0);
+    let script = Script::parse(alloc, script.as_bytes())?;
+    let flash = Held {
+        inner: MemoryFlash::new(alloc, script.sectors, script.sector_size)?,
+        gate: &gate,
+        wanted,
+        noted: &noted,
+    };
+    match run_threads(rt, alloc, &script, flash, &gate) {
+        Ok(run) => Ok((noted.load(Ordering::SeqCst), run.answers.len())),
+        Err(fault) => Err(fault.why.into()),
+    }
+}
+
+/// Four more of a writer's wishes wait on a line of capacity 4, and the sixth finds no place.
 #[test]
 fn a_line_has_the_capacity_of_its_script(rt: HostRuntime) -> Result<(), Fail> {
-    let alloc = rt.alloc();
     for line in ["shared 4", "rings 4"] {
-        let gate = Counting::new();
-        let noted = AtomicU64::new(0);
-        let script = format!(in alloc;
+        let script = format!(in rt.alloc();
             "volume 8 1024\nline {line}\nwriter\n\
             mkdir /a\nmkdir /b\nmkdir /c\nmkdir /d\nmkdir /e\nmkdir /f\nmkdir /g\nmkdir /h\n"
         )?;
-        let script = Script::parse(alloc, script.as_bytes())?;
-        let flash = Held {
-            inner: MemoryFlash::new(alloc, script.sectors, script.sector_size)?,
-            gate: &gate,
-            wanted: 6,
-            noted: &noted,
-        };
-        let run = match run_threads(&rt, alloc, &script, flash, &gate) {
-            Ok(run) => run,
-            Err(fault) => return Err(fault.why.into()),
-        };
-        assert_eq!(rt; run.answers.len(), 9);
-        assert_eq!(rt; noted.load(Ordering::SeqCst), 6);
+        assert_eq!(rt; calls_while_held(&rt, script.as_str(), 6)?, (6, 9));
+    }
+    Ok(())
+}
+
+/// On a shared line four wishes of both writers wait, and each writer has one more in hand; with
+/// rings four of each wait. One call more never comes.
+#[test]
+fn two_writers_share_a_line_or_have_a_ring_each(rt: HostRuntime) -> Result<(), Fail> {
+    for (line, calls) in [("shared 4", 1u64 + 4 + 2), ("rings 4", 1 + 4 + 4 + 2)] {
+        let script = format!(in rt.alloc();
+            "volume 8 1024\nline {line}\n\
+            writer\nmkdir /a\nmkdir /b\nmkdir /c\nmkdir /d\nmkdir /e\nmkdir /f\nmkdir /g\n\
+            writer\nmkdir /h\nmkdir /i\nmkdir /j\nmkdir /k\nmkdir /l\nmkdir /m\nmkdir /n\n"
+        )?;
+        let held = calls_while_held(&rt, script.as_str(), calls.saturating_add(1))?;
+        assert_eq!(rt; held, (calls, 15));
     }
     Ok(())
 }

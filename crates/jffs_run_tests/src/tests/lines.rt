@@ -24,6 +24,25 @@ fn printed(alloc: Global, writer: u16, outcome: Outcome) -> Result<Vec<u8>, Fail
     Ok(out)
 }
 
+/// What is printed where the Unmount was refused for this cause.
+fn not_closed(alloc: Global, cause: Cause) -> Result<Vec<u8>, Fail> {
+    printed(alloc, CONTROL, Outcome::Refused(cause))
+}
+
+#[test]
+fn the_end_of_a_session_names_its_cause(rt: HostRuntime) -> Result<(), Fail> {
+    for (cause, text) in [
+        (Cause::VersionsSpent, "not closed VersionsSpent\n"),
+        (Cause::Memory, "not closed Memory\n"),
+        (Cause::NoSpace, "not closed NoSpace\n"),
+        (Cause::Failed, "not closed Failed\n"),
+    ] {
+        let lines = not_closed(rt.alloc(), cause)?;
+        assert_eq!(rt; lines.as_slice(), text.as_bytes());
+    }
+    Ok(())
+}
+
 #[test]
 fn answers_and_ends_have_their_lines(rt: HostRuntime) -> Result<(), Fail> {
     let appended = Outcome::Appended {

@@ -2,7 +2,7 @@ use Rattle.std.proofs.Common.{◌∙◌, sym, ap}
 use Rattle.jffs_core.specs.CoreState.{CoreState}
 use Rattle.jffs_index.specs.Histories.{opening_of}
 use Rattle.jffs_serve.proofs.Showing.{can_begin}
-use Rattle.jffs_serve_tests.proofs.tests.rounds.served_from.Goals as goal
+use Rattle.jffs_serve_tests.proofs.tests.rounds.served_seen.Goals as goal
 
 pub serve-served-requires : goal.serve-served-requires
 serve-served-requires g c =

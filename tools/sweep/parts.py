@@ -74,7 +74,8 @@ def tests(runner, crate):
             continue
 
         def run(at, limit, name=name):
-            return runner.run([program, name], at=at, limit=limit)
+            # Tests of one crate may write files of the same name.
+            return runner.run([program, name], at=at, limit=limit, cwd=runner.empty_folder())
 
         def judge(ran, steadfast=STEADFAST.match(f"{crate} {name}")):
             return judge_test(ran, steadfast)

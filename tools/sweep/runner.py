@@ -94,6 +94,13 @@ class Runner:
             self.tally.add(name, f"not built: run `{how}` in crates/{crate}, or ./test")
         return None
 
+    def empty_folder(self):
+        """A folder in which nothing is, of the thread that asks."""
+        folder = self.folder / f"{threading.get_ident()}.own"
+        shutil.rmtree(folder, ignore_errors=True)
+        folder.mkdir()
+        return folder
+
     def run(self, words, text="", at=None, on=False, limit=20, cwd=TOP, processor=None):
         """Runs a program; allocation number `at` is refused, all later ones too where it goes on, and with 0 the
         allocations are only counted."""

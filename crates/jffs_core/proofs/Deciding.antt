@@ -1,5 +1,5 @@
 -- What a decision gives: its causes, its nodes, and that they may follow.
-use Rattle.std.proofs.Common.{◌≡◌, ⊎_elim, ℕ, ◌+◌, ◌-◌, ◌/◌, ◌^◌, ◌≤◌, ◌<◌, Bool, true, false, ◌&&◌, ◌||◌, not, cond, leb, ltb, eqb, min, max, List, [], ◌∷◌, ◌++◌, length, fold, Option, Some, None, is_none, is_some, unwrap_or, Result, Ok, Err, refl, sym, ap, subst, ◌∙◌, arith}
+use Rattle.std.proofs.Common.{◌≡◌, ⊎_elim, ℕ, ◌+◌, ◌-◌, ◌/◌, ◌^◌, ◌≤◌, ◌<◌, Bool, true, false, ◌&&◌, ◌||◌, not, cond, leb, ltb, eqb, min, max, List, [], ◌∷◌, ◌++◌, length, Option, Some, None, is_none, is_some, unwrap_or, Result, Ok, Err, refl, sym, ap, subst, ◌∙◌, arith}
 use Rattle.std.specs.Prelude.{bytes_eq}
 use Rattle.std.specs.List.{list_all, AllByRecursion}
 use Rattle.std.specs.Option.{option_map_or}
@@ -25,13 +25,13 @@ use Rattle.jffs_tree.proofs.Decided.{decided_nodes_keep_rules, all_passed}
 use Rattle.jffs_tree.proofs.TrueCopy.{true_copy_keeps_state}
 use Rattle.jffs_log.specs.declared.room.Room.{Room}
 use Rattle.jffs_log.specs.RoomLaws.{suits_room}
-use Rattle.jffs_log.specs.Room.{following, next_version, data_max, limits as limits_of}
+use Rattle.jffs_log.specs.Room.{following, greatest_inode, next_version, data_max, limits as limits_of}
+use Rattle.jffs_log.proofs.scans.ScanNumbers.{inode_one}
 use Rattle.jffs_log.specs.Cleaning.{versions_fall}
 use Rattle.jffs_log.specs.History.{KeepsRules}
 use Rattle.jffs_core.specs.History.{AreOwnCopies, MayFollow}
 use Rattle.jffs_core.specs.Run.{OnlyCopies}
 use Rattle.jffs_core.specs.Appending.{MayPut}
-use Rattle.jffs_core.proofs.Putting.{fold_max}
 
 -- What stands against a wish, and its node, apart.
 abbrev causes_for : State → (ℕ → Option (ℕ × Held)) → Limits → Wish → List (Bool × Cause)
@@ -164,22 +164,15 @@ next_is_newest (n ∷ past) v h is =
     (and_from (ltb n.version v) (list_all (λ m. ltb m.version v) past) (lt-ltb n.version v (omega arith)) (older_below n.version v past (omega arith) a.0), omega arith, omega arith)
 
 -- New inodes.
-abbrev most : ℕ → List Node → ℕ
-most a past = fold (λ k (n : Node). max k n.inode) a past
-
-most_high : (a : ℕ) (past : List Node) → a ≤ most a past
-most_high a [] = omega arith
-most_high a (n ∷ past) = let e = fold_max a n.inode past in let l = most_high a past in omega arith
-
-all_below : (v : ℕ) (past : List Node) → most 1 past < v → AllByRecursion (λ n. n.inode < v) past
+all_below : (v : ℕ) (past : List Node) → greatest_inode past < v → AllByRecursion (λ n. n.inode < v) past
 all_below v [] l = tt
-all_below v (n ∷ past) l = let e = fold_max 1 n.inode past in (omega arith, all_below v past (omega arith))
+all_below v (n ∷ past) l = (omega arith, all_below v past (omega arith))
 
 pub limits_given : (z : ℕ) (past : List Node) → AreLimitsOf past (limits_of z past)
 limits_given z past inode is =
-    let f = following_is (most 1 past) inode is in
+    let f = following_is (greatest_inode past) inode is in
     let same = f.0 in
-    let high = most_high 1 past in
+    let high = inode_one past in
     record { low = omega arith; high = f.1; above = all_below inode past (omega arith) }
 
 present_below : (past : List Node) (i v : ℕ) (e : Entry) → entry past i ≡ Some e → AllByRecursion (λ n. n.inode < v) past → i < v

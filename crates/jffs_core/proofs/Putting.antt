@@ -1,6 +1,7 @@
 -- One node more: what the core knows then.
-use Rattle.std.proofs.Common.{◌≡◌, inr, ℕ, ◌+◌, ◌<◌, ◌≤◌, ◌/◌, ◌==◌, Bool, true, ◌&&◌, List, [], ◌∷◌, max, fold, refl, sym, ap, subst, ◌∙◌, arith}
+use Rattle.std.proofs.Common.{◌≡◌, inr, ℕ, ◌+◌, ◌<◌, ◌≤◌, ◌/◌, ◌==◌, Bool, true, ◌&&◌, List, [], ◌∷◌, max, refl, sym, ap, subst, ◌∙◌, arith}
 use Rattle.std.specs.List.{list_all, AllByRecursion}
+use Rattle.std.proofs.Math.Nat.{max_comm}
 use Rattle.std.proofs.lemmas.Bool.{and_parts, and_from}
 use Rattle.jffs_node.specs.declared.node.Node.{Node}
 use Rattle.jffs_node.specs.Record.{record_len, dsize, is_lawful, is_unmount}
@@ -15,7 +16,7 @@ use Rattle.jffs_log.specs.declared.room.Room.{Room}
 use Rattle.jffs_log.specs.declared.room.Room.TheVariants as rooms
 use Rattle.jffs_flash.specs.Device.{Device as FlashDevice}
 use Rattle.jffs_log.specs.LogState.{LogState, IsSameLog, MayAppend, Appended}
-use Rattle.jffs_log.specs.Room.{has_room, following, next_inode, limits as limits_of}
+use Rattle.jffs_log.specs.Room.{has_room, following, greatest_inode, next_inode, limits as limits_of}
 use Rattle.jffs_log.specs.LogIndex.{HasSizes, IsLogIndex, IsSameLogIndex, layout_in}
 use Rattle.jffs_log.specs.Cleaning.{Layout, put, is_history, versions_fall, keeps_length}
 use Rattle.jffs_log.specs.RoomLaws.{IsSound, suits_room}
@@ -47,17 +48,11 @@ offsets_kept past n tree is h =
     ap (λ t. keeps_offsets_in t n) is ∙ (trees_test_as_nodes past n h.lawful.each.0).1 ∙ fits.2
 
 -- The numbers that come next.
-pub fold_max : (a b : ℕ) (past : List Node) → fold (λ most n. max most n.inode) (max a b) past ≡ max (fold (λ most n. max most n.inode) a past) b
-fold_max a b [] = refl
-fold_max a b (n ∷ past) =
-    let turn : max (max a b) n.inode ≡ max (max a n.inode) b = omega arith in
-    ap (λ k. fold (λ most (m : Node). max most m.inode) k past) turn ∙ fold_max (max a n.inode) b past
-
 pub counted : (z : ℕ) (past : List Node) (n : Node) (old new : Limits) → old ≡ limits_of z past → new.data_max ≡ old.data_max → new.next_version ≡ following n.version
     → ((most : ℕ) → old.next_inode ≡ following most → new.next_inode ≡ following (max most n.inode)) → new ≡ limits_of z (n ∷ past)
 counted z past n old new is data_max version inode =
-    let most = fold (λ most (m : Node). max most m.inode) 1 past in
-    let numbers : new.next_inode ≡ next_inode (n ∷ past) = inode most (ap (λ (l : Limits). l.next_inode) is) ∙ ap following (sym (fold_max 1 n.inode past)) in
+    let most = greatest_inode past in
+    let numbers : new.next_inode ≡ next_inode (n ∷ past) = inode most (ap (λ (l : Limits). l.next_inode) is) ∙ ap following (max_comm most n.inode) in
     let most_data : new.data_max ≡ (limits_of z past).data_max = data_max ∙ ap (λ (l : Limits). l.data_max) is in
     λ i. record { data_max = most_data i; next_inode = numbers i; next_version = version i }
 

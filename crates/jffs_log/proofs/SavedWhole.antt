@@ -19,7 +19,7 @@ use Rattle.jffs_log.specs.Image.{Sector, Placed, sector_of, placed_from, records
 use Rattle.jffs_log.specs.LogIndex.{ref_of}
 use Rattle.jffs_log.specs.Salvage.{readable_in, version_at, Sifted, sift, sifted, IsSalvaged, IsWhole}
 use Rattle.jffs_log.specs.Scan.{Scanned, versions_rise, scan}
-use Rattle.jffs_log.specs.ScanFound.{keeps_form_after}
+use Rattle.jffs_tree.specs.Check.{keeps_form}
 use Rattle.jffs_log.specs.Volume.{split, sectors_in}
 use Rattle.jffs_log.proofs.append.Puts.{map_all}
 use Rattle.jffs_log.proofs.erase.Erased.{blank_sector}
@@ -27,7 +27,7 @@ use Rattle.jffs_log.proofs.Histories.{histories_are_scanned}
 use Rattle.jffs_log.proofs.ring.Ring.{Numbered}
 use Rattle.jffs_log.proofs.scans.MountHistory.{IsLawful, log_lawful, mounts_are_histories}
 use Rattle.jffs_log.proofs.scans.MountedLog.{Bytes, dropped_bytes, each_numbered, each_turned, nodes_mapped, ok_same, reversed, scan_parts}
-use Rattle.jffs_log.proofs.scans.ScanFold.{sized, next_fits, older_fit}
+use Rattle.jffs_log.proofs.scans.ScanFold.{next_fits, older_fit}
 
 -- Erased sectors have no records, so those of all sectors are those of the log.
 abbrev IsEmptyIfErased : Sector → Type 0
@@ -172,7 +172,7 @@ all_taken taken [] fits lawful = ap (λ (xs : List Placed). taken_all xs) (sym (
 all_taken taken (p ∷ ps) fits lawful =
     let past = past_of taken in
     let here = older_fit (reverse (nodes_of ps)) (p.node ∷ past) (ap each_fits (sym (next_past taken ps p)) ∙ fits) in
-    let allowed = (and_parts (keeps_form_after (sized past) p.node) (can_apply (tree_of past) p.node) (next_fits past p.node lawful.0 here)).1 in
+    let allowed = (and_parts (keeps_form past p.node) (can_apply (tree_of past) p.node) (next_fits past p.node lawful.0 here)).1 in
     let step : sift (taken_all taken) p ≡ taken_all (taken ++ p ∷ []) = ap (λ t. cond t (taken_all (taken ++ p ∷ [])) (record { taken = taken; left_out = p ∷ [] })) allowed in
     let more = append_assoc taken (p ∷ []) ps in
     ap (λ (s : Sifted). fold sift s ps) step

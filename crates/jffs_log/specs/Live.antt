@@ -15,15 +15,15 @@ abbrev pub live_log : ℕ → ℕ → List ℕ → List Placed
 live_log count len image = log_of (sectors_in count len image)
 
 -- no bad record follows the records
-abbrev pub IsSound : Read → Type 0
-IsSound (Closed n length) = Unit {0}
-IsSound Free = Unit {0}
-IsSound Torn = Unit {0}
-IsSound (Bad why) = ⊥
+abbrev pub IsGoodEnding : Read → Type 0
+IsGoodEnding (Closed n length) = Unit {0}
+IsGoodEnding Free = Unit {0}
+IsGoodEnding Torn = Unit {0}
+IsGoodEnding (Bad why) = ⊥
 
 -- no bad record, and the erased sectors are one run
 pub record IsReadable (sectors : List Sector) : Type 0 where
-  pub sound : AllByRecursion (λ s. IsSound s.reading.ending) sectors
+  pub sound : AllByRecursion (λ s. IsGoodEnding s.reading.ending) sectors
   pub erased : list_any (λ s. s.erased) sectors ≡ true
   pub run : is_one_run sectors ≡ true
 

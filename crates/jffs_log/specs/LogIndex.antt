@@ -14,7 +14,7 @@ use Rattle.jffs_log.specs.Image.{free_of_tail}
 use Rattle.jffs_log.specs.Cleaning.{Layout, layout_of}
 use Rattle.jffs_log.specs.Volume.{sectors_in}
 use Rattle.jffs_log.specs.Ring.{IsRing}
-use Rattle.jffs_log.specs.Live.{IsSound, IsReadable, IsOpenSector, live_log}
+use Rattle.jffs_log.specs.Live.{IsGoodEnding, IsReadable, IsOpenSector, live_log}
 
 -- what the index has of a record
 abbrev pub ref_of : Placed → RecordRef
@@ -46,7 +46,7 @@ pub record Describes (count len : ℕ) (image : List ℕ) (first many tail used 
   pub blank : List (ℕ × Sector)
   pub ring : IsRing first (sectors_in count len image) held blank
   pub counted : length held ≡ many
-  pub sound : AllByRecursion (λ s. IsSound s.reading.ending) (sectors_in count len image)
+  pub sound : AllByRecursion (λ s. IsGoodEnding s.reading.ending) (sectors_in count len image)
   pub room : (free ≡ 0) ⊎ HasTail count len image held tail used free
   pub exact : free ≡ free_of_tail len (last_or None held)
   pub listed : records ≡ map ref_of (flat_map records_in held)

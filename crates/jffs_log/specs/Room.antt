@@ -1,6 +1,6 @@
 -- Weight, room, and the numbers that come next.
 use Rattle.std.specs.Prelude.{ℕ, ◌+◌, ◌-◌, ◌*◌, ◌/◌, ◌^◌, Bool, ◌||◌, nat_le, nat_lt, List, [], ◌∷◌}
-use Rattle.std.specs.Prelude.{fold, filter, sum_by, max, Option, Some, None, if◌then◌else◌}
+use Rattle.std.specs.Prelude.{filter, sum_by, max, Option, Some, None, if◌then◌else◌}
 use Rattle.jffs_node.specs.declared.node.Node.{Node}
 use Rattle.jffs_node.specs.Record.{record_len}
 use Rattle.jffs_tree.specs.declared.wish.Limits.{Limits}
@@ -48,9 +48,14 @@ abbrev pub next_version : List Node → Option ℕ
 next_version [] = Some 1
 next_version (n ∷ past) = following n.version
 
--- the number after the greatest inode, where one is left
+-- the greatest inode of any node, at least that of the root
+abbrev pub greatest_inode : List Node → ℕ
+greatest_inode [] = 1
+greatest_inode (n ∷ nodes) = max n.inode (greatest_inode nodes)
+
+-- the number after it, where one is left
 abbrev pub next_inode : List Node → Option ℕ
-next_inode past = following (fold (λ most n. max most n.inode) 1 past)
+next_inode past = following (greatest_inode past)
 
 -- the most bytes of data that a record of a quarter of a sector has
 abbrev pub data_max : ℕ → ℕ

@@ -1,12 +1,11 @@
 -- What a scan answers: the index and the numbers that come next, or the cause of its refusal.
-use Rattle.std.specs.Prelude.{◌≡◌, ℕ, ◌<◌, Bool, false, not, ◌||◌, max, List, [], ◌∷◌, get_or}
-use Rattle.std.specs.Prelude.{true, flat_map, is_some, Result, Ok, Err}
-use Rattle.std.specs.List.{AllByRecursion, list_any}
+use Rattle.std.specs.Prelude.{◌≡◌, ℕ, ◌<◌, Bool, true, List, [], ◌∷◌, get_or, flat_map}
+use Rattle.std.specs.Prelude.{Result, Ok, Err}
+use Rattle.std.specs.List.{AllByRecursion}
 use Rattle.jffs_node.specs.declared.node.Node.{Node}
-use Rattle.jffs_node.specs.Record.{is_file}
 use Rattle.jffs_tree.specs.declared.wish.Limits.{Limits}
 use Rattle.jffs_tree.specs.Origin.{Tree, tree_of}
-use Rattle.jffs_tree.specs.Check.{each_fits}
+use Rattle.jffs_tree.specs.Check.{each_fits, has_second_form}
 use Rattle.jffs_log.specs.declared.folding.MadeTree.{MadeTree}
 use Rattle.jffs_log.specs.declared.log_index.LogIndex.{LogIndex}
 use Rattle.jffs_log.specs.declared.scanning.ScanWhy.{ScanWhy}
@@ -25,15 +24,6 @@ last_version [] = 0
 last_version (n ∷ []) = n.version
 last_version (n ∷ m ∷ nodes) = last_version (m ∷ nodes)
 
--- the greatest inode of any node, at least that of the root
-abbrev pub greatest_inode : List Node → ℕ
-greatest_inode [] = 1
-greatest_inode (n ∷ nodes) = max n.inode (greatest_inode nodes)
-
--- a file's node of the first form comes before all nodes of the second
-abbrev pub keeps_form_after : Bool → Node → Bool
-keeps_form_after has_sizes n = not (is_file n.kind) || n.deleted || is_some n.size || not has_sizes
-
 -- the nodes of the sectors, one after another
 abbrev pub nodes_held : List (ℕ × Sector) → List Node
 nodes_held held = flat_map (λ s. s.1.reading.nodes) held
@@ -43,7 +33,7 @@ nodes_held held = flat_map (λ s. s.1.reading.nodes) held
 pub record IsMadeBy (past : List Node) (made : MadeTree) : Type 0 where
   pub tree : made.tree ≡ tree_of past
   pub fit : each_fits past ≡ true
-  pub sizes : made.has_sizes ≡ list_any (λ m. is_some m.size) past
+  pub sizes : made.has_sizes ≡ has_second_form past
 
 -- The scan of the image, whose elements are bytes, with the index that describes it. The log begins
 -- with its oldest sector, and where it has none, since all are erased, with sector 0.

@@ -6,12 +6,11 @@ ghost use Rattle.std.specs.List.{AllByRecursion};
 ghost use Rattle.jffs_node.specs.declared.node.Node.{Node};
 ghost use Rattle.jffs_node.specs.Record.{is_lawful};
 ghost use Rattle.jffs_tree.specs.Origin.{tree_of};
-ghost use Rattle.jffs_tree.specs.Check.{each_fits, makes_tree};
+ghost use Rattle.jffs_tree.specs.Check.{each_fits, makes_tree, keeps_form_after};
 ghost use Rattle.jffs_tree.specs.After.{can_apply, keeps_offsets_in};
 ghost use Rattle.jffs_log.specs.Scan.{versions_rise};
-ghost use Rattle.jffs_log.specs.Room.{following};
-ghost use Rattle.jffs_log.specs.ScanFound.{last_version, greatest_inode, keeps_form_after};
-ghost use Rattle.jffs_log.specs.ScanFound.{IsMadeBy, nodes_held};
+ghost use Rattle.jffs_log.specs.Room.{following, greatest_inode};
+ghost use Rattle.jffs_log.specs.ScanFound.{last_version, IsMadeBy, nodes_held};
 ghost use Rattle.jffs_node.specs.declared.layout.TheConstants.{HEADER_LEN};
 
 use crate::scanning::ScanWhy;

@@ -19,7 +19,7 @@ use Rattle.jffs_log.specs.Cleaning.{in_last}
 use Rattle.jffs_log.specs.Sector.{spellings}
 use Rattle.jffs_log.specs.Volume.{sector_bytes, sectors_in}
 use Rattle.jffs_log.specs.Ring.{IsRing, IsAt}
-use Rattle.jffs_log.specs.Live.{IsSound, IsReadable, IsOpenSector, live_log}
+use Rattle.jffs_log.specs.Live.{IsGoodEnding, IsReadable, IsOpenSector, live_log}
 use Rattle.jffs_log.specs.Gate.{IsWritten}
 use Rattle.jffs_log.specs.LogIndex.{ref_of, HasTail, Describes, placed_at}
 use Rattle.jffs_log.proofs.ring.SectorSpellings.{length_spellings, rest_fits, record_long}
@@ -124,18 +124,18 @@ described_live count len image first many tail used free records h = ring_live f
 
 -- the sectors stay sound
 sound_whole : (count len : ℕ) (image : List ℕ) (k : ℕ) (nodes : List Node) (free : ℕ) (o : IsOpenSector count len image k nodes free) (n : Node) (lawful : is_lawful n ≡ true) (fits : fits_rest n.kind (dsize n) (len / 4) free ≡ true)
-    → AllByRecursion (λ s. IsSound s.reading.ending) (sectors_in count len image) → AllByRecursion (λ s. IsSound s.reading.ending) (sectors_in count len (replaced (k * len + sum_by record_len nodes) (spelling n) image))
+    → AllByRecursion (λ s. IsGoodEnding s.reading.ending) (sectors_in count len image) → AllByRecursion (λ s. IsGoodEnding s.reading.ending) (sectors_in count len (replaced (k * len + sum_by record_len nodes) (spelling n) image))
 sound_whole count len image k nodes free o n lawful fits sound =
     let short = record_short count len image k nodes free o n lawful fits in
     let long = length_spelled n lawful in
     let reads = whole_reads count len image k nodes free o n lawful fits in
-    subst (AllByRecursion (λ s. IsSound s.reading.ending)) (sym (sectors_after count len image k nodes free o (spelling n) (omega arith)))
-    (sound_set (sectors_in count len image) k (sector_of (sector_after count len image k nodes free o (spelling n))) sound (subst (λ (s : Sector). IsSound s.reading.ending) (sym reads) tt))
+    subst (AllByRecursion (λ s. IsGoodEnding s.reading.ending)) (sym (sectors_after count len image k nodes free o (spelling n) (omega arith)))
+    (sound_set (sectors_in count len image) k (sector_of (sector_after count len image k nodes free o (spelling n))) sound (subst (λ (s : Sector). IsGoodEnding s.reading.ending) (sym reads) tt))
 
 sound_part : (count len : ℕ) (image : List ℕ) (k : ℕ) (nodes : List Node) (free : ℕ) (o : IsOpenSector count len image k nodes free) (part : List ℕ) → length part ≤ free → 64 ≤ length part → get_or part 7 0 ≢ 0
-    → AllByRecursion (λ s. IsSound s.reading.ending) (sectors_in count len image) → AllByRecursion (λ s. IsSound s.reading.ending) (sectors_in count len (replaced (k * len + sum_by record_len nodes) part image))
+    → AllByRecursion (λ s. IsGoodEnding s.reading.ending) (sectors_in count len image) → AllByRecursion (λ s. IsGoodEnding s.reading.ending) (sectors_in count len (replaced (k * len + sum_by record_len nodes) part image))
 sound_part count len image k nodes free o part short long gate sound =
-    subst (AllByRecursion (λ s. IsSound s.reading.ending)) (sym (sectors_after count len image k nodes free o part short))
+    subst (AllByRecursion (λ s. IsGoodEnding s.reading.ending)) (sym (sectors_after count len image k nodes free o part short))
     (sound_set (sectors_in count len image) k (sector_of (sector_after count len image k nodes free o part)) sound (part_sound count len image k nodes free o part short long gate))
 
 abbrev pub Appended : (count len : ℕ) (image : List ℕ) (first many left : ℕ) (records : List RecordRef) (n : Node) (by_sector : List (List Node)) (k offset : ℕ) → Type 0

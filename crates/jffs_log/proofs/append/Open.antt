@@ -11,7 +11,7 @@ use Rattle.jffs_flash.specs.Image.{replaced}
 use Rattle.jffs_log.specs.Image.{Sector, sector_of}
 use Rattle.jffs_log.specs.Sector.{spellings, HoldsNodes}
 use Rattle.jffs_log.specs.Volume.{split, sector_bytes, sectors_in}
-use Rattle.jffs_log.specs.Live.{IsSound, IsOpenSector}
+use Rattle.jffs_log.specs.Live.{IsGoodEnding, IsOpenSector}
 use Rattle.jffs_log.proofs.ring.SectorSpellings.{length_spellings, rest_fits, reading_open, erased_open, not_erased, whole_written, part_written, part_open}
 use Rattle.jffs_log.proofs.ring.Volume.{sector_fits, length-sector, length-split, length-replaced, split_replaced, sectors_replaced}
 
@@ -105,10 +105,10 @@ module _ (count len : ℕ) (image : List ℕ) (k : ℕ) (nodes : List Node) (fre
     pub part_reads : reading (sector_after part) ≡ record { nodes = nodes; ending = cond (is_erased left) Free Torn }
     part_reads = reading_open (sector_after part) nodes left (part_written (sector_bytes len k image) part nodes free h.holds short) (part_open part (free - length part) long gate)
 
-    pub part_sound : IsSound (reading (sector_after part)).ending
-    part_sound = subst (λ (r : Reading). IsSound r.ending) (sym part_reads) (sound (is_erased left))
+    pub part_sound : IsGoodEnding (reading (sector_after part)).ending
+    part_sound = subst (λ (r : Reading). IsGoodEnding r.ending) (sym part_reads) (sound (is_erased left))
       where
-        sound : (b : Bool) → IsSound (cond b Free Torn)
+        sound : (b : Bool) → IsGoodEnding (cond b Free Torn)
         sound true = tt
         sound false = tt
 

@@ -10,7 +10,7 @@ use Rattle.jffs_log.specs.Image.{Sector, Placed, sector_of, placed_from, records
 use Rattle.jffs_log.specs.Sector.{HoldsNodes}
 use Rattle.jffs_log.specs.Volume.{split, sector_bytes, sectors_in}
 use Rattle.jffs_log.specs.Ring.{IsRing, IsAt, IsNext}
-use Rattle.jffs_log.specs.Live.{IsSound}
+use Rattle.jffs_log.specs.Live.{IsGoodEnding}
 use Rattle.jffs_log.specs.LogIndex.{ref_of, HasTail, Describes, placed_at, from_other}
 use Rattle.jffs_node.specs.declared.node.Node.{Node}
 use Rattle.jffs_node.specs.Record.{record_len}
@@ -141,7 +141,7 @@ oldest_erased count len image first many tail used free next records h several i
         subst (λ ss. IsRing next ss rest (h.blank ++ (o.0, s) ∷ [])) (ap (λ k. set sectors k s) number ∙ sym changed) turned_ring in
         let both : map ref_of (flat_map records_in h.held) ≡ map ref_of (records_in o) ++ map ref_of (flat_map records_in rest) =
         ap (λ (xs : List Numbered). map ref_of (flat_map records_in xs)) e ∙ map-append ref_of (records_in o) (flat_map records_in rest) in
-        let sound = subst (AllByRecursion (λ x. IsSound x.reading.ending)) (sym changed) (sound_set sectors first s h.sound (subst (λ (x : Sector). IsSound x.reading.ending) (sym blank) tt)) in
+        let sound = subst (AllByRecursion (λ x. IsGoodEnding x.reading.ending)) (sym changed) (sound_set sectors first s h.sound (subst (λ (x : Sector). IsGoodEnding x.reading.ending) (sym blank) tt)) in
         record {
           oldest = o;
           number = number;

@@ -17,7 +17,7 @@ use Rattle.jffs_log.specs.Image.{Sector, records_in, log_of, nodes_of, past_of, 
 use Rattle.jffs_log.specs.Scan.{Scanned, first_bad, bad_record, versions_rise, or_refuse, unless, scan_sectors, scan}
 use Rattle.jffs_log.specs.Volume.{split, sectors_in}
 use Rattle.jffs_log.specs.Ring.{IsRing}
-use Rattle.jffs_log.specs.Live.{IsSound, IsReadable}
+use Rattle.jffs_log.specs.Live.{IsGoodEnding, IsReadable}
 use Rattle.jffs_log.proofs.ring.Ring.{Numbered, sectors_of, ring_log, sectors_numbered}
 use Rattle.jffs_log.proofs.ring.Volume.{length-split}
 
@@ -31,7 +31,7 @@ any_blank : (held blank : List Numbered) → 1 ≤ length blank → AllByRecursi
 any_blank held [] some h = absurd (omega arith)
 any_blank held (b ∷ blank) some h = any_append held (b ∷ blank) ∙ or_right (list_any (λ s. s.erased) (sectors_of held)) _ (or_left b.1.erased (list_any (λ s. s.erased) (sectors_of blank)) h.0)
 
-pub ring_readable : (first : ℕ) (sectors : List Sector) (held blank : List Numbered) → IsRing first sectors held blank → AllByRecursion (λ s. IsSound s.reading.ending) sectors → IsReadable sectors
+pub ring_readable : (first : ℕ) (sectors : List Sector) (held blank : List Numbered) → IsRing first sectors held blank → AllByRecursion (λ s. IsGoodEnding s.reading.ending) sectors → IsReadable sectors
 ring_readable first sectors held blank h sound =
     let n = enumerate_from 0 sectors in
     record {
@@ -46,19 +46,19 @@ ring_readable first sectors held blank h sound =
       run = (ring_log first sectors held blank h).1;
     }
 
-pub sound_set : (sectors : List Sector) (k : ℕ) (s : Sector) → AllByRecursion (λ s. IsSound s.reading.ending) sectors → IsSound s.reading.ending → AllByRecursion (λ s. IsSound s.reading.ending) (set sectors k s)
+pub sound_set : (sectors : List Sector) (k : ℕ) (s : Sector) → AllByRecursion (λ s. IsGoodEnding s.reading.ending) sectors → IsGoodEnding s.reading.ending → AllByRecursion (λ s. IsGoodEnding s.reading.ending) (set sectors k s)
 sound_set [] k s h sound = h
 sound_set (x ∷ sectors) zero s h sound = (sound, h.1)
 sound_set (x ∷ sectors) (suc k) s h sound = (h.0, sound_set sectors k s h.1 sound)
 
 -- What a scan answers of a readable image.
-none_bad : (k at : ℕ) (r : Read) (later : Option ScanWhy) → IsSound r → bad_record k at r later ≡ later
+none_bad : (k at : ℕ) (r : Read) (later : Option ScanWhy) → IsGoodEnding r → bad_record k at r later ≡ later
 none_bad k at (Closed n len) later h = refl
 none_bad k at Free later h = refl
 none_bad k at Torn later h = refl
 none_bad k at (Bad why) later h = absurd h
 
-first_none : (k : ℕ) (sectors : List Sector) → AllByRecursion (λ s. IsSound s.reading.ending) sectors → first_bad k sectors ≡ None
+first_none : (k : ℕ) (sectors : List Sector) → AllByRecursion (λ s. IsGoodEnding s.reading.ending) sectors → first_bad k sectors ≡ None
 first_none k [] h = refl
 first_none k (s ∷ sectors) h = none_bad k (reading_len s.reading) s.reading.ending (first_bad (k + 1) sectors) h.0 ∙ first_none (k + 1) sectors h.1
 

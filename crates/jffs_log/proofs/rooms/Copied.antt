@@ -9,7 +9,7 @@ use Rattle.jffs_node.specs.declared.node.Node.{Node}
 use Rattle.jffs_node.specs.Record.{dsize, len_of_data, is_unmount, is_file, kind_byte}
 use Rattle.jffs_tree.specs.State.{Entry, State, at, bytes_of, state_of_past}
 use Rattle.jffs_tree.specs.Origin.{concerns, entry, size_in, writes, offset_before, origin, newest, held, versions_held, version_of, writers_of, is_live, IsTrueCopy}
-use Rattle.jffs_tree.specs.Check.{keeps_kind, keeps_offsets, keeps_form, each_fits}
+use Rattle.jffs_tree.specs.Check.{keeps_kind, keeps_offsets, keeps_form, has_second_form, each_fits}
 use Rattle.jffs_tree.specs.Decide.{entry_of, nobody}
 use Rattle.jffs_tree.proofs.Pointwise.{at-state}
 use Rattle.jffs_tree.proofs.Erasing.{present}
@@ -279,7 +279,7 @@ module _ (past : List Node) (h : is_history past ≡ true) (c : Node) (e : Entry
       (ap (λ o. option_map_or (λ x. eqb (kind_byte x.kind) (kind_byte c.kind)) o true) true_copy.present ∙ eq-eqb (kind_byte e.kind) (kind_byte c.kind) (ap kind_byte (sym true_copy.kind))) in
       let offsets : keeps_offsets past c ≡ true =
       or_left (not (is_file c.kind) || eqb (dsize c) c.rsize) (leb (size_in past c.inode) (c.offset + c.rsize)) (or_right (not (is_file c.kind)) (eqb (dsize c) c.rsize) same_len) in
-      let form : keeps_form past c ≡ true = stated (is_file c.kind) c.deleted c.size (list_any (λ m. is_some m.size) past) (length e.bytes) (true_copy.size ∙ ap (λ k. cond (is_file k) (Some (length e.bytes)) None) (sym true_copy.kind)) in
+      let form : keeps_form past c ≡ true = stated (is_file c.kind) c.deleted c.size (has_second_form past) (length e.bytes) (true_copy.size ∙ ap (λ k. cond (is_file k) (Some (length e.bytes)) None) (sym true_copy.kind)) in
       and_from (each_fits (c ∷ past) && versions_fall (c ∷ past)) (list_all keeps_length (c ∷ past))
       (and_from (each_fits (c ∷ past)) (versions_fall (c ∷ past))
       (each_fits_from c past b.0 kind offsets form)

@@ -1,31 +1,27 @@
 -- The tree of a log is made node by node.
 use Rattle.std.proofs.Common.{◌≡◌, ⊎_elim, ℕ, ◌+◌, ◌<◌, Bool, true, false, ◌&&◌, List, [], ◌∷◌, ◌++◌, length, take, drop, reverse, get_or, sym, ap, subst, ◌∙◌}
-use Rattle.std.specs.Prelude.{is_some}
-use Rattle.std.specs.List.{list_any, AllByRecursion}
+use Rattle.std.specs.List.{AllByRecursion}
 use Rattle.std.proofs.lemmas.Bool.{and_parts, and_from, cases_Bool}
 use Rattle.std.proofs.lemmas.List.{take_more, reverse-append, take-append-drop, append_assoc, append-nil}
 use Rattle.std.proofs.lemmas.Grind.{flat_map-append}
 use Rattle.jffs_node.specs.declared.node.Node.{Node}
 use Rattle.jffs_node.specs.Record.{is_lawful}
 use Rattle.jffs_tree.specs.Origin.{tree_of}
-use Rattle.jffs_tree.specs.Check.{each_fits, check, makes_tree}
+use Rattle.jffs_tree.specs.Check.{each_fits, check, makes_tree, keeps_form}
 use Rattle.jffs_tree.specs.After.{can_apply, keeps_kind_in, keeps_offsets_in}
 use Rattle.jffs_tree.proofs.Tested.{trees_test_as_nodes}
 use Rattle.jffs_tree.proofs.Entries.{fits_parts, each_fits_from}
 use Rattle.jffs_node.proofs.Each.{each_at}
 use Rattle.jffs_log.specs.Image.{Sector}
-use Rattle.jffs_log.specs.ScanFound.{keeps_form_after, nodes_held}
-
-abbrev pub sized : List Node → Bool
-sized past = list_any (λ m. is_some m.size) past
+use Rattle.jffs_log.specs.ScanFound.{nodes_held}
 
 -- a node fits the tree of those before it
 abbrev pub fits_after : List Node → Node → Bool
-fits_after past n = keeps_form_after (sized past) n && can_apply (tree_of past) n
+fits_after past n = keeps_form past n && can_apply (tree_of past) n
 
 pub fits_next : (past : List Node) (n : Node) → each_fits past ≡ true → fits_after past n ≡ true → each_fits (n ∷ past) ≡ true
 fits_next past n fits next =
-    let a = and_parts (keeps_form_after (sized past) n) (can_apply (tree_of past) n) next in
+    let a = and_parts (keeps_form past n) (can_apply (tree_of past) n) next in
     let b = and_parts (is_lawful n && keeps_kind_in (tree_of past) n) (keeps_offsets_in (tree_of past) n) a.1 in
     let d = and_parts (is_lawful n) (keeps_kind_in (tree_of past) n) b.0 in
     let same = trees_test_as_nodes past n d.0 in
@@ -35,7 +31,7 @@ pub next_fits : (past : List Node) (n : Node) → is_lawful n ≡ true → each_
 next_fits past n lawful fits =
     let parts = fits_parts n past fits in
     let same = trees_test_as_nodes past n lawful in
-    and_from (keeps_form_after (sized past) n) (can_apply (tree_of past) n) parts.3
+    and_from (keeps_form past n) (can_apply (tree_of past) n) parts.3
     (and_from (is_lawful n && keeps_kind_in (tree_of past) n) (keeps_offsets_in (tree_of past) n)
     (and_from (is_lawful n) (keeps_kind_in (tree_of past) n) lawful (same.0 ∙ parts.1))
     (same.1 ∙ parts.2))

@@ -16,7 +16,7 @@ use Rattle.jffs_log.specs.Volume.{split, sectors_in}
 use Rattle.jffs_log.specs.Scan.{Scanned, first_bad, versions_rise, or_refuse, unless, scan_sectors, scan}
 use Rattle.jffs_log.specs.ScanRead.{oldest_sector, AreRead, IsReadFault}
 use Rattle.jffs_log.specs.Room.{following, limits as limits_after}
-use Rattle.jffs_log.specs.ScanFound.{greatest_inode, last_version, nodes_held, scan_of, IsCause, IsFound, IsRefused}
+use Rattle.jffs_log.specs.ScanFound.{last_version, nodes_held, scan_of, IsCause, IsFound, IsRefused}
 use Rattle.jffs_log.proofs.ring.Ring.{Numbered, sectors_of, sectors_numbered, ring_lengths}
 use Rattle.jffs_log.proofs.ring.Volume.{length-split}
 use Rattle.jffs_log.proofs.ring.Live.{geometry_passed, bad_passed, rest_of_causes, answer_on, scan_reads}

@@ -1,16 +1,14 @@
 -- The numbers of a log are found node by node.
-use Rattle.std.proofs.Common.{◌≡◌, ℕ, ◌≤◌, Bool, true, ◌&&◌, ltb, max, List, [], ◌∷◌, ◌++◌, length, reverse, fold, refl, sym, ap, ◌∙◌, arith}
+use Rattle.std.proofs.Common.{◌≡◌, ℕ, ◌≤◌, Bool, true, ◌&&◌, ltb, max, List, [], ◌∷◌, ◌++◌, length, reverse, refl, sym, ap, ◌∙◌, arith}
 use Rattle.std.proofs.lemmas.List.{reverse-append, length-reverse}
-use Rattle.std.proofs.lemmas.List.Sums.{fold_push}
-use Rattle.std.proofs.Math.Nat.{max_comm}
 use Rattle.std.specs.List.{AllByRecursion}
 use Rattle.std.proofs.lemmas.Bool.{leb-true, lt-ltb}
 use Rattle.jffs_node.specs.declared.node.Node.{Node}
 use Rattle.jffs_node.specs.Record.{is_lawful}
 use Rattle.jffs_node.proofs.Lawfulness.{rules_of}
 use Rattle.jffs_log.specs.Scan.{versions_rise}
-use Rattle.jffs_log.specs.Room.{following, next_version}
-use Rattle.jffs_log.specs.ScanFound.{last_version, greatest_inode}
+use Rattle.jffs_log.specs.Room.{following, next_version, greatest_inode}
+use Rattle.jffs_log.specs.ScanFound.{last_version}
 
 -- the versions rise from this one on
 abbrev pub rise_from : ℕ → List Node → Bool
@@ -43,11 +41,15 @@ inode_one [] = omega arith
 inode_one (n ∷ nodes) = let more = inode_one nodes in omega arith
 
 -- the greatest inode is the same from the newest node on
-pub greatest_first : (nodes : List Node) → greatest_inode nodes ≡ fold (λ most n. max most n.inode) 1 (reverse nodes)
+greatest_snoc : (past : List Node) (n : Node) → greatest_inode (past ++ n ∷ []) ≡ max n.inode (greatest_inode past)
+greatest_snoc [] n = refl
+greatest_snoc (m ∷ past) n = let e = greatest_snoc past n in omega arith
+
+pub greatest_first : (nodes : List Node) → greatest_inode nodes ≡ greatest_inode (reverse nodes)
 greatest_first [] = refl
 greatest_first (n ∷ nodes) =
-    max_comm n.inode (greatest_inode nodes) ∙ ap (λ most. max most n.inode) (greatest_first nodes)
-    ∙ sym (ap (fold (λ (most : ℕ) (m : Node). max most m.inode) 1) (reverse-append (n ∷ []) nodes) ∙ fold_push (λ (most : ℕ) (m : Node). max most m.inode) 1 (reverse nodes) n)
+    ap (max n.inode) (greatest_first nodes)
+    ∙ sym (ap greatest_inode (reverse-append (n ∷ []) nodes) ∙ greatest_snoc (reverse nodes) n)
 
 version_snoc : (past : List Node) (n : Node) → 1 ≤ length past → next_version (past ++ n ∷ []) ≡ next_version past
 version_snoc [] n some = absurd (omega arith)

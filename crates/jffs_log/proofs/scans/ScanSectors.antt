@@ -10,7 +10,7 @@ use Rattle.jffs_log.specs.declared.scanning.ScanWhy.{ScanWhy}
 use Rattle.jffs_log.specs.declared.scanning.ScanWhy.TheVariants.{Geometry, Device, BadRecord, NoErased, Scattered, BadOrder, BadTree, Memory}
 use Rattle.jffs_log.specs.Image.{Sector, sector_of}
 use Rattle.jffs_log.specs.Volume.{split, sector_bytes, sectors_in}
-use Rattle.jffs_log.specs.Live.{IsSound}
+use Rattle.jffs_log.specs.Live.{IsGoodEnding}
 use Rattle.jffs_log.specs.Scan.{first_bad, bad_record}
 use Rattle.jffs_log.specs.ScanRead.{IsSpelled, AreRead, IsReadFault, bad_in}
 use Rattle.jffs_log.proofs.ring.Ring.{Numbered}
@@ -56,7 +56,7 @@ neither : (a b : Option ScanWhy) → or_later a b ≡ None → (a ≡ None) × (
 neither None b h = (refl, h)
 neither (Some why) b h = cc
 
-sound_ending : (k at : ℕ) (r : Read) → bad_record k at r None ≡ None → IsSound r
+sound_ending : (k at : ℕ) (r : Read) → bad_record k at r None ≡ None → IsGoodEnding r
 sound_ending k at (Closed n len) h = tt
 sound_ending k at Free h = tt
 sound_ending k at Torn h = tt
@@ -75,7 +75,7 @@ first_append k (s ∷ xs) ys none =
     ∙ first_append (k + 1) xs ys both.1
     ∙ ap (λ j. first_bad j ys) same
 
-pub all_sound : (k : ℕ) (sectors : List Sector) → first_bad k sectors ≡ None → AllByRecursion (λ s. IsSound s.reading.ending) sectors
+pub all_sound : (k : ℕ) (sectors : List Sector) → first_bad k sectors ≡ None → AllByRecursion (λ s. IsGoodEnding s.reading.ending) sectors
 all_sound k [] none = tt
 all_sound k (s ∷ sectors) none =
     let both = neither (bad_in (k, s)) (first_bad (k + 1) sectors) (sym (first_parts k s sectors) ∙ none) in

@@ -13,7 +13,7 @@ use Rattle.jffs_log.specs.LogIndex.{ref_of}
 use Rattle.jffs_log.specs.Scan.{versions_rise}
 use Rattle.jffs_log.specs.ScanRead.{number_of_tail, used_of_tail, oldest_sector}
 use Rattle.jffs_log.specs.Room.{limits as limits_after}
-use Rattle.jffs_log.specs.ScanFound.{IsRefused, greatest_inode, last_version, nodes_held}
+use Rattle.jffs_log.specs.ScanFound.{IsRefused, last_version, nodes_held}
 use Rattle.jffs_log.proofs.ring.Ring.{Numbered}
 use Rattle.jffs_log.proofs.append.Appended.{sizes_small}
 use Rattle.jffs_log.proofs.scans.MountHistory.{IsLawful}

@@ -1,6 +1,7 @@
 use Rattle.std.proofs.Common.{◌≡◌, ◌+◌, ◌≤◌, ◌++◌, max, drop}
 use Rattle.jffs_log.specs.Scan.{versions_rise}
-use Rattle.jffs_log.specs.ScanFound.{last_version, greatest_inode, nodes_held}
+use Rattle.jffs_log.specs.Room.{greatest_inode}
+use Rattle.jffs_log.specs.ScanFound.{last_version, nodes_held}
 use Rattle.jffs_log.proofs.scans.ScanNumbers.{rise_from, last_from}
 use Rattle.jffs_log.proofs.folding.GreatestNumbers.of.Given as goal
 

@@ -7,12 +7,12 @@ use Rattle.jffs_tree.specs.Origin.{tree_of}
 use Rattle.jffs_tree.specs.Check.{each_fits}
 use Rattle.jffs_tree.specs.After.{can_apply}
 use Rattle.jffs_tree.proofs.Applied.{lawful_suits}
-use Rattle.jffs_log.specs.ScanFound.{keeps_form_after}
-use Rattle.jffs_log.proofs.scans.ScanFold.{refused_at, fits_next, next_past, sized, fits_after}
+use Rattle.jffs_tree.specs.Check.{keeps_form_after, has_second_form}
+use Rattle.jffs_log.proofs.scans.ScanFold.{refused_at, fits_next, next_past, fits_after}
 use Rattle.jffs_log.proofs.folding.MadeTree.add.Goals as goal
 
 -- the test on the tree is the test on the nodes so far
-same_test : (old : Bool) (tree : _) (past : List Node) (n : Node) (answer : Bool) → tree ≡ tree_of past → old ≡ sized past → answer ≡ (keeps_form_after old n && can_apply tree n) → fits_after past n ≡ answer
+same_test : (old : Bool) (tree : _) (past : List Node) (n : Node) (answer : Bool) → tree ≡ tree_of past → old ≡ has_second_form past → answer ≡ (keeps_form_after old n && can_apply tree n) → fits_after past n ≡ answer
 same_test old tree past n answer is sizes h = sym (h ∙ (λ i. keeps_form_after (sizes i) n && can_apply (is i) n))
 
 pub apply-requires : goal.apply-requires
@@ -28,7 +28,7 @@ loop-node-preserved c = λ past made.
     record {
       tree = c.in-Ok.ensures.ok older w.tree ∙ ap tree_of (sym more);
       fit = ap each_fits more ∙ fits_next older n w.fit fits;
-      sizes = ap (λ b. c.loop-node.self.has_sizes || b) c.is_some.ensures ∙ ap (λ b. b || is_some n.size) w.sizes ∙ or_comm (sized older) (is_some n.size) ∙ ap sized (sym more);
+      sizes = ap (λ b. c.loop-node.self.has_sizes || b) c.is_some.ensures ∙ ap (λ b. b || is_some n.size) w.sizes ∙ or_comm (has_second_form older) (is_some n.size) ∙ ap has_second_form (sym more);
     }
 
 pub returns-then-not-fits-clause-refused : goal.returns-then-not-fits-clause-refused

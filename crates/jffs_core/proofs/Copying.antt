@@ -136,7 +136,8 @@ pub not_for_copy : (cause : Cause) → (cause ≡ causes.Memory) ⊎ (cause ≡ 
 not_for_copy _ (inl memory) = ((λ e. let same = sym memory ∙ e in cc), (λ e. let same = sym memory ∙ e in cc))
 not_for_copy _ (inr device) = ((λ e. let same = sym device ∙ e in cc), (λ e. let same = sym device ∙ e in cc))
 
--- One that had no room at its turn is among those that cleaning would make; and with two sectors erased each has room.
+-- One that had no room at its turn is among those that cleaning would make; and with two sectors
+-- erased each has room.
 pub copying_has_room : (nodes past after : List Node) (k copies : ℕ) (node : Node) (cause : Cause) (old middle new : CoreState) → RepresentsWorking past old → nodes ≡ oldest_records (layout_in old.image old.index).sectors
     → 2 ≤ length (layout_in old.image old.index).sectors → k < length nodes → node ≡ get_or nodes k node → HasCopied (take k nodes) past after copies old middle → CopyStopped cause after node middle new → SectorStopped cause past after old new
 copying_has_room nodes past after k copies node cause old middle new known oldest several below is h stopped = record {

@@ -24,7 +24,8 @@ pub erased_left : (past : List Node) (old new : LogState) (tree : Tree) (limits 
 erased_left past old new tree limits clean h several e =
     erased_past past old.device.image new.device.image old.index new.index tree limits clean h (e.history past h.tree_is h.history) e.works.told e.layout_is e.clean e.sizes several
 
--- What is left where the device failed in a call that appends nothing: an erase, of whose image nothing is known, or a read.
+-- What is left where the device failed in a call that appends nothing: an erase, of whose image
+-- nothing is known, or a read.
 pub erase_left : (past : List Node) (old new : LogState) (core : CoreState) (why : Cause) → IsPast past old.device.image old.index core.tree core.limits core.clean → EraseFailed why old new
     → core.erase_failed ≡ new.erase_failed → HasFailed (λ n. ⊥) past core
 erase_left past old new core why h f same = record {

@@ -77,8 +77,8 @@ DoesNothing _ t q = ⊥
 abbrev pub MayStand : Turn → Request → Outcome → List Node → Node → Type 0
 MayStand t q o after n = (o ≡ Refused Device) × IsInHand t q after n
 
--- The device programmed no more for an answer than what is written for the nodes that were added, and
--- for the node in hand where it failed.
+-- The device programmed no more for an answer than what is written for the nodes that were added,
+-- and for the node in hand where it failed.
 abbrev pub ProgramsFor : Turn → Request → Outcome → List Node → List Node → CoreState → CoreState
     → Type 0
 ProgramsFor t q o past after old new =

@@ -138,9 +138,9 @@ pub record MakingStopped (len : ℕ) (cause : Cause) (past after : List Node) (o
 abbrev pub OneLives : List Node → List Node → Type 0
 OneLives past nodes = (n : Node) × Among n nodes × (is_live past n.version ≡ true)
 
--- The cleaning of a sector stops for want of room only where a copy had none at its turn, for want of
--- a version only where a record has still to be copied, and for want of memory only before the first
--- copy, or where a version is left for the next.
+-- The cleaning of a sector stops for want of room only where a copy had none at its turn, for want
+-- of a version only where a record has still to be copied, and for want of memory only before the
+-- first copy, or where a version is left for the next.
 pub record WantsCopy (cause : Cause) (past after : List Node) (c : CoreState) : Type 0 where
   pub at_turn : cause ≡ NoSpace → copies_would_fit past c ≡ false
   pub to_copy : cause ≡ VersionsSpent

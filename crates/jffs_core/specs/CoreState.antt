@@ -7,9 +7,9 @@ use Rattle.jffs_log.specs.declared.log_index.LogIndex.{LogIndex}
 use Rattle.jffs_log.specs.LogIndex.{IsSameLogIndex}
 use Rattle.jffs_core.specs.declared.answer.Answer.{Answer}
 
--- The image of the device, how often it failed, how many erases were among that, whether one of them
--- since the mount, what it counts of its wear, the log's index, and the core's tree, numbers, flags
--- and answers.
+-- The image of the device, how often it failed, how many erases were among that, whether one of
+-- them since the mount, what it counts of its wear, the log's index, and the core's tree, numbers,
+-- flags and answers.
 pub record CoreState : Type 0 where
   pub image : List ℕ
   pub faults : ℕ
@@ -29,8 +29,8 @@ pub record CoreState : Type 0 where
 abbrev pub IsSameButCapacity : CoreState → CoreState → Type 0
 IsSameButCapacity old new = new ≡ record old { capacity = new.capacity }
 
--- The same in all but what was answered and the capacities: the image, the device's faults and wear,
--- the index with its erases, the tree, the numbers, and whether the core works.
+-- The same in all but what was answered and the capacities: the image, the device's faults and
+-- wear, the index with its erases, the tree, the numbers, and whether the core works.
 pub record IsSameButAnswers (old new : CoreState) : Type 0 where
   pub index : IsSameLogIndex old.index new.index
   pub rest : new

@@ -25,8 +25,8 @@ AnswersCopyLittle =
     (t : Turn) (q : Request) (o : Outcome) (after : List Node) (step : IsStep t q o after)
     → AreLittle t step.copies
 
--- By the device's own count no more is programmed for an answer, while the core works, than the records
--- of its copies and of its own node take, each with its gate once more.
+-- By the device's own count no more is programmed for an answer, while the core works, than the
+-- records of its copies and of its own node take, each with its gate once more.
 abbrev pub AnswersProgramLittle : Type 0
 AnswersProgramLittle =
     (mounted past : List Node) (old new : CoreState) (q : Request) (o : Outcome)

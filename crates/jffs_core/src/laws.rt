@@ -62,10 +62,10 @@ pub fn mounts_read_each_byte_once()
 {}
 
 /// Before an answer no more bytes are copied than the live records of the log took when the request
-/// was taken, with what was free in the tail; each copy takes 64 bytes at least. By the device's own
-/// count no more is programmed for it, while the core works, than the records of the copies and of the
-/// request's own node take, and their gates once more. A request that is refused adds no node, unless
-/// it was to make room.
+/// was taken, with what was free in the tail; each copy takes 64 bytes at least. By the device's
+/// own count no more is programmed for it, while the core works, than the records of the copies and
+/// of the request's own node take, and their gates once more. A request that is refused adds no
+/// node, unless it was to make room.
 pub fn answers_copy_little()
     ensures copies { AnswersCopyLittle }
     ensures programs { AnswersProgramLittle }

@@ -1,4 +1,5 @@
--- What a store holds once bytes in memory were written through, and what may be left of a call that failed.
+-- What a store holds once bytes in memory were written through, and what may be left of a call that
+-- failed.
 use Rattle.std.proofs.Common.{◌≡◌, ℕ, zero, suc, ◌+◌, ◌*◌, ◌<◌, ◌≤◌, List, [], ◌∷◌, ◌++◌, length, take, drop, replicate, Some, refl, sym, ap, subst, ◌∙◌, arith, append_assoc}
 use Rattle.std.specs.Prelude.{Option}
 use Rattle.std.proofs.lemmas.List.{length-take-le, length-replicate}

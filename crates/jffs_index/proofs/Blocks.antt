@@ -157,7 +157,8 @@ entries_without m k = test (map.get m k) refl
                 ∙ ap (cond (is_eq (request_cmp q k)) (Some v)) (map.get-remove request_total m k q)
                 ∙ again q (is_eq (request_cmp q k)) refl
 
--- the new blocks are the old ones, but for a slot of one block: of block b of a sender, in which slot p holds v
+-- the new blocks are the old ones, but for a slot of one block: of block b of a sender, in which
+-- slot p holds v
 pub record SetsSlot (old new : Blocks) (w b p : ℕ) (v : Option Outcome) (slots : Slots) : Type 0 where
   pub block : (q : ℕ × ℕ) → lookup (is_at (request_cmp q)) new ≡ cond (is_at (request_cmp (w, b)) q) (Some slots) (lookup (is_at (request_cmp q)) old)
   pub held : (i : ℕ) → slot slots i ≡ cond (eqb i p) v (slot_in (lookup (is_at (request_cmp (w, b))) old) i)

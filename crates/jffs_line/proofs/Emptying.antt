@@ -100,7 +100,8 @@ taken_there (q ∷ rs) r gone (g ∷ hs) e apart =
     let other : q.number ≢ r.number = λ same. All-head P g hs apart (sym (ap (λ (x : End). x.0) first) ∙ same) in
     cond-false _ _ _ (ne_eqb q.number r.number other) ∙ taken_there rs r gone hs rest (All-tail P g hs apart)
 
--- some rings are empty, those of the last hands, and what waited there is all of what waited of these senders
+-- some rings are empty, those of the last hands, and what waited there is all of what waited of
+-- these senders
 pub record AreEmptied (all_rings : List Ring) (all_hands : List RingHand) (rings : List Ring) (hands : List RingHand) (waiting : List Request) : Type 0 where
   pub done : List RingHand
   pub gone : List Ring

@@ -94,9 +94,9 @@ impl FoundRecord {
 
 /// Saves what the records of an image make, which has so many sectors of so many bytes; no volume
 /// need be found in it. Of each sector the records are read up to the first that isn't complete and
-/// lawful. Those of all sectors are taken in the order of their versions, and of one version in that
-/// of the image, each if the tree of those taken before it allows it. The records of an image that
-/// `scan` accepts are those of its log, and all are taken.
+/// lawful. Those of all sectors are taken in the order of their versions, and of one version in
+/// that of the image, each if the tree of those taken before it allows it. The records of an image
+/// that `scan` accepts are those of its log, and all are taken.
 ///
 /// *Precondition:* the image has the bytes of its sectors.
 ///

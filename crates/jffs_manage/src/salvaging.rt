@@ -21,9 +21,9 @@ const LOST: &str = "/lost+found-of-the-volume";
 /// [`salvage`] takes them. What is missing then, and what is saved elsewhere, goes to `errors`, a
 /// line for each, before anything is written. The volume's file is only read.
 ///
-/// `AnySize` where sectors of several sizes may be meant, `NoVolume` where no volume has these sizes,
-/// `Errors` where a line can't be written: nothing is saved. Else as `mount_copy` and [`save`], but
-/// for `Dots`.
+/// `AnySize` where sectors of several sizes may be meant, `NoVolume` where no volume has these
+/// sizes, `Errors` where a line can't be written: nothing is saved. Else as `mount_copy` and
+/// [`save`], but for `Dots`.
 pub(crate) fn save_damaged<Rt: Files + AllocGlobal, E: Write>(
     rt: &Rt,
     work: &Work<'_>,

@@ -14,8 +14,8 @@ pub(crate) struct Entry {
 }
 
 /// What stands at a path, and all below it: each directory before what is in it; of several with
-/// one name in a directory the one with the least inode. The root's path is given as the empty text.
-/// `Memory` where allocation failed.
+/// one name in a directory the one with the least inode. The root's path is given as the empty
+/// text. `Memory` where allocation failed.
 pub(crate) fn below(
     alloc: Global,
     tree: &Tree,

@@ -135,7 +135,8 @@ done_too start replies after n h s is =
       is = is ∙ ap (λ x. apply x n) same ∙ node_done h.turn h.reply.request after n h.node ∙ ap (λ x. done n.inode x h.reply.request.wish) (sym same);
     }
 
--- where the core failed, but not in an erase, they are done, and at most one that was answered Device besides
+-- where the core failed, but not in an erase, they are done, and at most one that was answered
+-- Device besides
 pub turned_failed :
     (before after : Device) (start : CoreState) (fresh : IsFresh before start) (turns : LeftByTurns start after)
     → turns.core.failed ≡ true → after.failed_erases ≡ before.failed_erases

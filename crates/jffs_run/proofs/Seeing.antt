@@ -23,7 +23,8 @@ use Rattle.jffs_index.proofs.Seen.{answers_show_their_nodes}
 use Rattle.jffs_serve.specs.Replies.{Reply}
 use Rattle.jffs_run.specs.Started.{IsLooking}
 
--- what is left of a reader's end after the last look is what its path reads in a beginning of the history
+-- what is left of a reader's end after the last look is what its path reads in a beginning of the
+-- history
 pub has_seen :
     (published history told : History) (answered : ℕ) (index : Index) (statements : List ReaderStatement) (slot : ℕ)
     (handle : PromisedHandle ReaderStop Looks) (stop : ReaderStop) (result : ReaderEnd)

@@ -40,9 +40,9 @@ numbers_of sender (answer ∷ answers) =
 -- From whatever history the core represented at the start, these requests were answered in a chain
 -- of turns, to the core at the end, which left the device as it is, of the same sizes, with so many
 -- erases at most.
--- How serving ended is what the answers say, of which the first that answers an Unmount is the last.
--- There is an end for each reader's statement: it saw what its path reads after a beginning of the
--- answers, from the tree at the start on, or counts as one that saw nothing.
+-- How serving ended is what the answers say, of which the first that answers an Unmount is the
+-- last. There is an end for each reader's statement: it saw what its path reads after a beginning
+-- of the answers, from the tree at the start on, or counts as one that saw nothing.
 pub record IsRun (start : CoreState) (account : Account) : Type 0 where
   pub replies : List Reply
   pub each_replies : AllReply replies

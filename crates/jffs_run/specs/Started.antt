@@ -53,8 +53,8 @@ module _ {H : Type 0} (g : Hand.Ghosts H) where
   abbrev pub IsStarted : List Writer → ℕ → Writing H → Type 0
   IsStarted script slot one = HasWriting (commands_at script slot) one
 
-  -- the cleaner's hand, which has handed nothing in: here, or in a thread, where it is given rounds;
-  -- or back from one that couldn't be made
+  -- the cleaner's hand, which has handed nothing in: here, or in a thread, where it is given
+  -- rounds; or back from one that couldn't be made
   abbrev pub IsCleaning : Option ℕ → H → Cleaning H → Type 0
   IsCleaning rounds hand (Thread handle) = (handle.promise.hand.value ≡ hand) × (rounds ≢ None)
   IsCleaning rounds hand (Rest there) = (there ≡ hand) × (g.accepted hand ≡ [])

@@ -13,8 +13,8 @@ use Rattle.jffs_run.specs.Turns.{InRun}
 use Rattle.jffs_run.specs.Sessions.{HadSession, Stretch, Sessions}
 
 -- Since the start the sectors were erased around the ring, from the one on that the log began with,
--- by the device's own count none more often: so of any two the one was erased at most once more often
--- than the other.
+-- by the device's own count none more often: so of any two the one was erased at most once more
+-- often than the other.
 pub record IsWornEvenly (start now : CoreState) : Type 0 where
   pub erases : ErasesInTurn start now
   pub even : (j k : ℕ) → j < start.index.sectors → k < start.index.sectors

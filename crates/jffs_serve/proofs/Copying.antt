@@ -106,7 +106,8 @@ record_read more max rest n len is = subst (λ (r : Read). (elim r as (λ _. Rea
   | Bad reason ↦ record { nodes = []; ending = Bad reason }
 ]).nodes ≡ n ∷ (reading_of more max (drop len rest)).nodes) is refl
 
--- where some of what is left to come are some of all after those that there are, so it is after one record more
+-- where some of what is left to come are some of all after those that there are, so it is after one
+-- record more
 pub image_goes_on :
     (tree : Tree) (all : List Copying) (count left max : ℕ) (rest rest' : List ℕ) (n : Node) (len : ℕ) (old new : List Copying)
     → Closed n len ≡ found max rest → rest' ≡ drop len rest → count ≡ suc left → KeepsCopy tree n old new

@@ -94,7 +94,8 @@ in_order_after : (replies : List Reply) (now e : Option Unmounted) → (StopsAt 
 in_order_after replies now None goes_on s = goes_on s
 in_order_after replies now (Some ending) goes_on s = subst AllReply (sym s.0) tt
 
--- where serving stopped at the first reply that ends it, none stands after one that closed the session
+-- where serving stopped at the first reply that ends it, none stands after one that closed the
+-- session
 pub stopped_in_order : (replies : List Reply) (now : Option Unmounted) → StopsAt None replies now → AllByRecursion Replies replies → AllReply replies
 stopped_in_order [] now stops each = tt
 stopped_in_order (r ∷ replies) now stops each = (

@@ -55,8 +55,8 @@ pub record HasReplied (start : Start) (core : CoreState) (unsent : Option Pendin
   pub lawful : (mounted past : List Node) → Represents mounted past start.core
       → RunsTo start.core core mounted past replies
 
--- What was replied up to some moment, and then what was replied from there on, was replied since the
--- start.
+-- What was replied up to some moment, and then what was replied from there on, was replied since
+-- the start.
 abbrev pub SessionsGoOn : Type 0
 SessionsGoOn =
     (start : Start) (old new : CoreState) (unsent unsent' : Option PendingStep)

@@ -53,10 +53,10 @@ pub record IsRequested (volume : Volume) (replies : List Reply) (after : List No
 
 -- What a chain tells of the core at its end: it represents the history, on a device of the same
 -- sizes. Two erased sectors stay so, but for an answer that may not keep them. While the core
--- works, sectors were erased in turn, no more was programmed than the records of the nodes since the
--- start take, and the count of faults is the same; it has risen where the core failed meanwhile. Where an answer tells of a failure, the core has failed. A core that fails
--- meanwhile has nothing else in hand than an own copy, or the node of the request that was answered
--- Device.
+-- works, sectors were erased in turn, no more was programmed than the records of the nodes since
+-- the start take, and the count of faults is the same; it has risen where the core failed
+-- meanwhile. Where an answer tells of a failure, the core has failed. A core that fails meanwhile
+-- has nothing else in hand than an own copy, or the node of the request that was answered Device.
 pub record EndsSo (mounted past : List Node) (start core : CoreState) (replies : List Reply)
     (after : List Node) : Type 0 where
   pub sizes : HasSizes start.index.sectors start.index.sector_size core.index

@@ -12,8 +12,8 @@ pub fn replies_are_lawful()
     ensures { RepliesAreLawful }
 {}
 
-/// Serving goes on over any number of calls: what clause `served` of `serve` tells of two calls, one
-/// after the other, it tells of both together.
+/// Serving goes on over any number of calls: what clause `served` of `serve` tells of two calls,
+/// one after the other, it tells of both together.
 pub fn sessions_go_on()
     ensures replies { SessionsGoOn }
     ensures stops { StopsGoOn }
@@ -34,9 +34,9 @@ pub fn turns_are_real()
     ensures failed { FailedAnswersFailed }
 {}
 
-/// Where two sectors are erased when a request is taken: a fresh node is answered NoSpace only where
-/// the live records weigh (S - 4)(3Z/4 - 64) bytes, and an Unmount never is. Two are from a mount
-/// that found two on, up to the first answer Closed, Memory, VersionsSpent or Device.
+/// Where two sectors are erased when a request is taken: a fresh node is answered NoSpace only
+/// where the live records weigh (S - 4)(3Z/4 - 64) bytes, and an Unmount never is. Two are from a
+/// mount that found two on, up to the first answer Closed, Memory, VersionsSpent or Device.
 pub fn full_volumes_are_heavy()
     ensures fresh_then { NoSpaceIsHeavyThen }
     ensures unmounts_then { UnmountsHaveSpaceThen }

@@ -107,7 +107,8 @@ sum_by_name : (f : Named → ℕ) (names : List Named) → sum_by f (by_name nam
 sum_by_name f [] = refl
 sum_by_name f (a ∷ names) = sum_put f a (by_name names) ∙ ap (λ n. f a + n) (sum_by_name f names) ∙ sym (sum_by-cons f a names)
 
--- Two rising lists with the same sums are one: how many names are below a first one says that it is first in both.
+-- Two rising lists with the same sums are one: how many names are below a first one says that it is
+-- first in both.
 abbrev below_it : Named → Named → ℕ
 below_it a b = cond (less b a) 1 0
 

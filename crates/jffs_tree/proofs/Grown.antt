@@ -1,4 +1,5 @@
--- A tree that has at each inode what one more node makes of it is the tree of the nodes and that one.
+-- A tree that has at each inode what one more node makes of it is the tree of the nodes and that
+-- one.
 use Rattle.std.proofs.Common.{◌≡◌, ℕ, ◌+◌, ◌-◌, ◌<◌, true, false, cond, ◌&&◌, T, map, option_map, is_some, List, [], ◌∷◌, length, replicate, get_or, ⊎_elim, Option, Some, None, refl, sym, ap, subst, ◌∙◌, arith, nat_cmp, zero-add}
 use Rattle.std.specs.Ordering.{eq_by_cmp, is_lt}
 use Rattle.std.specs.List.{range_with_len}

@@ -34,7 +34,8 @@ pub record IsDirectoryNode (n : Node) : Type 0 where
   pub stated : n.size ≡ None
   pub range : HasNoRange n
 
--- A node that puts its inode in a directory that is there, under a name that no other inode has there.
+-- A node that puts its inode in a directory that is there, under a name that no other inode has
+-- there.
 pub record IsPut (past : List Node) (n : Node) : Type 0 where
   pub numbers : AreNumbers n.version n.writer n.seq
   pub stands : n.deleted ≡ false

@@ -33,7 +33,8 @@ none_of counts ordered v i none = ⊎_elim
     (λ some. let entry = entry_of counts ordered v i some in none entry.0 entry.1)
     (zero_or_more (mark_of counts v i))
 
--- Towards newer versions: the entries from the index on are spent, where they are of versions from `first` on.
+-- Towards newer versions: the entries from the index on are spent, where they are of versions from
+-- `first` on.
 pub record AreSpentFrom (counts : Counts) (first i : ℕ) : Type 0 where
   pub within : i ≤ length counts
   pub newer : (j : ℕ) (e : MarkKey × ℕ) → slice_get counts j ≡ Some e → j < i → first ≤ e.0.0.0
@@ -76,7 +77,8 @@ module _ (counts : Counts) (ordered : InOrder counts) (first n i : ℕ) (next : 
 pub none_from : (counts : Counts) → InOrder counts → (first : ℕ) → AreSpentFrom counts first 0 → (v i : ℕ) → first ≤ v → mark_of counts v i ≡ 0
 none_from counts ordered first walk v i low = none_of counts ordered v i (λ k at. walk.spent k (mark_key v i, mark_of counts v i) at (omega arith) low)
 
--- Towards older versions: the entries of a version before the index are spent, and none from there on is newer.
+-- Towards older versions: the entries of a version before the index are spent, and none from there
+-- on is newer.
 pub record AreSpentTo (counts : Counts) (v i : ℕ) : Type 0 where
   pub older : (j : ℕ) (e : MarkKey × ℕ) → slice_get counts j ≡ Some e → i ≤ j → e.0.0.0 ≤ v
   pub spent : (j : ℕ) (e : MarkKey × ℕ) → slice_get counts j ≡ Some e → j < i → e.0.0.0 ≡ v → e.1 ≡ 0

@@ -1,4 +1,5 @@
--- Where a version is of one inode's nodes alone, it is live in the tree where it is live in that inode.
+-- Where a version is of one inode's nodes alone, it is live in the tree where it is live in that
+-- inode.
 use Rattle.std.proofs.Common.{◌≡◌, ℕ, zero, suc, ◌+◌, ◌<◌, ◌⊎◌, ◌++◌, arith, Bool, true, false, cond, eqb, List, [], ◌∷◌, map, flat_map, option_map, option_to_list, ⊎_elim, Option, Some, None, refl, sym, ap, ◌∙◌}
 use Rattle.std.specs.List.{list_any, find, range_with_len}
 use Rattle.std.specs.Option.{option_map_or}

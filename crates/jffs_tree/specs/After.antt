@@ -82,8 +82,8 @@ abbrev pub keeps_kind_in : Tree → Node → Bool
 keeps_kind_in tree n = n.deleted
     || option_map_or (λ h. kind_byte h.entry.kind == kind_byte n.kind) (held_in tree n.inode) true
 
--- What a node must keep to be taken in: it has a name, unless it is an unmount node; its numbers
--- suit each other; and no byte after its range moves.
+-- What a node must keep to be taken in: only an unmount node is without a name; the numbers suit
+-- each other; and no byte after its range moves.
 abbrev pub suits_tree : Tree → Node → Bool
 suits_tree tree n =
     (is_unmount n.kind || is_some n.name) && numbers_hold n (dsize n) && keeps_offsets_in tree n

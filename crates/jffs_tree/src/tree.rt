@@ -57,8 +57,8 @@ impl Tree {
         }
     }
 
-    /// Takes in the next node; an unmount node changes nothing. Precondition: it has a name, unless
-    /// it is an unmount node; its numbers suit each other; and no byte after its range moves.
+    /// Takes in the next node; an unmount node changes nothing. Precondition: only an unmount node
+    /// is without a name; the numbers suit each other; and no byte after its range moves.
     /// `can_apply` tests that and more; what versions and kinds have to be is the matter of the
     /// list of nodes, and not needed here.
     ///

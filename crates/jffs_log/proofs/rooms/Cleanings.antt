@@ -211,7 +211,8 @@ many_left oldest [] is = absurd is
 many_left oldest (s ∷ []) is = absurd is
 many_left oldest (s ∷ t ∷ sectors) is = omega arith
 
--- Between two cleanings: `left` sectors are left of those that held the log, and what was live then weighed `weight`.
+-- Between two cleanings: `left` sectors are left of those that held the log, and what was live then
+-- weighed `weight`.
 pub record IsTurn (total z weight left : ℕ) (s : GcState) : Type 0 where
   pub sound : IsSound total z s
   pub two : 2 ≤ s.log.erased

@@ -73,7 +73,8 @@ is_origin_live past v i h =
     let e = origin_present past i h.0 m.0 m.1 in
     subst (λ w. is_live past w ≡ true) m.2 (origin_is_live past i h.0 e.0 m.0 e.1 h.1 m.1)
 
--- The newest node, and an origin, is one of the nodes and speaks of the inode; and bytes stay where they were written.
+-- The newest node, and an origin, is one of the nodes and speaks of the inode; and bytes stay where
+-- they were written.
 newest_among : (past : List Node) (i : ℕ) (m : Node) → newest past i ≡ Some m → Among m past × (concerns i m ≡ true)
 newest_among past i m h = let k = of_newest (λ n. Among n past) i past m (all_among (λ n. Among n past) past (λ n a. a)) h in (k.1, k.0)
 

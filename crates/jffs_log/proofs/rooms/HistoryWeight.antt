@@ -1,4 +1,5 @@
--- The live records of a log weigh what the live nodes of its history weigh, and as many live in a sector as the history has live there.
+-- The live records of a log weigh what the live nodes of its history weigh, and as many live in a
+-- sector as the history has live there.
 use Rattle.std.proofs.Common.{◌≡◌, ℕ, ◌+◌, suc, Bool, true, false, cond, ◌&&◌, eqb, List, [], ◌∷◌, length, filter, sum_by, inl, inr, refl, sym, ap, subst, ◌∙◌}
 use Rattle.std.proofs.lemmas.List.Sums.{sum_by-cons}
 use Rattle.jffs_node.specs.declared.node.Node.{Node}

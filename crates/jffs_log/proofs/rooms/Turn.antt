@@ -1,4 +1,5 @@
--- What is counted over one turn of cleaning: of the sectors that held the log at its start what is live, of those since opened all.
+-- What is counted over one turn of cleaning: of the sectors that held the log at its start what is
+-- live, of those since opened all.
 use Rattle.std.proofs.Common.{◌≡◌, ℕ, zero, suc, ◌+◌, ◌-◌, ◌*◌, ◌/◌, ◌≤◌, ◌<◌, Bool, true, false, List, [], ◌∷◌, ◌++◌, length, filter, flat_map, refl, sym, ap, subst, ◌∙◌, arith}
 use Rattle.std.specs.List.{AllByRecursion}
 use Rattle.std.proofs.Math.Nat.{mul-div-le}

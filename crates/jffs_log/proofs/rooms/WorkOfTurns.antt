@@ -20,7 +20,8 @@ use Rattle.jffs_log.proofs.append.Puts.{map_all, put_by, handled_by}
 use Rattle.jffs_log.proofs.Parts.{logs_weigh_less}
 use Rattle.jffs_log.proofs.rooms.Work.{newest_are, of_first}
 
--- What a turn may still copy: what is live in the `left` sectors that it may still clean, and what is free in the tail, where that is one of them.
+-- What a turn may still copy: what is live in the `left` sectors that it may still clean, and what
+-- is free in the tail, where that is one of them.
 pub pending : (Node → Bool) → ℕ → ℕ → List (List Node) → ℕ
 pending p free left [] = free
 pending p free zero (s ∷ sectors) = 0
@@ -106,7 +107,8 @@ each_last P n (s ∷ t ∷ sectors) h a = (a.0, each_last P n (t ∷ sectors) h 
 used_append : (xs ys : List Node) → used (xs ++ ys) ≡ used xs + used ys
 used_append xs ys = sum_by-append record_len xs ys
 
--- Of a turn: the history is lawful, the log holds records of it, and `left` of its sectors may still be cleaned.
+-- Of a turn: the history is lawful, the log holds records of it, and `left` of its sectors may
+-- still be cleaned.
 pub record IsTurning (left : ℕ) (s : GcState) : Type 0 where
   pub history : is_history s.past ≡ true
   pub known : AllByRecursion (λ nodes. AllByRecursion (λ n. Among n s.past) nodes) s.log.sectors

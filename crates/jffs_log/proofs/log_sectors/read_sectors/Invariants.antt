@@ -2,7 +2,8 @@ use Rattle.std.proofs.Common.{◌≡◌, ℕ, ◌*◌, ◌≤◌, length}
 use Rattle.jffs_log.specs.ScanRead.{AreRead}
 use Rattle.jffs_log.proofs.log_sectors.read_sectors.Given as goal
 
--- the sectors so far; the device is as it was, worn by nothing, and those to come can be read as often as before
+-- the sectors so far; the device is as it was, worn by nothing, and those to come can be read as
+-- often as before
 abbrev pub invariant-loop-sector : goal.invariant-loop-sector
 invariant-loop-sector g l = record {
   read : AreRead l.sector l.sector_size (g.F.Flash.device l.fn.flash).image l.found.items;

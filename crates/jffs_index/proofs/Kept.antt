@@ -23,7 +23,7 @@ use Rattle.jffs_index.specs.Shown.{Shown, opened, after_step, after_tested, fits
 use Rattle.jffs_index.specs.Histories.{view_of, extended, BeginsWith}
 use Rattle.jffs_index.specs.Pages.{page_index, history_of, IsFaithful, after_change, steps_of, Knows, Keeps, Sees}
 use Rattle.jffs_index.specs.Sights.{Sighted, sighted, opened_tree}
-use Rattle.jffs_index.specs.Writing.{IsSound, held}
+use Rattle.jffs_index.specs.Writing.{IsInStep, held}
 use Rattle.jffs_index.specs.Books.{head_of}
 use Rattle.jffs_index.proofs.Fronts.{prefix_shorter, prefix_rest, whole_of}
 
@@ -182,8 +182,8 @@ pub prefix_self : (xs ys : List Step) → xs ≡ ys → IsPrefix xs ys
 prefix_self xs ys e = ([], append-nil xs ∙ e)
 
 -- one more step is pending
-pub puts : (page : Page) (changes changes' : List Change) (s : Step) (book : Book) (logged : List Step) (known : Option Index) (head : Named) (count all more : ℕ) → IsSound page changes book logged known head count all
-    → changes' ≡ changes ++ Put s ∷ [] → more ≡ all + 1 → fits (view_of (extended (history_of page) (steps_of changes))) s ≡ true → IsSound page changes' book logged known head count more
+pub puts : (page : Page) (changes changes' : List Change) (s : Step) (book : Book) (logged : List Step) (known : Option Index) (head : Named) (count all more : ℕ) → IsInStep page changes book logged known head count all
+    → changes' ≡ changes ++ Put s ∷ [] → more ≡ all + 1 → fits (view_of (extended (history_of page) (steps_of changes))) s ≡ true → IsInStep page changes' book logged known head count more
 puts page changes changes' s book logged known head count all more sound is one next =
     let longer : steps_of changes' ≡ steps_of changes ++ s ∷ [] = ap steps_of is ∙ steps_put changes s in
     let here : view_of (extended (history_of page) (steps_of changes)) ≡ fold after_step page.view (steps_of changes) =
@@ -209,8 +209,8 @@ shows_more page changes changes' s is =
     ap (λ (z : List Step). view_of (extended h z)) longer ∙ (view-extended h (steps_of changes ++ s ∷ []) ∙ (fold-append after_step (view_of h) (steps_of changes) (s ∷ []) ∙ ap (λ (z : Shown). after_step z s) (sym (view-extended h (steps_of changes)))))
 
 -- what is pending after other changes with the same steps
-pub same_steps : (page : Page) (changes changes' : List Change) (book : Book) (logged : List Step) (known : Option Index) (head : Named) (count all : ℕ) → IsSound page changes book logged known head count all
-    → steps_of changes' ≡ steps_of changes → IsSound page changes' book logged known head count all
+pub same_steps : (page : Page) (changes changes' : List Change) (book : Book) (logged : List Step) (known : Option Index) (head : Named) (count all : ℕ) → IsInStep page changes book logged known head count all
+    → steps_of changes' ≡ steps_of changes → IsInStep page changes' book logged known head count all
 same_steps page changes changes' book logged known head count all sound is =
     record {
       faithful = sound.faithful;
@@ -224,9 +224,9 @@ same_steps page changes changes' book logged known head count all sound is =
     }
 
 -- all is published
-pub publishes : (page q next : Page) (changes all : List Change) (known known' : Option Index) (head : Named) (count total : ℕ) → IsSound page changes q.seen.book q.seen.log known head count total
+pub publishes : (page q next : Page) (changes all : List Change) (known known' : Option Index) (head : Named) (count total : ℕ) → IsInStep page changes q.seen.book q.seen.log known head count total
     → (held page changes q.seen.log).unlogged ≡ [] → all ≡ changes ++ Reach q.seen ∷ [] → next ≡ fold after_change page all → Sees known page next known' → (none : List Change) → none ≡ []
-    → IsSound next none q.seen.book q.seen.log known' head count total
+    → IsInStep next none q.seen.book q.seen.log known' head count total
 publishes page q next changes all known known' head count total sound whole is to sees none empty =
     let log : q.seen.log ≡ page.seen.log ++ steps_of changes = whole_of q.seen.log (page.seen.log ++ steps_of changes) sound.begins whole in
     let r = reached page q next changes all sound.faithful sound.fit sound.same_book log is to in
@@ -252,18 +252,18 @@ opens seat known x changes none next is =
     let same : next ≡ x = is ∙ ap (fold after_change x) none in turns seat known x next (ap page_index same) (subst IsFaithful (sym same))
 
 -- the change of page that publishes all
-pub publishing : (seat : ℕ) (page q next : Page) (changes all : List Change) (known known' : Option Index) (head : Named) (count total : ℕ) → IsSound page changes q.seen.book q.seen.log known' head count total
+pub publishing : (seat : ℕ) (page q next : Page) (changes all : List Change) (known known' : Option Index) (head : Named) (count total : ℕ) → IsInStep page changes q.seen.book q.seen.log known' head count total
     → (held page changes q.seen.log).unlogged ≡ [] → all ≡ changes ++ Reach q.seen ∷ [] → next ≡ fold after_change page all → TurnsAt Keeps seat known page next Sees
 publishing seat page q next changes all known known' head count total sound whole is to =
     let log : q.seen.log ≡ page.seen.log ++ steps_of changes = whole_of q.seen.log (page.seen.log ++ steps_of changes) sound.begins whole in
     let r = reached page q next changes all sound.faithful sound.fit sound.same_book log is to in turns seat known page next r.0 (λ _. r.1)
 
 -- nothing is published, and the last change stays pending
-pub unpublished : (page page' q : Page) (changes all : List Change) (book : Book) (logged : List Step) (known known' : Option Index) (head : Named) (count total : ℕ) → IsSound page changes book logged known head count total
-    → page' ≡ page → all ≡ changes ++ Reach q.seen ∷ [] → known' ≡ known → IsSound page' all book logged known' head count total
+pub unpublished : (page page' q : Page) (changes all : List Change) (book : Book) (logged : List Step) (known known' : Option Index) (head : Named) (count total : ℕ) → IsInStep page changes book logged known head count total
+    → page' ≡ page → all ≡ changes ++ Reach q.seen ∷ [] → known' ≡ known → IsInStep page' all book logged known' head count total
 unpublished page page' q changes all book logged known known' head count total sound same is knows =
-    let stays : IsSound page all book logged known head count total = same_steps page changes all book logged known head count total sound (ap steps_of is ∙ steps_reach changes q) in
-    subst (λ (z : Option Index). IsSound page' all book logged z head count total) (sym knows) (subst (λ (z : Page). IsSound z all book logged known head count total) (sym same) stays)
+    let stays : IsInStep page all book logged known head count total = same_steps page changes all book logged known head count total sound (ap steps_of is ∙ steps_reach changes q) in
+    subst (λ (z : Option Index). IsInStep page' all book logged z head count total) (sym knows) (subst (λ (z : Page). IsInStep z all book logged known head count total) (sym same) stays)
 
 pub at_fault : {E : Type 0} (r : Result (Unit {0}) E) (x : E) → r ≡ Err x → (page page' next : Page) (all all' : List Change) (known known' : Option Index)
     → MatchResult r (λ _. (page' ≡ next) × (all' ≡ [])) (λ _. (page' ≡ page) × (all' ≡ all)) → MatchResult r (λ _. Sees known page page' known') (λ _. known' ≡ known)
@@ -274,9 +274,9 @@ at_fault r x e page page' next all all' known known' values rule =
 
 -- what is left of a publish, whether it was refused or not
 pub published_or_not : {E : Type 0} (r : Result (Unit {0}) E) (page page' q next : Page) (changes all all' : List Change) (known known' : Option Index) (head : Named) (count total : ℕ)
-    → IsSound page changes q.seen.book q.seen.log known head count total → (held page changes q.seen.log).unlogged ≡ [] → all ≡ changes ++ Reach q.seen ∷ [] → next ≡ fold after_change page all
+    → IsInStep page changes q.seen.book q.seen.log known head count total → (held page changes q.seen.log).unlogged ≡ [] → all ≡ changes ++ Reach q.seen ∷ [] → next ≡ fold after_change page all
     → MatchResult r (λ _. (page' ≡ next) × (all' ≡ [])) (λ _. (page' ≡ page) × (all' ≡ all)) → MatchResult r (λ _. Sees known page page' known') (λ _. known' ≡ known)
-    → IsSound page' all' q.seen.book q.seen.log known' head count total
+    → IsInStep page' all' q.seen.book q.seen.log known' head count total
 published_or_not (Ok x) page page' q next changes all all' known known' head count total sound whole is to values rule =
     publishes page q page' changes all known known' head count total sound whole is (values.0 ∙ to) rule all' values.1
 published_or_not (Err x) page page' q next changes all all' known known' head count total sound whole is to values rule =
@@ -284,7 +284,7 @@ published_or_not (Err x) page page' q next changes all all' known known' head co
 
 -- a publish that isn't refused shows all that was put
 pub published_all : {E : Type 0} (r : Result (Unit {0}) E) (x : Unit {0}) → r ≡ Ok x → (page page' q next : Page) (changes all all' : List Change) (known : Option Index) (head : Named) (count total : ℕ)
-    → IsSound page changes q.seen.book q.seen.log known head count total → (held page changes q.seen.log).unlogged ≡ [] → all ≡ changes ++ Reach q.seen ∷ [] → next ≡ fold after_change page all
+    → IsInStep page changes q.seen.book q.seen.log known head count total → (held page changes q.seen.log).unlogged ≡ [] → all ≡ changes ++ Reach q.seen ∷ [] → next ≡ fold after_change page all
     → MatchResult r (λ _. (page' ≡ next) × (all' ≡ [])) (λ _. (page' ≡ page) × (all' ≡ all))
     → (history_of page' ≡ extended (history_of page) (steps_of changes)) × (steps_of all' ≡ [])
 published_all r x e page page' q next changes all all' known head count total sound whole is to values =

@@ -36,7 +36,7 @@ pub struct Inner {
 impl Model for Inner {
     ghost use Rattle.std.specs.Prelude.{drop};
     ghost use Rattle.left_right.specs.Sides.{view as known_at};
-    ghost use Rattle.jffs_index.specs.Writing.{Held, held, IsSound};
+    ghost use Rattle.jffs_index.specs.Writing.{Held, held, IsInStep};
 
     ghost Value = { Held };
 
@@ -44,7 +44,7 @@ impl Model for Inner {
         p.seen.log };
 
     ghost invariant = { λ p.
-        IsSound p.writer.desk.shown.value (drop p.writer.behind p.writer.log.items) p.seen.book
+        IsInStep p.writer.desk.shown.value (drop p.writer.behind p.writer.log.items) p.seen.book
         p.seen.log (known_at p.writer.desk.place) p.head p.logged p.put };
 }
 

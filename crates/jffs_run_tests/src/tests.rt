@@ -3,6 +3,7 @@
 mod calls;
 mod ending;
 mod gates;
+mod growths;
 mod hundred;
 mod lines;
 mod many;
@@ -239,6 +240,70 @@ fn input_without_end_is_given_up(rt: HostRuntime) -> Result<(), Fail> {
     let mut out = Vec::new(rt.alloc());
     assert_eq!(rt; run_program(&rt, &mut Endless, &mut out), 1);
     assert_eq!(rt; out.as_slice(), b"fault: Read\n".as_slice());
+    Ok(())
+}
+
+/// A stream that is interrupted before each byte, and gives or takes one at a time.
+#[derive(Drop)]
+struct Halting<S> {
+    stream: S,
+    interrupted: bool,
+}
+
+impl<S> Halting<S> {
+    fn new(stream: S) -> Halting<S> {
+        Halting {
+            stream,
+            interrupted: false,
+        }
+    }
+
+    /// Fails the first call, the third, and so on.
+    fn interrupt(&mut self) -> io::Result<()> {
+        self.interrupted = !self.interrupted;
+        if self.interrupted {
+            Err(io::Error::from(io::ErrorKind::Interrupted))
+        } else {
+            Ok(())
+        }
+    }
+}
+
+impl<S: Read> Read for Halting<S> {
+    fn read(&mut self, buf: &mut [u8]) -> io::Result<usize> {
+        self.interrupt()?;
+        let most = buf.len().min(1);
+        self.stream.read(&mut buf[..most])
+    }
+}
+
+impl<S: Write> Write for Halting<S> {
+    fn write(&mut self, buf: &[u8]) -> io::Result<usize> {
+        self.interrupt()?;
+        self.stream.write(&buf[..buf.len().min(1)])
+    }
+
+    fn flush(&mut self) -> io::Result<()> {
+        Ok(())
+    }
+}
+
+/// Of some 3,000 bytes, so of twice as many reads, most of them in two comments.
+#[test]
+fn a_script_may_come_a_byte_at_a_time(rt: HostRuntime) -> Result<(), Fail> {
+    let alloc = rt.alloc();
+    let comment = "#".repeat(alloc, 1500)?;
+    let script = format!(in alloc;
+        "volume 6 1024\n{comment}\nreader 1 2 /f\nwriter\ncreate /f\nwrite /f 0 6869\n{comment}"
+    )?;
+    let mut input = Halting::new(script.as_bytes());
+    let mut out = Halting::new(Vec::new(alloc));
+    assert_eq!(rt; run_program(&rt, &mut input, &mut out), 0);
+    assert_eq!(rt;
+        out.stream.as_slice(),
+        b"1.1 appended\n1.2 appended\nreader 1 6869\nclosed\nscan clean\nd /\nf /f 2 6869\n"
+            .as_slice()
+    );
     Ok(())
 }
 

@@ -64,6 +64,42 @@ fn a_dump_tells_how_its_writer_failed(rt: HostRuntime) -> Result<(), Fail> {
     Ok(())
 }
 
+/// A writer that is interrupted before each byte that it takes, and takes one at a time.
+#[derive(Drop)]
+struct Halting {
+    taken: Vec<u8>,
+    interrupted: bool,
+}
+
+impl Write for Halting {
+    fn write(&mut self, buf: &[u8]) -> io::Result<usize> {
+        self.interrupted = !self.interrupted;
+        if self.interrupted {
+            return Err(io::Error::from(ErrorKind::Interrupted));
+        }
+        self.taken.write(&buf[..buf.len().min(1)])
+    }
+
+    fn flush(&mut self) -> io::Result<()> {
+        Ok(())
+    }
+}
+
+#[test]
+fn a_dump_goes_on_after_each_interruption(rt: HostRuntime) -> Result<(), Fail> {
+    let alloc = rt.alloc();
+    let script = "volume 8 1024\nwriter\nmkdir /d\ncreate /d/f\nwrite /d/f 0 6869\ncreate /e";
+    let tree = grown(&rt, alloc, script)?;
+    let mut out = Halting {
+        taken: Vec::new(alloc),
+        interrupted: false,
+    };
+    assert_eq!(rt; dump(alloc, &tree, &mut out), Ok(()));
+    let wanted = b"d /\nd /d\nf /d/f 2 6869\nf /e 0 -\n".as_slice();
+    assert_eq!(rt; out.taken.as_slice(), wanted);
+    Ok(())
+}
+
 /// A program with one plain word.
 const USAGE: Usage = Usage {
     program: "tool",

@@ -1,6 +1,6 @@
 //! What is read and when it is answered, and streams that fail.
 
-use super::records::image_of;
+use super::records::{OLD_FORM, image_of};
 use super::{called, replayed, replays};
 use jffs_node::NoMemory;
 use jffs_tools::{ToolFault, run_image, run_replay};
@@ -30,6 +30,51 @@ impl Write for Ending {
         }
         self.room -= count;
         Ok(count)
+    }
+
+    fn flush(&mut self) -> io::Result<()> {
+        Ok(())
+    }
+}
+
+/// A stream that is interrupted before each byte, and gives or takes one at a time.
+#[derive(Drop)]
+struct Halting<S> {
+    stream: S,
+    interrupted: bool,
+}
+
+impl<S> Halting<S> {
+    fn new(stream: S) -> Halting<S> {
+        Halting {
+            stream,
+            interrupted: false,
+        }
+    }
+
+    /// Fails the first call, the third, and so on.
+    fn interrupt(&mut self) -> io::Result<()> {
+        self.interrupted = !self.interrupted;
+        if self.interrupted {
+            Err(io::Error::from(ErrorKind::Interrupted))
+        } else {
+            Ok(())
+        }
+    }
+}
+
+impl<S: Read> Read for Halting<S> {
+    fn read(&mut self, buf: &mut [u8]) -> io::Result<usize> {
+        self.interrupt()?;
+        let most = buf.len().min(1);
+        self.stream.read(&mut buf[..most])
+    }
+}
+
+impl<S: Write> Write for Halting<S> {
+    fn write(&mut self, buf: &[u8]) -> io::Result<usize> {
+        self.interrupt()?;
+        self.stream.write(&buf[..buf.len().min(1)])
     }
 
     fn flush(&mut self) -> io::Result<()> {
@@ -103,6 +148,51 @@ fn flash_larger_than_any_volume_takes_no_memory(rt: HostRuntime) -> Result<(), F
     assert_eq!(rt; digest.as_str(), "ready\n");
     let endless = replayed(&rt, "image /dev/zero 64 16384\n", 2)?;
     assert_eq!(rt; endless.as_str(), "");
+    Ok(())
+}
+
+#[test]
+fn an_image_may_come_a_byte_at_a_time(rt: HostRuntime) -> Result<(), Fail> {
+    let alloc = rt.alloc();
+    let words = called(alloc, &["jffs_image", "8", "1024"])?;
+    let image = image_of(alloc, &[&OLD_FORM], 8)?;
+    let mut input = Halting::new(image.as_slice());
+    let mut out = Halting::new(Vec::new(alloc));
+    let mut errors = Vec::new(alloc);
+    let ended = run_image(alloc, &words, &mut input, &mut out, &mut errors);
+    assert!(rt; errors.is_empty());
+    assert_eq!(rt;
+        out.stream.as_slice(),
+        b"mounted clean\n\
+        next 4 3\n\
+        sectors 0\n\
+        record 0 0 64 1 dead\n\
+        record 0 64 72 2 live\n\
+        record 0 136 64 3 dead\n\
+        d /\n\
+        f /f 5 68656c6c6f\n"
+            .as_slice()
+    );
+    assert_eq!(rt; ended, 0);
+    Ok(())
+}
+
+#[test]
+fn operations_may_come_a_byte_at_a_time(rt: HostRuntime) -> Result<(), Fail> {
+    let alloc = rt.alloc();
+    let mut input = Halting::new(b"flash 6 1024\n\nmount\nrequest 1 1 create /f".as_slice());
+    let mut out = Halting::new(Vec::new(alloc));
+    let mut errors = Vec::new(alloc);
+    let ended = run_replay(&rt, &[], &mut input, &mut out, &mut errors);
+    assert!(rt; errors.is_empty());
+    assert_eq!(rt;
+        out.stream.as_slice(),
+        b"ready\n\
+        mounted unclean next 1 2 | d /\n\
+        appended 2 1 at 0 ; erased 5 erases 0 weight 64 next 2 3\n"
+            .as_slice()
+    );
+    assert_eq!(rt; ended, 0);
     Ok(())
 }
 

@@ -17,12 +17,15 @@ DATA = TOP / "crates/jffs_replay/data"
 SOON = 2
 # Tests that bear each refusal: they pass, or give up with an error that tells of memory. The one of jffs_line that is
 # left out compares errors, of which Memory is one.
-STEADFAST = re.compile(r"jffs_(flash|node|tree)_tests |jffs_line_tests (?!tests::a_line_refuses_)|jffs_core_tests tests::refusals::")
+STEADFAST = re.compile(r"jffs_(flash|node|tree)_tests |jffs_line_tests (?!tests::a_line_refuses_)|jffs_core_tests tests::refusals::"
+                       r"|jffs_serve_tests tests::(growths::each_|leaving::)|jffs_run_tests tests::growths::")
 # Tests of threads that wait for one another: where no thread can be made, all run in one, and never end.
 NEED_THREADS = re.compile(r"jffs_line_tests tests::(an_unmount_asleep|eight_writers_hand_in)_")
 # Where an assertion of a test's own has stopped it.
 STOPPED = re.compile(r"test stopped at src/\w*tests[./]")
 GAVE_UP = re.compile(r"\Aerror: [^\n]*(memory|AllocError|AllocFailed)[^\n]*\nthe test failed: its result", re.IGNORECASE)
+# The name in a line `fault: WHY` that only the scan after a run brings, which fails for want of memory alone.
+SCAN = "Scan"
 FUSES = [(which, what) for which in ("Writes", "All") for what in ("Nothing", "Half")]
 MOST_CALLS = 5000
 
@@ -41,10 +44,15 @@ def why_wrong(check, *arguments):
 def memory(runner):
     if not runner.build():
         return
+    named = set()
     subjects = [subject for crate in crates_with_tests() for subject in tests(runner, crate)]
-    subjects += jffs_scripts(runner) + replays(runner) + images(runner)
+    scripts = jffs_scripts(runner, named)
+    subjects += scripts + replays(runner) + images(runner)
     runner.each(subjects, lambda subject: runner.refuse_each(*subject))
     runner.tally.tell("allocations refused", "tests or inputs")
+    if scripts:
+        why = None if SCAN in named else f"{SCAN} is in no fault line, only {sorted(named)}"
+        runner.tally.add("the names in fault lines of jffs", why)
     runner.each(["shared 2", "rings 2"] * bool(runner.program("jffs")), lambda line: refuse_rest(runner, line))
     runner.tally.tell("places from which on all allocations were refused", "scripts with 16 readers")
 
@@ -94,7 +102,8 @@ def judge_test(ran, steadfast):
     return ran.crash() or f"status {ran.status}: {text[-300:]!r}"
 
 
-def jffs_scripts(runner):
+def jffs_scripts(runner, named):
+    """Each script; the names in fault lines are added to `named`."""
     program = runner.program("jffs")
     subjects = []
     for name, text in cases.examples() + cases.scripts(range(1, 21), 24) if program else []:
@@ -104,6 +113,7 @@ def jffs_scripts(runner):
             return runner.run([program], text, at=at, limit=limit)
 
         def judge(ran, script=script):
+            named.update(found[1] for found in [script_judge.ENDED.search(ran.out)] if found)
             return ran.crash() or why_wrong(script_judge.judge, script, ran.status, ran.out, ran.refused, True)
         subjects.append(("jffs", name, run, judge))
     return subjects

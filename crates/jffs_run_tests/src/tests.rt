@@ -1,4 +1,5 @@
 //! Whole programs: a script in, lines out.
+//! Lines and statuses are worked out from docs/SCRIPT.md, images from docs/FORMAT.md.
 
 mod calls;
 mod ending;
@@ -301,8 +302,7 @@ fn a_script_may_come_a_byte_at_a_time(rt: HostRuntime) -> Result<(), Fail> {
     assert_eq!(rt; run_program(&rt, &mut input, &mut out), 0);
     assert_eq!(rt;
         out.stream.as_slice(),
-        b"1.1 appended\n1.2 appended\nreader 1 6869\nclosed\nscan clean\nd /\nf /f 2 6869\n"
-            .as_slice()
+        b"1.1 appended\n1.2 appended\nreader 1 6869\nclosed\nscan clean\nd /\nf /f 2 6869\n".as_slice()
     );
     Ok(())
 }

@@ -1,10 +1,13 @@
 //! Sessions that are served, and a cleaner beside them.
+//! Which copies there are, and what is answered, is worked out from docs/FORMAT.md on paper.
 
 mod copying;
 mod ending;
 mod growths;
+mod leaving;
 mod order;
 mod rounds;
+mod standing;
 mod tidying;
 mod volumes;
 
@@ -80,7 +83,7 @@ fn with_job(alloc: Global, core: &mut Core<MemoryFlash>) -> Result<JobEnd, Fail>
 /// A ring with the image of the oldest sector of a volume that was mounted again.
 fn moved_job(alloc: Global) -> Result<JobEnd, Fail> {
     let flash = moved(alloc)?.into_flash();
-    let mut core = Core::mount(alloc, flash).ok().ok_or("it mounts")?;
+    let mut core = Core::mount(alloc, flash).map_err(|fault| fault.why)?;
     with_job(alloc, &mut core)
 }
 
@@ -138,5 +141,27 @@ fn a_cleaner_ends_with_the_log_thread(rt: HostRuntime) -> Result<(), Fail> {
     );
     assert_eq!(rt; end.handed_in, 0);
     assert!(rt; jobs.take().is_some());
+    Ok(())
+}
+
+/// How many copies a cleaner hands in that is never told of an end, in one round over such a
+/// volume's oldest sector.
+fn handed_in_untold<R: Wait>(rt: &R, alloc: Global) -> Result<u32, Fail> {
+    let tree = moved(alloc)?.tree().copy_tree()?;
+    let mut jobs = moved_job(alloc)?;
+    let (_publisher, mut reader) = index(rt, alloc, tree)?;
+    let Ends {
+        hands,
+        taker: _taker,
+    } = shared_line(rt, alloc, 8, 0)?;
+    let mut hand = hands.cleaner;
+    let ended = Ended::new();
+    let end = clean_until(rt, alloc, &mut jobs, &mut reader, &mut hand, 1, &ended);
+    Ok(end.handed_in)
+}
+
+#[test]
+fn a_cleaner_that_is_told_of_no_end_hands_in_its_copies(rt: HostRuntime) -> Result<(), Fail> {
+    assert_eq!(rt; handed_in_untold(&rt, rt.alloc())?, 3);
     Ok(())
 }

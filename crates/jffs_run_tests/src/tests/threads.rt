@@ -1,11 +1,13 @@
 //! Runs by `run_threads`.
+//! Outcomes are worked out from docs/SCRIPT.md, and the record's bytes from docs/FORMAT.md.
 
 ghost use Rattle.std.specs.Prelude.{◌≡◌, length, IfOk};
 
-use jffs_flash::MemoryFlash;
+use jffs_flash::{Flash, MemoryFlash};
 use jffs_node::Path;
 use jffs_run::{AcceptedBy, Gate, NoGate, RunFault, RunWhy, Served, run_threads};
 use jffs_text::{READERS_MAX, ReaderStatement, Script};
+use jffs_tree::Outcome;
 use std::alloc::{AllocError, Global};
 use std::io::Write;
 use std::process::Abort;
@@ -109,6 +111,53 @@ fn constructors_refuse(rt: HostRuntime) -> Result<(), Fail> {
     assert_eq!(rt; why, RunWhy::Mount);
     let flash = flash.ok_or("the device is gone")?;
     assert!(rt; flash.bytes() == image.as_slice());
+    Ok(())
+}
+
+/// The device that comes back of a run that couldn't mount it, with sector 2 erased by hand.
+fn mended<Rt: AllocGlobal + Threads + Wait + Sync>(
+    rt: &Rt,
+    script: &Script<'_>,
+) -> Result<MemoryFlash, Fail> {
+    let flash = MemoryFlash::from_bytes(8, 1024, scattered(rt.alloc())?);
+    match run_threads(rt, rt.alloc(), script, flash, &NoGate) {
+        Ok(_) => Err("it was mounted".into()),
+        Err(
+            RunFault {
+                why: _,
+                flash: None,
+            },
+        ) => Err("the device is gone".into()),
+        Err(
+            RunFault {
+                why: _,
+                flash: Some(mut flash),
+            },
+        ) => {
+            if flash.faults() != 0 || flash.sectors() != 8 {
+                return Err("another device came back".into());
+            }
+            flash.erase(2).map_err(|_| "it is erased")?;
+            Ok(flash)
+        }
+    }
+}
+
+/// Its record in sector 0 is still there, and the next run is granted what it asks for.
+#[test]
+fn a_device_that_did_not_mount_serves_once_it_is_mended(rt: HostRuntime) -> Result<(), Fail> {
+    let alloc = rt.alloc();
+    let script = Script::parse(alloc, b"volume 8 1024\nwriter\ncreate /g\n")?;
+    let run = run_threads(&rt, alloc, &script, mended(&rt, &script)?, &NoGate);
+    let run = run.map_err(|fault| fault.why)?;
+    assert_eq!(rt; run.served, Served::Closed);
+    let outcomes = run.answers.iter().map(|answer| answer.outcome);
+    let created = Outcome::Appended {
+        inode: 3,
+        version: 2,
+    };
+    assert!(rt; outcomes.eq([created, Outcome::Closed].into_iter()));
+    assert!(rt; run.flash.bytes().starts_with(&RECORD));
     Ok(())
 }
 

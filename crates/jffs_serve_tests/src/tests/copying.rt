@@ -1,4 +1,5 @@
 //! Which copies a cleaner asks for, and how it waits for room on the line.
+//! Which copies there are is counted from the records that live in the sector.
 
 use crate::tests::rounds::{cleaned_by, index, source_of};
 use crate::tests::volumes::{moved, six_created};

@@ -1,4 +1,5 @@
 //! How serving ends, and how a cleaner does.
+//! What is served follows from the last answer, and counts from how many rounds were asked for.
 
 use crate::tests::rounds::{Left, cut_and_unmount, index, served_from, served_seen};
 use crate::tests::volumes::{create, filled};

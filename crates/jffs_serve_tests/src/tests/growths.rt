@@ -1,8 +1,9 @@
 //! A session in which any allocation may fail.
+//! The answers are worked out on paper, but for one that Memory may take the place of.
 
 ghost use Rattle.jffs_serve.specs.Showing.{CanServe};
 
-use crate::tests::rounds::index;
+use crate::tests::rounds::{index, served_from};
 use crate::tests::volumes::{create, erased, write};
 use jffs_core::{Answer, Core};
 use jffs_flash::MemoryFlash;
@@ -141,7 +142,7 @@ fn check_scan(
     flash: MemoryFlash,
     size: Option<u32>,
 ) -> Result<(), Fail> {
-    let core = Core::mount(alloc, flash).ok().ok_or("it mounts")?;
+    let core = Core::mount(alloc, flash).map_err(|fault| fault.why)?;
     let tree = core.tree();
     let names = tree.names(ROOT_INODE)?;
     assert!(rt; names.len() == usize::from(size.is_some()));
@@ -180,4 +181,16 @@ fn each_growth_refused_in_turn(rt: HostRuntime) -> Result<(), Fail> {
     let session = session_after(&rt, alloc, erased(alloc, 8)?, taker, jobs)?;
     let size = size_after(session.core().answers());
     check_scan(&rt, alloc, session.into_core().into_flash(), size)
+}
+
+/// Memory is ample, so one call serves all three requests, and refuses none.
+#[test]
+fn three_requests_are_served_by_one_call(rt: HostRuntime) -> Result<(), Fail> {
+    let alloc = rt.alloc();
+    let taker = write_and_unmount(&rt, alloc)?;
+    let (jobs, _end) = job_ring(alloc, 4)?;
+    let left = served_from(&rt, alloc, erased(alloc, 8)?, taker, jobs)?;
+    assert_eq!(rt; left.served, Served::Closed);
+    assert_eq!(rt; left.session.core().answers(), wanted().as_slice());
+    Ok(())
 }

@@ -1,4 +1,5 @@
 //! What was published when a sector is erased.
+//! One answer was given, so one has to be seen.
 
 use crate::tests::rounds::served_seen;
 use crate::tests::tidying::all_waiting;

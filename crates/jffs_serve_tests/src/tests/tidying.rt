@@ -1,4 +1,5 @@
 //! What is done between two answers: dead sectors are erased, and then perhaps an image is sent.
+//! How many sectors are held and erased is counted from the lengths of records in docs/FORMAT.md.
 
 use crate::tests::rounds::{Left, served_from};
 use crate::tests::volumes::{create, dead_below_tail};

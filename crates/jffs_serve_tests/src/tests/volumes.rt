@@ -45,7 +45,7 @@ fn write_192(alloc: Global, path: &str, offset: u32) -> Result<Wish, Fail> {
 /// An erased volume, mounted.
 pub(super) fn erased(alloc: Global, sectors: u32) -> Result<Core<MemoryFlash>, Fail> {
     let flash = MemoryFlash::new(alloc, sectors, 1024)?;
-    Ok(Core::mount(alloc, flash).ok().ok_or("it mounts")?)
+    Ok(Core::mount(alloc, flash).map_err(|fault| fault.why)?)
 }
 
 /// Answers the wishes of writer 1, in order.
@@ -59,8 +59,10 @@ fn answer_all(core: &mut Core<MemoryFlash>, wishes: Vec<Wish>) -> Result<(), Fai
             seq,
             wish,
         });
-        if !matches!(outcome, Outcome::Appended { .. }) {
-            return Err("it is appended".into());
+        match outcome {
+            Outcome::Appended { .. } => {}
+            Outcome::Refused(cause) => return Err(cause.into()),
+            _ => return Err("it is appended".into()),
         }
     }
     Ok(())

@@ -1,0 +1,142 @@
+//! A cleaner's round, and the answers to it, where any one allocation may fail. Which copies there
+//! are, and what they are answered, is worked out from the rule of cleaning in docs/FORMAT.md.
+
+use crate::tests::moved_copies;
+use crate::tests::rounds::source_of;
+use crate::tests::standing::{answered, has_its_files};
+use crate::tests::volumes::{create, moved};
+use jffs_core::Core;
+use jffs_flash::MemoryFlash;
+use jffs_line::{LineFault, Request};
+use jffs_serve::job_ring;
+use jffs_tree::{Cause, Outcome};
+use std::alloc::Global;
+use std::process::Abort;
+use std::test::Fail;
+
+/// The versions of the records of sector 0 that live.
+const LIVE: [u32; 3] = [1, 3, 4];
+
+/// How many records the log has before the first copy, of which the last has this version too.
+const RECORDS: u32 = 8;
+
+/// Whether the copies are of some of the records that live, in order, with the numbers 1, 2, 3, ..
+fn are_some(copies: &[Request]) -> bool {
+    let mut live = LIVE.iter();
+    let mut wanted = 1u32..;
+    copies.iter().all(|copy| {
+        let (seq, source) = source_of(copy);
+        wanted.next() == Some(seq) && live.any(|version| *version == source)
+    })
+}
+
+/// What was answered so far.
+#[derive(Clone, Copy)]
+struct Told {
+    copied: u32,
+    /// Whether the write of `/d/b` was copied: then the record of its rename is dead.
+    is_renamed: bool,
+    refused: u32,
+}
+
+/// Answers a copy: granted, or not needed where its record is dead by now, or refused for memory.
+fn told(
+    rt: &impl Abort,
+    core: &mut Core<MemoryFlash>,
+    copy: Request,
+    before: Told,
+) -> Result<Told, Fail> {
+    let (_, source) = source_of(&copy);
+    let outcome = answered(core, copy)?;
+    if outcome == Outcome::Refused(Cause::Memory) {
+        let refused = before.refused.saturating_add(1);
+        return Ok(Told { refused, ..before });
+    }
+    if source == 4 && before.is_renamed {
+        assert_eq!(rt; outcome, Outcome::Refused(Cause::NotNeeded));
+        return Ok(before);
+    }
+    let copied = before.copied.saturating_add(1);
+    let version = RECORDS.saturating_add(copied);
+    assert_eq!(rt; outcome, Outcome::Copied { version });
+    let is_renamed = before.is_renamed || source == 3;
+    Ok(Told {
+        copied,
+        is_renamed,
+        ..before
+    })
+}
+
+/// Answers all of these copies. No more than one is refused for memory, and the log has one record
+/// more for each that is granted.
+fn all_told(
+    rt: &impl Abort,
+    core: &mut Core<MemoryFlash>,
+    copies: Vec<Request>,
+) -> Result<Told, Fail> {
+    let mut now = Told {
+        copied: 0,
+        is_renamed: false,
+        refused: 0,
+    };
+    for copy in copies {
+        now = told(rt, core, copy, now)?;
+    }
+    assert!(rt; now.refused <= 1);
+    let records = u32::try_from(core.log().records().len()).ok();
+    assert_eq!(rt; records, Some(RECORDS.saturating_add(now.copied)));
+    Ok(now)
+}
+
+/// The next change is granted; asked once more where memory was refused to it.
+fn grants_the_next(
+    rt: &(impl Abort + AllocGlobal),
+    core: &mut Core<MemoryFlash>,
+    version: u32,
+) -> Result<(), Fail> {
+    for seq in 9..11 {
+        let made = Request {
+            writer: 1,
+            seq,
+            wish: create(rt.alloc(), "/n")?,
+        };
+        let outcome = answered(core, made)?;
+        if outcome != Outcome::Refused(Cause::Memory) {
+            assert_eq!(rt; outcome, Outcome::Appended { inode: 5, version });
+            return Ok(());
+        }
+    }
+    Err("memory was refused twice".into())
+}
+
+// Run it with each allocation failing in turn.
+#[test]
+fn a_round_that_finds_no_memory_leaves_copies_out(rt: HostRuntime) -> Result<(), Fail> {
+    let alloc = rt.alloc();
+    let mut core = moved(alloc)?;
+    let copies = moved_copies(&rt, alloc, &core)?;
+    assert!(rt; are_some(&copies));
+    let now = all_told(&rt, &mut core, copies)?;
+    has_its_files(&rt, alloc, &core)?;
+    let version = RECORDS.saturating_add(now.copied).saturating_add(1);
+    grants_the_next(&rt, &mut core, version)
+}
+
+// Run it with each allocation failing in turn.
+#[test]
+fn a_ring_that_finds_no_memory_is_made_by_the_next_call(rt: HostRuntime) -> Result<(), Fail> {
+    let alloc = rt.alloc();
+    let (mut jobs, mut end) = match job_ring(alloc, 1) {
+        Ok(ring) => ring,
+        Err(fault) => {
+            assert_eq!(rt; fault, LineFault::Memory);
+            job_ring(alloc, 1)?
+        }
+    };
+    assert_eq!(rt; job_ring(alloc, 0).err(), Some(LineFault::Capacity));
+    let sent = jobs.send(vec![in alloc; 7u8]?);
+    assert!(rt; sent.is_ok());
+    let taken = end.take().ok_or("one image waits")?;
+    assert_eq!(rt; taken.as_slice(), [7].as_slice());
+    Ok(())
+}

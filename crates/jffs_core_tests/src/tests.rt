@@ -1,5 +1,7 @@
 //! Requests of writer 1 on a core, without threads.
+//! Outcomes, versions and contents are worked out on paper from docs/SCRIPT.md and docs/FORMAT.md.
 
+mod calls;
 mod cleaned;
 mod copies;
 mod durable;

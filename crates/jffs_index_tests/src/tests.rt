@@ -1,4 +1,5 @@
 //! Steps that are put, published and looked at.
+//! What is seen has to be what was put and published until then, counted on paper.
 ghost use Rattle.std.specs.Prelude.{◌≡◌, IfOk};
 ghost use Rattle.jffs_index.specs.Histories.{view_of};
 ghost use Rattle.jffs_index.specs.Ends.{all_put, index_of, publisher_index};
@@ -8,7 +9,7 @@ mod source;
 
 use crate::tests::follower::{Seen, follow};
 use crate::tests::source::Source;
-use jffs_index::{IndexFault, Reader, publish_index};
+use jffs_index::{IndexFault, Reader, Step, publish_index};
 use jffs_node::{Kind, Path, copied};
 use jffs_tree::{Outcome, Tree, Wish};
 use std::alloc::Global;
@@ -135,6 +136,24 @@ fn published_steps_show(rt: HostRuntime) -> Result<(), Fail> {
     let alloc = rt.alloc();
     let (mut source, mut reader) = opened(&rt, alloc)?;
     steps_show(&rt, alloc, &mut source, &mut reader)
+}
+
+/// Memory is ample, so neither call is to be made again.
+#[test]
+fn a_step_is_put_and_published_at_the_first_call(rt: HostRuntime) -> Result<(), Fail> {
+    let (mut source, mut reader) = opened(&rt, rt.alloc())?;
+    let put = source.publisher.put(Step {
+        writer: 10,
+        seq: 1,
+        outcome: Outcome::Closed,
+        node: None,
+    });
+    assert!(rt; put.is_ok());
+    assert!(rt; source.publisher.publish().is_ok());
+    reader.learn(source.publisher.tell());
+    let seen = reader.look(|view| (view.answered(), view.closed()));
+    assert_eq!(rt; seen, Some((1, true)));
+    Ok(())
 }
 
 /// `/b/f` (inode 3), created below `/a`, beside `/c` (inode 4).

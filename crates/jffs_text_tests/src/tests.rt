@@ -1,7 +1,9 @@
 //! Trees that are dumped, the words of a line, and what is told of scripts and calls.
+//! Lines are worked out from docs/SCRIPT.md.
 
 mod bounds;
 mod calls;
+mod parts;
 mod told;
 mod writers;
 

@@ -1,5 +1,6 @@
 //! Replays and images, each against the rules.
 
+mod calls;
 mod images;
 mod operations;
 mod records;

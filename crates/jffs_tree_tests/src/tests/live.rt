@@ -1,6 +1,8 @@
 //! How often versions are live.
+//! Marks are counted on paper: one for each byte that a version wrote last, one for the newest.
 
 use super::*;
+use jffs_node::Path;
 
 /// Each of these versions has as many marks, all of them in the first file.
 fn has_marks(rt: &impl Abort, session: &Session, wanted: &[(u32, u32)]) {
@@ -199,4 +201,71 @@ fn the_next_version_is_found_beside_the_last(rt: HostRuntime) -> Result<(), Fail
         assert_eq!(rt; near, wanted, "after {version}");
     }
     Ok(())
+}
+
+/// Versions 4 and 5 live: each file was written over once, or written since its creation.
+#[test]
+fn the_next_version_that_lives_is_found_from_each_on(rt: HostRuntime) -> Result<(), Fail> {
+    let mut session = Session::new(rt.alloc());
+    session.play(
+        &rt,
+        "create /f
+         write /f 0 hello
+         create /g
+         write /f 0 HELLO
+         write /g 0 x",
+    )?;
+    let tree = &session.tree;
+    for (from, wanted) in [
+        (0, Some((4, 2))),
+        (4, Some((4, 2))),
+        (5, Some((5, 3))),
+        (6, None),
+    ] {
+        assert_eq!(rt; tree.next_live(from), wanted, "from {from}");
+    }
+    for (first, last, wanted) in [
+        (0, 3, None),
+        (0, 4, Some(4)),
+        (4, 9, Some(4)),
+        (5, 5, Some(5)),
+        (6, 9, None),
+    ] {
+        assert_eq!(rt; tree.first_live(first, last), wanted, "from {first}");
+    }
+    Ok(())
+}
+
+/// Memory is ample, so no call is to be made again.
+#[test]
+fn nodes_are_decided_and_taken_in_at_the_first_call(rt: HostRuntime) -> Result<(), Fail> {
+    let mut tree = Tree::new(rt.alloc());
+    for version in 1..40 {
+        let node = first_decided(rt.alloc(), &tree, version)?;
+        assert!(rt; tree.can_apply(&node));
+        tree.apply(&node)?;
+    }
+    assert!(rt; tree.is_directory(1) && !tree.is_directory(2));
+    assert_eq!(rt; tree.size(2), Some(75));
+    Ok(())
+}
+
+/// The creation of `/f`, or a write of one byte in each second place.
+fn first_decided(alloc: Global, tree: &Tree, version: u32) -> Result<Node, Fail> {
+    let path = Path::parse(alloc, "/f")?;
+    let wish = if version == 1 {
+        Wish::Create(path)
+    } else {
+        Wish::Write {
+            path,
+            offset: version.saturating_sub(2).saturating_mul(2),
+            bytes: jffs_node::copied(alloc, b"x")?,
+        }
+    };
+    let limits = Limits {
+        data_max: 192,
+        next_inode: Some(2),
+        next_version: Some(version),
+    };
+    Ok(tree.decide(limits, &wish)?.with(version, 1, version))
 }

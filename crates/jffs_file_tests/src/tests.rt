@@ -1,4 +1,5 @@
 //! A device over a store that fails, and one in a file that is opened again.
+//! What a store has to hold is what was programmed, and after a fault the half of it.
 
 ghost use Rattle.std.specs.Prelude.{◌≡◌, ◌+◌, ◌≤◌, ◌↔◌, length, IsTrue};
 

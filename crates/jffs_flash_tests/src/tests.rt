@@ -1,4 +1,5 @@
 //! Each call on its happy path, through the bound `Flash`, and what the failures of a fuse leave.
+//! Bytes are worked out from what flash does: a write clears bits, an erase sets a sector's.
 
 ghost use Rattle.std.specs.Prelude.{◌≡◌, ◌+◌, ◌≤◌, ◌↔◌, length, IsTrue};
 

@@ -1,4 +1,5 @@
 //! Lines that are made, used and settled.
+//! Numbers and causes follow from what was handed in: each sender counts from 1.
 
 ghost use Rattle.std.specs.Prelude.{◌≡◌, map, [], ◌∷◌, ◌++◌};
 ghost use Rattle.jffs_line.specs.Line.{End};

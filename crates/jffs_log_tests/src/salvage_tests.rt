@@ -1,4 +1,5 @@
 //! What is saved of images that a scan refuses, each damaged in one way, and of one that it takes.
+//! What has to be saved follows from how each image was damaged, by docs/FORMAT.md.
 
 use crate::scan_tests::{
     LEN, SECTOR_SIZE, SECTORS, changed, cut_image, file, full_image, mixed_image, old_image,

@@ -1,4 +1,5 @@
 //! Scans of images that were written by hand: what each finds, and why it is refused.
+//! Their bytes, and what a scan has to find, are worked out from docs/FORMAT.md.
 
 use crate::tests::{append, mount, written};
 use jffs_flash::{Fail, FuseFlash, Fused, MemoryFlash};

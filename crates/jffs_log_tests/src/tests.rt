@@ -1,4 +1,5 @@
 //! The log on concrete devices: what each call leaves, seen by a further scan.
+//! Versions, weights and sectors are counted from the lengths of records in docs/FORMAT.md.
 
 use jffs_flash::{Fail, Flash, FuseFlash, Fused, MemoryFlash};
 use jffs_log::{Log, Mounted, RECORD_MAX, Room, scan};

@@ -1,4 +1,5 @@
 //! Calls of the program, each with its status and what it writes.
+//! Lines and statuses are those of docs/TOOLS.md.
 
 mod damaged;
 mod faults;

@@ -1,4 +1,5 @@
 //! Records whose data share their sector's block, beside the same records with their data copied.
+//! What is read without a copy has to be what is read with one.
 
 use crate::tests::{HELLO, RECORD_MAX, SECTOR, UNMOUNT, sector_with};
 use jffs_node::{

@@ -1,4 +1,5 @@
 //! Records against the bytes of two written examples, and paths, names and data.
+//! The bytes are spelled from the table of docs/FORMAT.md.
 
 use jffs_node::{
     Bytes, ERASED, GATE_AT, GATE_OPEN, Kind, Name, NoMemory, Node, Path, PathFault, Read, Why,

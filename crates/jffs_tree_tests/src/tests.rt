@@ -1,4 +1,5 @@
 //! Wishes one by one on a tree, without a log.
+//! Offsets, sizes and contents are worked out on paper from docs/FORMAT.md, section 8.
 
 mod live;
 mod look_ups;

@@ -1,4 +1,5 @@
 //! Cleaning.
+//! Sectors, versions and a copy's bytes are worked out on paper from docs/FORMAT.md.
 
 use crate::tests::session::{Session, holds, is_blank, part};
 use jffs_core::Cleaned;

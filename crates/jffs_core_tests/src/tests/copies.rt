@@ -1,4 +1,5 @@
 //! Copies that a sender hands in.
+//! Causes are those of docs/SCRIPT.md, and where records stand is counted from docs/FORMAT.md.
 
 use crate::tests::session::{Session, holds, is_blank, part};
 use jffs_flash::MemoryFlash;

@@ -1,4 +1,5 @@
 //! Power that is lost right after an answer.
+//! What a mount has to find are the plain files that the test keeps beside the volume.
 
 use crate::tests::session::Session;
 use jffs_flash::MemoryFlash;

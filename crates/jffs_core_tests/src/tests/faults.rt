@@ -1,4 +1,5 @@
 //! Devices that fail.
+//! Outcomes, names and offsets are worked out on paper from docs/SCRIPT.md and docs/FORMAT.md.
 
 use crate::tests::session::{SECTOR_SIZE, Session, holds};
 use jffs_flash::{Fail as FuseFail, FuseFlash, Fused, MemoryFlash};

@@ -1,4 +1,5 @@
 //! Images that were written by hand.
+//! Their bytes are spelled from the table of docs/FORMAT.md.
 
 use jffs_flash::ERASED_BYTE;
 use std::alloc::{AllocError, Global};

@@ -1,4 +1,5 @@
 //! Runs in which any one allocation may fail.
+//! What stands is what the same run leaves on paper where no allocation fails.
 
 use crate::tests::session::Session;
 use crate::tests::sweeps::{FILLING, RENAMING};

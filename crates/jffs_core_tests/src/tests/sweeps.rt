@@ -1,4 +1,5 @@
 //! Devices that fail at each call in turn.
+//! What a mount has to find is a working run's tree, before the request in hand or after it.
 
 use crate::tests::session::{SECTOR_SIZE, Session};
 use jffs_core::Core;

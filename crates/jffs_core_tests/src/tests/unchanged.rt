@@ -1,4 +1,5 @@
 //! What a refused request leaves.
+//! Causes are those of docs/SCRIPT.md; what has to stand is what stood before.
 
 use crate::tests::copies::copies_again;
 use crate::tests::images::{image_of_last_inode, image_of_last_version};

@@ -1,4 +1,5 @@
 //! The last versions are used by the copies of a cleaning.
+//! How many copies there are is counted from the lengths of records in docs/FORMAT.md.
 
 use crate::tests::session::{SECTOR_SIZE, Session};
 use jffs_core::Cleaned;

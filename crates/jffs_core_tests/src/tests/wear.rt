@@ -1,4 +1,5 @@
 //! How often each sector is erased: counted by the device, and from its bytes.
+//! The bounds are counted on paper: three overwrites fill a sector, and six sectors take turns.
 
 use crate::tests::metered::{SECTORS, calls_of, over_metered};
 use crate::tests::session::{SECTOR_SIZE, Session, is_blank, part};

@@ -1,4 +1,5 @@
 //! What each answer programs and erases, counted by the device.
+//! The bounds come from what is live and free before the answer; the least counts are rough ones.
 
 use crate::tests::metered::{Calls, Metered, calls_of, over_metered};
 use crate::tests::session::{SECTOR_SIZE, Session};

@@ -1,4 +1,5 @@
 //! A reader in a thread of its own, while another publishes.
+//! What it sees has to be what was published until then: one answer more, one name more.
 ghost use Rattle.std.specs.Prelude.{◌≡◌, IfOk};
 ghost use Rattle.jffs_index.specs.Histories.{view_of};
 ghost use Rattle.jffs_index.specs.Ends.{all_put, index_of, publisher_index};

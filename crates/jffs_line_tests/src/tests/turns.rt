@@ -1,4 +1,5 @@
 //! Whose request is taken before whose.
+//! The order follows from the rule that rings have turns, and the control comes last.
 
 use jffs_line::{CONTROL, Control, Ends, Hand, Hands, RingHand, Taker, ring_line, shared_line};
 use jffs_tree::Wish;

@@ -1,4 +1,5 @@
 //! An end that sleeps is woken by the other.
+//! What is taken has to be what was handed in, in its order.
 use jffs_line::{Control, Ends, Hand, Hands, Taker};
 use std::sync::Wait;
 use std::thread;

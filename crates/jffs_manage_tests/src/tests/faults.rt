@@ -1,4 +1,5 @@
 //! Each line that a command may end with on standard error, and its status.
+//! Lines and statuses are those of docs/TOOLS.md.
 
 use super::{plays, refuses};
 use std::fs;

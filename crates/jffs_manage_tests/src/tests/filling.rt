@@ -1,4 +1,5 @@
 //! Volumes that are filled until a put is refused.
+//! Whether a put has room isn't worked out: what stands after each has to be whole.
 
 use super::plays;
 use jffs_manage::run_volume;

@@ -1,4 +1,5 @@
 //! Standard input and output that fail.
+//! Lines and statuses are those of docs/TOOLS.md.
 
 use super::plays;
 use jffs_manage::run_volume;

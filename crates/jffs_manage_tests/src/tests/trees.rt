@@ -1,4 +1,5 @@
 //! Whole trees: removed, saved and loaded.
+//! What is listed and saved has to be what was put.
 
 use super::plays;
 use std::fs;

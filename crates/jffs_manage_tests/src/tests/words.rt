@@ -1,4 +1,5 @@
 //! Calls that are refused for their words, before any file is opened.
+//! Lines and statuses are those of docs/TOOLS.md.
 
 use super::{plays, refuses};
 use std::test::Fail;

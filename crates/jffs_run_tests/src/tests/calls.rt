@@ -1,4 +1,5 @@
 //! Calls of the program, each with its status, what it prints and what people are told.
+//! Lines and statuses are those of docs/SCRIPT.md; each text names the word that was changed.
 
 use jffs_program::{run_called, run_program_on_file};
 use std::io::{ErrorKind, Read, Write};

@@ -1,4 +1,5 @@
 //! A run whose device fails: no Unmount closes the session, and all threads end all the same.
+//! The outcomes follow from docs/SCRIPT.md: Device once, and Failed from then on.
 
 use jffs_core::Answer;
 use jffs_flash::{FuseFlash, Fused, MemoryFlash};

@@ -1,4 +1,5 @@
 //! Which wishes a gate is called for, and what a cleaner does while a gate holds a writer up.
+//! How often a gate is called is counted from the script and from the line's capacity.
 
 use jffs_flash::{Flash, FlashFault, MemoryFlash};
 use jffs_line::CLEANER;

@@ -1,4 +1,5 @@
 //! Scripts with more than one thread besides the log's, over both lines.
+//! Lines are worked out from docs/SCRIPT.md.
 
 use super::{printed, prints};
 use std::alloc::Global;

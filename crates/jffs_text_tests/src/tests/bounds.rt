@@ -1,4 +1,5 @@
 //! Each bound of a script: what is accepted up to it, and refused beyond it.
+//! The bounds are those of docs/SCRIPT.md.
 
 use jffs_text::{LineChoice, LineForm, Script, ScriptFault, ScriptWhy};
 use std::alloc::Global;

@@ -1,4 +1,5 @@
 //! What people are told of a call.
+//! What a call is refused for, and with which status, is counted word by word from its words.
 
 use jffs_text::{Usage, Work};
 use std::alloc::Global;

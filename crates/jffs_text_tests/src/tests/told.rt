@@ -1,4 +1,5 @@
 //! What people are told of a script that is refused.
+//! Lines and reasons are those of docs/SCRIPT.md.
 
 use jffs_text::{Script, ScriptMistake, ScriptWhy};
 use std::alloc::Global;

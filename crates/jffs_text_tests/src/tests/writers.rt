@@ -1,4 +1,5 @@
 //! Writers that fail and memory that is refused, and what is told of them.
+//! The whole text of a dump is worked out from docs/SCRIPT.md.
 
 use super::calls::call_of;
 use super::{dumped, grown};

@@ -1,4 +1,5 @@
 //! What is shown of images, and which the scan refuses.
+//! Lines are worked out from docs/TOOLS.md and docs/FORMAT.md.
 
 use super::records::{DIRECTORY, FILE, OLD_FORM, Record, UNMOUNT, changed, image_of};
 use super::{called, replays_from, shows};

@@ -1,4 +1,5 @@
 //! Operations one by one.
+//! Lines are worked out from docs/SCRIPT.md and docs/FORMAT.md.
 
 use super::records::{DIRECTORY, FILE, Record, image_of};
 use super::{replayed, replays, replays_from};

@@ -1,4 +1,5 @@
 //! Images that are spelled byte by byte.
+//! The fields stand as in the table of docs/FORMAT.md.
 
 use std::alloc::{AllocError, Global};
 

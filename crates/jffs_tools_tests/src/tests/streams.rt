@@ -1,4 +1,5 @@
 //! What is read and when it is answered, and streams that fail.
+//! Lines and statuses are those of docs/TOOLS.md and docs/SCRIPT.md.
 
 use super::records::{OLD_FORM, image_of};
 use super::{called, replayed, replays};

@@ -1,4 +1,5 @@
 //! Cleaning, and a ring that turns.
+//! Offsets, weights and numbers are worked out on paper from docs/FORMAT.md.
 
 use super::{replayed, replays, replays_from, shows};
 use crate::tests::records::image_of;

@@ -1,4 +1,5 @@
 //! Two trees are the same where every look-up answers the same.
+//! A copy has to answer as its source; the few other values are counted from the script.
 
 use super::*;
 

@@ -1,7 +1,7 @@
 //! Each call of a core asked for once, which is enough where memory is ample; and what comes with
 //! an answer. Numbers, sectors and counts are worked out from docs/FORMAT.md: a record has 64 bytes
-//! and its data, so a sector of 1,024 bytes holds four records of the largest data, or three and
-//! some short ones.
+//! and its data, and after it 64 bytes have to be free, so three of the largest data stand in a
+//! sector of 1,024 bytes.
 
 use crate::tests::session::SECTOR_SIZE;
 use jffs_core::{Answered, Cleaned, Core};
@@ -77,13 +77,16 @@ fn an_answer_comes_with_its_node(rt: HostRuntime) -> Result<(), Fail> {
     let refused = answered(&mut core, 2, create(alloc, "/f")?)?;
     assert_eq!(rt; refused.outcome, Outcome::Refused(Cause::NameTaken));
     assert!(rt; refused.node.is_none());
-    let closed = answered(&mut core, 3, Wish::Unmount)?;
+    Ok(())
+}
+
+#[test]
+fn an_unmount_comes_with_its_node(rt: HostRuntime) -> Result<(), Fail> {
+    let mut core = mounted(rt.alloc())?;
+    let closed = answered(&mut core, 1, Wish::Unmount)?;
     assert_eq!(rt; closed.outcome, Outcome::Closed);
-    assert!(rt;
-        closed
-            .node
-            .is_some_and(|node| node.kind == Kind::Unmount && node.version == 2)
-    );
+    let node = closed.node.ok_or("a node")?;
+    assert_eq!(rt; (node.kind, node.version), (Kind::Unmount, 1));
     Ok(())
 }
 
@@ -116,7 +119,7 @@ fn a_core_gives_back_its_device_and_its_answers(rt: HostRuntime) -> Result<(), F
 /// Grows a file by 192 bytes, of which three records fit beside the file's own in the first sector
 /// and three with 64 bytes for an unmount node in each of the others.
 fn grown(alloc: Global, core: &mut Core<MemoryFlash>, turn: u32) -> Result<(), Fail> {
-    let wish = write(alloc, "/f", turn * 192, &[0x61; 192])?;
+    let wish = write(alloc, "/f", turn.saturating_mul(192), &[0x61; 192])?;
     match answered(core, turn.saturating_add(2), wish)?.outcome {
         Outcome::Appended { .. } => Ok(()),
         _ => Err("it has room".into()),

@@ -22,12 +22,15 @@ const RECORDS: u32 = 8;
 
 /// Whether the copies are of some of the records that live, in order, with the numbers 1, 2, 3, ..
 fn are_some(copies: &[Request]) -> bool {
-    let mut live = LIVE.iter();
-    let mut wanted = 1u32..;
-    copies.iter().all(|copy| {
+    let mut last = (0u32, 0u32);
+    for copy in copies {
         let (seq, source) = source_of(copy);
-        wanted.next() == Some(seq) && live.any(|version| *version == source)
-    })
+        if seq != last.0.saturating_add(1) || source <= last.1 || !LIVE.contains(&source) {
+            return false;
+        }
+        last = (seq, source);
+    }
+    true
 }
 
 /// What was answered so far.

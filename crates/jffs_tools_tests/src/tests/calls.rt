@@ -175,7 +175,7 @@ fn a_replay_is_driven_call_by_call(rt: HostRuntime) -> Result<(), Fail> {
     let mut replay = begun(&rt)?;
     for (seq, path, at) in [(1, "/a", 0), (2, "/b", 64)] {
         let wanted = Did::Appended {
-            inode: seq + 1,
+            inode: seq.saturating_add(1),
             version: seq,
             at,
         };

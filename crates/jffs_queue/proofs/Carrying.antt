@@ -1,0 +1,96 @@
+-- What calls that are carried out leave of an image.
+use Rattle.std.proofs.Common.{◌≡◌, ℕ, ◌+◌, ◌*◌, ◌<◌, ◌≤◌, List, [], ◌∷◌, length, replicate, Ok, Err, refl, sym, ap, subst, ◌∙◌, arith}
+use Rattle.std.specs.Prelude.{Result}
+use Rattle.std.specs.List.{AllByRecursion}
+use Rattle.std.proofs.lemmas.List.{length-replicate}
+use Rattle.std.proofs.Math.Nat.{mul-le-mul_right}
+use Rattle.jffs_flash.specs.Device.{Device, with_image, Programs, Fails, EraseFails}
+use Rattle.jffs_flash.specs.Image.{window, erased_byte, programmed, IsHalfProgrammed, IsHalfErased}
+use Rattle.jffs_flash.specs.declared.fuse.Fail.TheVariants.{Nothing}
+use Rattle.jffs_flash.proofs.Bits.{length-programmed}
+use Rattle.jffs_flash.proofs.Halves.{half_programmed, half_erased, length-window}
+use Rattle.jffs_queue.specs.declared.call.Call.{Call}
+use Rattle.jffs_queue.specs.declared.call.Call.TheVariants.{Erase, Program}
+use Rattle.jffs_queue.specs.Queue.{Queued, after_call, carried_out, with_call, seen_device, IsInside, IsLaidOver, IsQueue}
+use Rattle.jffs_queue.proofs.Overlays.{length-replaced}
+
+-- a call leaves as many bytes as there were
+pub length-after_call : (sectors size : ℕ) (image : List ℕ) (call : Call) → length image ≡ sectors * size → IsInside sectors size call
+    → length (after_call size image call) ≡ sectors * size
+length-after_call sectors size image (Erase sector) whole inside =
+    let fits = mul-le-mul_right size inside in
+    length-replaced (sector * size) (replicate size erased_byte) image (omega (arith, whole, fits, length-replicate size erased_byte)) ∙ whole
+length-after_call sectors size image (Program at bytes) whole inside =
+    length-programmed at bytes.items image (omega (arith, whole, inside)) ∙ whole
+
+pub length-carried_out : (sectors size : ℕ) (calls : List Call) (image : List ℕ) → length image ≡ sectors * size
+    → AllByRecursion (IsInside sectors size) calls → length (carried_out size calls image) ≡ sectors * size
+length-carried_out sectors size [] image whole inside = whole
+length-carried_out sectors size (call ∷ calls) image whole inside =
+    length-carried_out sectors size calls (after_call size image call) (length-after_call sectors size image call whole inside.0) inside.1
+
+-- of a device that counts no failure no call failed
+pub is_programmed : {A E : Type 0} (at : ℕ) (bytes : List ℕ) (r : Result A E) (old new : Device) → new.faults ≡ 0
+    → Programs at bytes r old new → new ≡ with_image old (programmed at bytes old.image)
+is_programmed at bytes (Ok x) old new none is = is
+is_programmed at bytes (Err x) old new none fails = let risen = fails.faults in absurd (omega arith)
+
+-- A buffer shows the image that the first calls left, and those that are left make the whole image
+-- of it.
+pub record IsUnderway (sectors size at n : ℕ) (buffer : List ℕ) (left : List Call) (image : List ℕ) : Type 0 where
+  pub sofar : List ℕ
+  pub whole : length sofar ≡ sectors * size
+  pub long : length buffer ≡ n
+  pub shows : buffer ≡ window at (length buffer) sofar
+  pub goes : carried_out size left sofar ≡ image
+  pub inside : AllByRecursion (IsInside sectors size) left
+
+-- where a call waits, one less waits once it is carried out
+pub one_less : (old new : Queued) → 0 < length old.calls
+    → ((call : Call) (later : List Call) → old.calls ≡ call ∷ later → new ≡ with_call (record old { calls = later }) call)
+    → length new.calls + 1 ≡ length old.calls
+one_less old new some first = from old.calls refl
+  where
+    from : (calls : List Call) → old.calls ≡ calls → length new.calls + 1 ≡ length old.calls
+    from [] none = let few : length old.calls ≡ 0 = ap (λ (xs : List Call). length xs) none in absurd (omega arith)
+    from (call ∷ later) are =
+        let is : length new.calls ≡ length later = ap (λ (q : Queued). length q.calls) (first call later are) in
+        let many : length old.calls ≡ length (call ∷ later) = ap (λ (xs : List Call). length xs) are in
+        omega arith
+
+-- callers see as many bytes as the sectors have
+pub length-seen : (q : Queued) → IsQueue q → length (seen_device q).image ≡ q.sectors * q.sector_size
+length-seen q sound = length-carried_out q.sectors q.sector_size q.calls q.medium sound.whole sound.inside
+
+-- a program that had no memory was a failure that did nothing
+pub program_fails : (at : ℕ) (bytes : List ℕ) (old new : Queued) → at + length bytes ≤ length (seen_device old).image → new ≡ old
+    → Fails (IsHalfProgrammed at bytes (seen_device old).image) (seen_device old) (seen_device (record new { faults = new.faults + 1 }))
+program_fails at bytes old new inside same =
+    let P : Queued → Type 0 = λ q. Fails (IsHalfProgrammed at bytes (seen_device old).image) (seen_device old) (seen_device (record q { faults = q.faults + 1 })) in
+    subst P (sym same) (record { left = half_programmed Nothing at bytes (seen_device old).image inside; faults = omega arith; rest = refl })
+
+pub erase_fails : (sector : ℕ) (old new : Queued) → sector < old.sectors → length (seen_device old).image ≡ old.sectors * old.sector_size → new ≡ old
+    → EraseFails (IsHalfErased (sector * old.sector_size) old.sector_size (seen_device old).image) (seen_device old)
+    (seen_device (record new { faults = new.faults + 1; failed_erases = new.failed_erases + 1 }))
+erase_fails sector old new known whole same =
+    let fits = mul-le-mul_right old.sector_size known in
+    let P : Queued → Type 0 = λ q. EraseFails (IsHalfErased (sector * old.sector_size) old.sector_size (seen_device old).image) (seen_device old) (seen_device (record q { faults = q.faults + 1; failed_erases = q.failed_erases + 1 })) in
+    subst P (sym same) (record { left = half_erased Nothing old.sector_size sector (seen_device old).image (omega (arith, whole, fits)); faults = omega arith; rest = refl })
+
+-- one call more was laid over it
+pub goes_on : (sectors size at n : ℕ) (old new : List ℕ) (call : Call) (later : List Call) (image : List ℕ) → at + n ≤ sectors * size
+    → IsUnderway sectors size at n old (call ∷ later) image → IsLaidOver size call at old new → IsUnderway sectors size at n new later image
+goes_on sectors size at n old new call later image fits way laid =
+    let wide = length-after_call sectors size way.sofar call way.whole way.inside.0 in
+    let whole = way.whole in
+    let few = way.long in
+    let is = laid sectors way.sofar whole way.inside.0 (omega arith) way.shows in
+    let long : length new ≡ length old = ap (λ (xs : List ℕ). length xs) is ∙ length-window at (length old) (after_call size way.sofar call) (omega arith) in
+    record {
+      sofar = after_call size way.sofar call;
+      whole = wide;
+      long = long ∙ few;
+      shows = is ∙ ap (λ k. window at k (after_call size way.sofar call)) (sym long);
+      goes = way.goes;
+      inside = way.inside.1;
+    }

@@ -1,0 +1,13 @@
+//! Flash whose changes somebody else carries out.
+//!
+//! It stands on `jffs_flash`. [`QueuedFlash`] meets the trait `Flash`, and touches no device: each
+//! change waits as a [`Call`], until whoever has the device has carried it out and says so. Reads
+//! see the image as it is once all that waits is carried out.
+#![tactic(auto)]
+
+mod call;
+mod overlay;
+mod queue;
+
+pub use call::Call;
+pub use queue::QueuedFlash;

@@ -15,7 +15,7 @@ use Rattle.jffs_log.specs.Image.{records_in, starts, oldest_of, is_one_run, turn
 use Rattle.jffs_log.specs.Volume.{split, sectors_in}
 use Rattle.jffs_log.specs.Scan.{Scanned, first_bad, versions_rise, or_refuse, unless, scan_sectors, scan}
 use Rattle.jffs_log.specs.ScanRead.{oldest_sector, AreRead, IsReadFault}
-use Rattle.jffs_log.specs.Room.{following, limits as limits_after}
+use Rattle.jffs_log.specs.Room.{following, greatest_inode, limits as limits_after}
 use Rattle.jffs_log.specs.ScanFound.{last_version, nodes_held, scan_of, IsCause, IsFound, IsRefused}
 use Rattle.jffs_log.proofs.ring.Ring.{Numbered, sectors_of, sectors_numbered, ring_lengths}
 use Rattle.jffs_log.proofs.ring.Volume.{length-split}

@@ -12,7 +12,7 @@ use Rattle.jffs_log.specs.Image.{records_in, free_of_tail, is_clean_tail}
 use Rattle.jffs_log.specs.LogIndex.{ref_of}
 use Rattle.jffs_log.specs.Scan.{versions_rise}
 use Rattle.jffs_log.specs.ScanRead.{number_of_tail, used_of_tail, oldest_sector}
-use Rattle.jffs_log.specs.Room.{limits as limits_after}
+use Rattle.jffs_log.specs.Room.{greatest_inode, limits as limits_after}
 use Rattle.jffs_log.specs.ScanFound.{IsRefused, last_version, nodes_held}
 use Rattle.jffs_log.proofs.ring.Ring.{Numbered}
 use Rattle.jffs_log.proofs.append.Appended.{sizes_small}

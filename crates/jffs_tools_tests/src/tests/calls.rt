@@ -90,38 +90,42 @@ fn is_text(rt: &impl Abort, text: String, wanted: &str) {
 }
 
 #[test]
-fn each_part_of_a_line_has_its_text(rt: HostRuntime) -> Result<(), Fail> {
+fn what_a_mount_finds_has_its_text(rt: HostRuntime) -> Result<(), Fail> {
     let alloc = rt.alloc();
     is_text(&rt, next_text(alloc, &LIMITS)?, "next none 4");
-    assert_eq!(rt;
-        (mounted_text(true), mounted_text(false)),
-        ("mounted clean", "mounted unclean")
-    );
+    assert_eq!(rt; mounted_text(true), "mounted clean");
+    assert_eq!(rt; mounted_text(false), "mounted unclean");
     let mounted = mounted_next_text(alloc, true, &LIMITS)?;
     is_text(&rt, mounted, "mounted clean next none 4");
-    let digest = digest_text(alloc, b"abc")?;
+    Ok(())
+}
+
+#[test]
+fn a_digest_and_each_refusal_have_their_texts(rt: HostRuntime) -> Result<(), Fail> {
+    let digest = digest_text(rt.alloc(), b"abc")?;
     is_text(
         &rt,
         digest,
         "ba7816bf8f01cfea414140de5dae2223b00361a396177a9cb410ff61f20015ad",
-    );
-    is_text(
-        &rt,
-        scan_refused_text(alloc, ScanWhy::NoErased)?,
-        "refused NoErased",
     );
     let bad = ScanWhy::BadRecord {
         sector: 2,
         place: 64,
         why: Why::Magic,
     };
-    is_text(
-        &rt,
-        scan_refused_text(alloc, bad)?,
-        "refused BadRecord 2 64 Magic",
-    );
-    is_text(&rt, sectors_text(alloc, 4, 3, 6)?, "sectors 4 5 0");
-    is_text(&rt, sectors_text(alloc, 0, 0, 6)?, "sectors");
+    for (why, wanted) in [
+        (ScanWhy::NoErased, "refused NoErased"),
+        (bad, "refused BadRecord 2 64 Magic"),
+    ] {
+        is_text(&rt, scan_refused_text(rt.alloc(), why)?, wanted);
+    }
+    Ok(())
+}
+
+#[test]
+fn a_ring_and_its_records_have_their_texts(rt: HostRuntime) -> Result<(), Fail> {
+    is_text(&rt, sectors_text(rt.alloc(), 4, 3, 6)?, "sectors 4 5 0");
+    is_text(&rt, sectors_text(rt.alloc(), 0, 0, 6)?, "sectors");
     let entry = RecordRef {
         version: 7,
         inode: 2,
@@ -129,16 +133,12 @@ fn each_part_of_a_line_has_its_text(rt: HostRuntime) -> Result<(), Fail> {
         sector: 5,
         offset: 128,
     };
-    is_text(
-        &rt,
-        record_text(alloc, &entry, true)?,
-        "record 5 128 72 7 live",
-    );
-    is_text(
-        &rt,
-        record_text(alloc, &entry, false)?,
-        "record 5 128 72 7 dead",
-    );
+    for (live, wanted) in [
+        (true, "record 5 128 72 7 live"),
+        (false, "record 5 128 72 7 dead"),
+    ] {
+        is_text(&rt, record_text(rt.alloc(), &entry, live)?, wanted);
+    }
     Ok(())
 }
 
@@ -173,7 +173,7 @@ fn created(alloc: Global, replay: &mut Replay, seq: u32, path: &str) -> Result<D
 #[test]
 fn a_replay_is_driven_call_by_call(rt: HostRuntime) -> Result<(), Fail> {
     let mut replay = begun(&rt)?;
-    for (seq, path, at) in [(1, "/a", 0), (2, "/b", 64)] {
+    for (seq, path, at) in [(1u32, "/a", 0u64), (2, "/b", 64)] {
         let wanted = Did::Appended {
             inode: seq.saturating_add(1),
             version: seq,

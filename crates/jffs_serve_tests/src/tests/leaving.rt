@@ -43,7 +43,7 @@ struct Told {
 }
 
 /// Answers a copy: granted, or not needed where its record is dead by now, or refused for memory.
-fn told(
+fn tell_one(
     rt: &impl Abort,
     core: &mut Core<MemoryFlash>,
     copy: Request,
@@ -83,7 +83,7 @@ fn all_told(
         refused: 0,
     };
     for copy in copies {
-        now = told(rt, core, copy, now)?;
+        now = tell_one(rt, core, copy, now)?;
     }
     assert!(rt; now.refused <= 1);
     let records = u32::try_from(core.log().records().len()).ok();

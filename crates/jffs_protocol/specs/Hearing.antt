@@ -1,0 +1,92 @@
+-- What is taken from a reader, where the bytes that it has left are known.
+use Rattle.std.specs.Prelude.{◌≡◌, ◌≢◌, ◌⊎◌, ◌≤◌, ℕ, Bool, false, List, [], ◌∷◌, ◌++◌, All, length, take}
+use Rattle.std.specs.Prelude.{Option, Some, None, ⊤}
+use Rattle.std.specs.Io.KnownBytes.{Consumes, IsAtEnd}
+use Rattle.jffs_protocol.specs.declared.asking.Ask.{Ask}
+use Rattle.jffs_protocol.specs.declared.hearing.Heard.{Heard}
+use Rattle.jffs_protocol.specs.declared.hearing.Heard.TheVariants as heard
+use Rattle.jffs_protocol.specs.declared.hearing.LineEnd.{LineEnd}
+use Rattle.jffs_protocol.specs.declared.hearing.LineEnd.TheVariants as line_end_kind
+use Rattle.jffs_protocol.specs.Asks.{ask_line, body_len}
+
+abbrev pub line_feed : List ℕ
+line_feed = 10 ∷ []
+
+-- the next byte, or none where no byte is left
+abbrev pub TakesNext : Option (List ℕ) → Option (List ℕ) → Option ℕ → Type 0
+TakesNext old new (Some byte) = Consumes old new (byte ∷ [])
+TakesNext old new None = IsAtEnd new
+
+-- a line with its line feed
+pub record IsLine (taken : List ℕ) : Type 0 where
+  pub line : List ℕ
+  pub one : All (λ b. b ≢ 10) line
+  pub is : taken ≡ line ++ line_feed
+
+-- the line of a request, and the bytes that it counts
+pub record IsRequest (ask : Ask) (body taken : List ℕ) : Type 0 where
+  pub counted : length body ≡ body_len ask
+  pub is : taken ≡ (ask_line ask ++ line_feed) ++ body
+
+-- some bytes of a line
+pub record TakesPart (old new : Option (List ℕ)) (long : Bool) (line : List ℕ) : Type 0 where
+  pub bytes : List ℕ
+  pub taken : Consumes old new bytes
+  pub one : All (λ b. b ≢ 10) bytes
+  pub kept : long ≡ false → line ≡ bytes
+
+-- so many bytes
+pub record TakesCount (old new : Option (List ℕ)) (count : ℕ) : Type 0 where
+  pub bytes : List ℕ
+  pub taken : Consumes old new bytes
+  pub counted : length bytes ≡ count
+
+-- the front of the room has what this request counts
+pub record HasBody (ask : Ask) (old new : Option (List ℕ)) (asked : Ask) (room : List ℕ) :
+    Type 0 where
+  pub same : asked ≡ ask
+  pub fits : body_len ask ≤ length room
+  pub taken : Consumes old new (take (body_len ask) room)
+
+-- a line that was taken whole
+pub record TakesLine (old new : Option (List ℕ)) (line : List ℕ) : Type 0 where
+  pub one : All (λ b. b ≢ 10) line
+  pub taken : Consumes old new (line ++ line_feed)
+
+pub record TakesSomeLine (old new : Option (List ℕ)) : Type 0 where
+  pub line : List ℕ
+  pub takes : TakesLine old new line
+
+-- how a line was heard, and what of it is kept
+abbrev pub HearsLine : Option (List ℕ) → Option (List ℕ) → LineEnd → List ℕ → Type 0
+HearsLine old new line_end_kind.Cut line = ⊤
+HearsLine old new line_end_kind.Long line = TakesSomeLine old new
+HearsLine old new line_end_kind.Whole line = TakesLine old new line
+
+-- What is no request: a line, or one with what it counts.
+abbrev pub IsNoRequest : List ℕ → Type 0
+IsNoRequest taken = IsLine taken ⊎ ((ask : Ask) × (body : List ℕ) × IsRequest ask body taken)
+
+pub record Drops (old new : Option (List ℕ)) : Type 0 where
+  pub bytes : List ℕ
+  pub taken : Consumes old new bytes
+  pub dropped : IsNoRequest bytes
+
+-- A request was taken, and what it counts stands at the front of the room.
+pub record Takes (old new : Option (List ℕ)) (ask : Ask) (room : List ℕ) : Type 0 where
+  pub bytes : List ℕ
+  pub taken : Consumes old new bytes
+  pub fits : body_len ask ≤ length room
+  pub request : IsRequest ask (take (body_len ask) room) bytes
+
+-- what became of the bytes that a request counts, once its line was taken
+abbrev pub HearsBody : Ask → Option (List ℕ) → Option (List ℕ) → Heard → List ℕ → Type 0
+HearsBody ask old new heard.End room = ⊤
+HearsBody ask old new heard.Malformed room = TakesCount old new (body_len ask)
+HearsBody ask old new (heard.Asked a) room = HasBody ask old new a room
+
+-- What was heard is what was taken, and nothing after it.
+abbrev pub Hears : Option (List ℕ) → Option (List ℕ) → Heard → List ℕ → Type 0
+Hears old new heard.End room = ⊤
+Hears old new heard.Malformed room = Drops old new
+Hears old new (heard.Asked ask) room = Takes old new ask room

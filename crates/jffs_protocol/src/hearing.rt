@@ -1,0 +1,186 @@
+//! What stands on standard input, request by request.
+
+ghost use Rattle.std.specs.Io.KnownBytes.{Consumes};
+ghost use Rattle.std.specs.Prelude.{◌≡◌, true, IfOk, length};
+ghost use Rattle.jffs_protocol.specs.Hearing.{TakesNext, TakesCount, HearsLine, HearsBody, Hears};
+
+use crate::asking::{Ask, ask_of};
+use std::alloc::{AllocError, Global};
+use std::io;
+use std::io::{ErrorKind, Read};
+
+/// The most bytes of a request's line, without its line feed.
+const LINE_MAX: usize = 100;
+
+/// How many bytes are dropped at once.
+const CHUNK_LEN: usize = 256;
+
+/// What was heard next.
+#[derive(Clone, Copy)]
+pub(crate) enum Heard {
+    /// The end of the input, perhaps within a request.
+    End,
+    /// What is no request.
+    Malformed,
+    /// A request, and the bytes that it counts.
+    Asked(Ask),
+}
+
+/// How a line ended.
+#[derive(Clone, Copy)]
+enum LineEnd {
+    /// With the input.
+    Cut,
+    /// With its line feed, after more bytes than a line may have.
+    Long,
+    /// With its line feed.
+    Whole,
+}
+
+/// Where a request and its answer are put together. Its memory is kept from one to the next.
+#[derive(Drop)]
+pub struct Room {
+    /// The most bytes that a path may have.
+    path_max: usize,
+    /// The most bytes of data that a request may have.
+    data_max: usize,
+    line: Vec<u8>,
+    /// The line of the request that was thought of.
+    written: Vec<u8>,
+    /// The bytes that a request counts.
+    pub(crate) body: Vec<u8>,
+    pub(crate) answer: Vec<u8>,
+}
+
+impl Room {
+    /// Room for requests whose first path and whose data, or second path, have at most so many
+    /// bytes.
+    pub fn new(alloc: Global, path_max: u32, data_max: u32) -> Result<Room, AllocError> {
+        let (path_max, data_max) = (path_max as usize, data_max as usize);
+        Ok(Room {
+            path_max,
+            data_max,
+            line: Vec::new(alloc),
+            written: Vec::new(alloc),
+            body: Vec::with_capacity(alloc, path_max + data_max)?,
+            answer: Vec::new(alloc),
+        })
+    }
+}
+
+/// Takes the next request, and nothing after it. The bytes that it counts are put at the front of
+/// the room's body.
+pub(crate) fn hear<R: Read>(input: &mut R, room: &mut Room) -> io::Result<Heard>
+    ensures { IfOk result (λ heard. Hears (R.remaining input.old) (R.remaining input.new) heard
+        room.new.body.items) }
+{
+    match hear_line(input, &mut room.line)? {
+        LineEnd::Cut => Ok(Heard::End),
+        LineEnd::Long => Ok(Heard::Malformed),
+        LineEnd::Whole => match ask_of(&room.line, &mut room.written)? {
+            None => Ok(Heard::Malformed),
+            Some(ask) => hear_body(input, ask, room),
+        },
+    }
+}
+
+/// Takes a line with its line feed, and keeps it without that.
+fn hear_line<R: Read>(input: &mut R, line: &mut Vec<u8>) -> io::Result<LineEnd>
+    ensures { IfOk result (λ end. HearsLine (R.remaining input.old) (R.remaining input.new) end
+        line.new.items) }
+{
+    line.clear();
+    let mut long = false;
+    for _ in 0..u64::MAX {
+        match next_byte(input)? {
+            None => return Ok(LineEnd::Cut),
+            Some(b'\n') if long => return Ok(LineEnd::Long),
+            Some(b'\n') => return Ok(LineEnd::Whole),
+            Some(byte) if line.len() < LINE_MAX => line.push(byte)?,
+            Some(_) => long = true,
+        }
+    }
+    Err(endless())
+}
+
+/// Takes the next byte; `None` at the end.
+fn next_byte<R: Read>(input: &mut R) -> io::Result<Option<u8>>
+    ensures { IfOk result (λ byte. TakesNext (R.remaining input.old) (R.remaining input.new) byte) }
+{
+    let mut byte = [0u8; 1];
+    for _ in 0..u64::MAX {
+        match input.read(&mut byte) {
+            Ok(0) => return Ok(None),
+            Ok(_) => return Ok(Some(byte[0])),
+            Err(error) if error.kind() == ErrorKind::Interrupted => {}
+            Err(error) => return Err(error),
+        }
+    }
+    Err(endless())
+}
+
+/// What no input is.
+fn endless() -> io::Error {
+    io::Error::from(ErrorKind::FileTooLarge)
+}
+
+/// Takes the bytes that a request counts.
+fn hear_body<R: Read>(input: &mut R, ask: Ask, room: &mut Room) -> io::Result<Heard>
+    ensures { IfOk result (λ heard. HearsBody ask (R.remaining input.old) (R.remaining input.new)
+        heard room.new.body.items) }
+{
+    let first = ask.first_len() as usize;
+    let second = ask.second_len() as usize;
+    let count = first + second;
+    if first > room.path_max || second > room.data_max {
+        return if skip(input, &mut room.body, count)? {
+            Ok(Heard::Malformed)
+        } else {
+            Ok(Heard::End)
+        };
+    }
+    if fill(input, &mut room.body, count)? {
+        Ok(Heard::Asked(ask))
+    } else {
+        Ok(Heard::End)
+    }
+}
+
+/// Takes so many bytes, in place of what stands there; `false` where the input ends before.
+fn fill<R: Read>(input: &mut R, bytes: &mut Vec<u8>, count: usize) -> io::Result<bool>
+    ensures { IfOk result (λ all. all ≡ true → (length bytes.new.items ≡ count)
+        × Consumes (R.remaining input.old) (R.remaining input.new) bytes.new.items) }
+{
+    bytes.clear();
+    bytes.resize(count, 0)?;
+    take_exact(input, bytes)
+}
+
+/// Takes as many bytes as the slice has; `false` where the input ends before.
+fn take_exact<R: Read>(input: &mut R, bytes: &mut [u8]) -> io::Result<bool>
+    ensures taken { IfOk result
+        (λ all. all ≡ true → Consumes (R.remaining input.old) (R.remaining input.new) bytes.new) }
+    ensures same_length { length bytes.new ≡ length bytes.old }
+{
+    match input.read_exact(bytes) {
+        Ok(()) => Ok(true),
+        Err(error) if error.kind() == ErrorKind::UnexpectedEof => Ok(false),
+        Err(error) => Err(error),
+    }
+}
+
+/// Takes so many bytes and drops them; `false` where the input ends before.
+fn skip<R: Read>(input: &mut R, bytes: &mut Vec<u8>, count: usize) -> io::Result<bool>
+    ensures { IfOk result
+        (λ all. all ≡ true → TakesCount (R.remaining input.old) (R.remaining input.new) count) }
+{
+    let mut left = count;
+    while left > 0 {
+        let part = left.min(CHUNK_LEN);
+        if !fill(input, bytes, part)? {
+            return Ok(false);
+        }
+        left -= part;
+    }
+    Ok(true)
+}

@@ -19,6 +19,7 @@ enum Command {
     Map,
     Save,
     Load,
+    Serve,
 }
 
 impl Command {
@@ -37,6 +38,7 @@ impl Command {
             "map" => Some(Command::Map),
             "save" => Some(Command::Save),
             "load" => Some(Command::Load),
+            "serve" => Some(Command::Serve),
             _ => None,
         }
     }
@@ -56,13 +58,18 @@ impl Command {
             Command::Map => "map [--svg] FILE",
             Command::Save => "save [--from-damaged] FILE DIRECTORY",
             Command::Load => "load FILE DIRECTORY",
+            Command::Serve => "serve FILE",
         }
     }
 
     /// The fewest words that follow it.
     fn least(self) -> usize {
         match self {
-            Command::List | Command::Usage | Command::Check | Command::Map => 1,
+            Command::List
+            | Command::Usage
+            | Command::Check
+            | Command::Map
+            | Command::Serve => { 1 },
             Command::Show
             | Command::Put
             | Command::MakeDir
@@ -115,6 +122,8 @@ pub(crate) enum Task<'a> {
     /// All of it is written into this directory of the host; of a volume that is refused, if
     /// `damaged`, what its records make.
     Save { directory: &'a str, damaged: bool },
+    /// It answers the requests of standard input.
+    Serve,
 }
 
 /// What is to be seen of a volume.
@@ -147,12 +156,12 @@ pub(crate) enum Change<'a> {
 #[derive(Clone, Copy, Debug, Error)]
 pub enum CallFault<'a> {
     /// There is no word after the program's name.
-    #[error("a command is wanted: format, ls, cat, put, mkdir, mv, rm, df, check, map, save or \
-    load; --help tells more")]
+    #[error("a command is wanted: format, ls, cat, put, mkdir, mv, rm, df, check, map, save, \
+    load or serve; --help tells more")]
     NoCommand,
     /// The first word is no command.
     #[error("unknown command '{0}'; commands are format, ls, cat, put, mkdir, mv, rm, df, check, \
-    map, save and load")]
+    map, save, load and serve")]
     Command(&'a str),
     /// A word that begins with `-` is no option.
     #[error("unknown option '{0}'; options are -l, -r, --svg, --from-damaged, --sector-size, \
@@ -333,6 +342,7 @@ fn task_of<'a>(
         Command::Remove if options.recursive => Task::Change(Change::RemoveAll(first)),
         Command::Remove => Task::Change(Change::Remove(first)),
         Command::Load => Task::Change(Change::Load(first)),
+        Command::Serve => Task::Serve,
     })
 }
 

@@ -6,6 +6,7 @@ use jffs_file::{FileFault, StoreFault};
 use jffs_flash::{MAX_SECTORS, MIN_SECTORS, VOLUME_MAX};
 use jffs_log::ScanWhy;
 use jffs_node::{NoMemory, PathFault};
+use jffs_protocol::StreamFault;
 use jffs_tree::Cause;
 use std::alloc::{AllocError, AllocFailed};
 use std::io;
@@ -35,6 +36,12 @@ pub enum VolumeFault {
     /// The file has more bytes than any volume.
     #[error("the file has more than {VOLUME_MAX} bytes, which no volume has")]
     Large,
+    /// Another program changes the file, or may: it holds its lock.
+    #[error("another program has the file locked: one at a time may change it")]
+    Locked,
+    /// The file can't be locked.
+    #[error("the file can't be locked")]
+    NoLock,
     /// The file has so many bytes, which are no whole number of sectors of this size.
     #[error("the file has {found} bytes, which are no whole number of sectors of {size} bytes")]
     Length { found: u64, size: u32 },
@@ -140,6 +147,8 @@ impl VolumeFault {
             VolumeFault::File(_)
             | VolumeFault::Unread
             | VolumeFault::Large
+            | VolumeFault::Locked
+            | VolumeFault::NoLock
             | VolumeFault::Length { .. }
             | VolumeFault::Sectors(_)
             | VolumeFault::SectorSize(_)
@@ -253,6 +262,16 @@ impl From<PathFault> for VolumeFault {
         match fault {
             PathFault::Memory => VolumeFault::Memory,
             _ => VolumeFault::Path(fault),
+        }
+    }
+}
+
+impl From<StreamFault> for VolumeFault {
+    fn from(fault: StreamFault) -> VolumeFault {
+        match fault {
+            StreamFault::Input => VolumeFault::Read,
+            StreamFault::Output => VolumeFault::Write,
+            StreamFault::Memory => VolumeFault::Memory,
         }
     }
 }

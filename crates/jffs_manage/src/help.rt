@@ -19,6 +19,8 @@ Looks into the volume in FILE, and changes what is there:
   df FILE                           how full the volume is
   map [--svg] FILE                  what each sector holds; with --svg as a picture, in SVG
   check FILE                        whether there is a volume, and whether it is clean
+  serve FILE                        mounts the volume once, and answers the requests of standard
+                                    input on standard output, until its end or 'unmount'
 
 A volume has 6 to 64 SECTORS of 1024, 2048, 4096, 8192 or 16384 bytes. A PATH begins with a slash
 and has at most 8 names of 1 to 20 bytes; a file has at most 1048576 bytes. The size of a sector is

@@ -8,6 +8,7 @@
 //! and to a directory of the host, and `salvaging` saves what is left of a volume that is refused.
 #![tactic(auto)]
 
+mod answering;
 mod arguments;
 mod changing;
 mod drawing;
@@ -20,8 +21,10 @@ mod mounting;
 mod program;
 mod rooming;
 mod salvaging;
+mod serving;
 mod session;
 mod walking;
+mod wanting;
 
 pub use arguments::CallFault;
 pub use fault::VolumeFault;

@@ -27,12 +27,12 @@ const CHUNK_LEN: usize = 256;
 
 /// What is to be seen of a directory or file.
 #[derive(Clone, Copy)]
-struct Sight {
-    directory: bool,
+pub(crate) struct Sight {
+    pub directory: bool,
     /// How many bytes it has; a directory has none.
-    size: u32,
+    pub size: u32,
     /// The lengths of its live records together, in bytes.
-    live: u64,
+    pub live: u64,
 }
 
 /// Writes the names in a directory by their bytes, a line for each: `d NAME` for a directory, `f
@@ -84,7 +84,7 @@ fn list_directory<F: Flash, W: Write>(
 
 /// What is to be seen of an inode; what its records take is looked for only where `long` asks for
 /// it.
-fn sight_of<F: Flash>(core: &Core<F>, inode: u32, long: bool) -> Sight
+pub(crate) fn sight_of<F: Flash>(core: &Core<F>, inode: u32, long: bool) -> Sight
     ensures { result ≡ sight_in long core.now.tree core.now.index.records.items inode }
 {
     let tree = core.tree();
@@ -174,20 +174,20 @@ fn too_long() -> io::Error {
 
 /// How full a volume is.
 #[derive(Clone, Copy)]
-struct Usage {
-    sectors: u32,
+pub(crate) struct Usage {
+    pub sectors: u32,
     /// How many bytes a sector has.
-    sector_size: u32,
+    pub sector_size: u32,
     /// How many sectors are erased.
-    erased: u32,
+    pub erased: u32,
     /// What the live records weigh, in bytes.
-    weight: u64,
+    pub weight: u64,
     /// The weight below which no operation is refused for want of room while two sectors are
     /// erased.
-    sure: u64,
+    pub sure: u64,
 }
 
-fn usage_of<F: Flash>(core: &Core<F>) -> Usage
+pub(crate) fn usage_of<F: Flash>(core: &Core<F>) -> Usage
     ensures sizes { (result.sectors ≡ core.now.index.sectors)
         × (result.sector_size ≡ core.now.index.sector_size) }
     ensures erased { result.erased ≡ core.now.index.sectors - core.now.index.held }

@@ -8,7 +8,7 @@ use jffs_file::{FileFlash, FileStore, open_image};
 use jffs_flash::{MemoryFlash, SECTOR_SIZES, VOLUME_MAX, is_geometry};
 use jffs_log::ScanWhy;
 use std::alloc::Global;
-use std::fs::File;
+use std::fs::{File, TryLockError};
 use std::io::Read;
 use std::rt::Files;
 
@@ -35,6 +35,20 @@ pub(crate) fn mount<Rt: Files + AllocGlobal>(
     match Core::mount(rt.alloc(), image.into_flash(sectors, size)?) {
         Ok(core) => Ok(core),
         Err(fault) => Err(refused(fault.why)),
+    }
+}
+
+/// Takes the lock of a file, which whoever changes it holds: the operating system gives it back once
+/// the handle is gone, also where the program is killed, and leaves nothing behind.
+///
+/// `Locked` where another program holds it, `NoLock` where the file can't be locked, `Unread` or
+/// `File` where it can't be opened, `Memory`.
+pub(crate) fn lock<Rt: Files<File = File>>(rt: &Rt, file: &str) -> Result<File, VolumeFault> {
+    let opened = File::open(rt, file).map_err(VolumeFault::of_file_read)?;
+    match opened.try_lock() {
+        Ok(()) => Ok(opened),
+        Err(TryLockError::WouldBlock) => Err(VolumeFault::Locked),
+        Err(TryLockError::Error(_)) => Err(VolumeFault::NoLock),
     }
 }
 

@@ -1,5 +1,6 @@
 //! The program.
 
+use crate::answering::PATH_TEXT_MAX;
 use crate::arguments::{Call, CallFault, Change, Look, Task, Work, call_of};
 use crate::changing::{put, read_all, remove_all};
 use crate::drawing::{draw, draw_svg};
@@ -8,15 +9,18 @@ use crate::help::{HELP, VERSION};
 use crate::hosting::{load, save};
 use crate::looking::{check, file_at, list, show, write_usage};
 use crate::mapping::{Map, map_of};
-use crate::mounting::{mount, mount_copy};
+use crate::mounting::{lock, mount, mount_copy};
 use crate::salvaging::save_damaged;
+use crate::serving::Served;
 use crate::session::Session;
 use jffs_core::Core;
 use jffs_file::create_image;
 use jffs_flash::{Flash, MAX_SECTORS, MIN_SECTORS, is_geometry};
 use jffs_node::Path;
+use jffs_protocol::{Room, serve};
 use jffs_tree::{Tree, Wish};
 use std::alloc::Global;
+use std::fs::File;
 use std::io;
 use std::io::{Read, Write};
 use std::rt::Files;
@@ -28,7 +32,7 @@ use std::rt::Files;
 /// where the file, or what is on the host, can't be used, 3 where the file is no volume, 4 where
 /// the file system refused. For all but the first one line goes to `errors`; so does a
 /// line for all that is missing where a damaged volume is saved.
-pub fn run_volume<Rt: Files + AllocGlobal + Clone + Drop, R: Read, W: Write, E: Write>(
+pub fn run_volume<Rt: Files<File = File> + AllocGlobal + Clone + Drop, R: Read, W: Write, E: Write>(
     rt: &Rt,
     words: &[String],
     input: &mut R,
@@ -87,7 +91,7 @@ fn write_text<W: Write>(text: &str, out: &mut W) -> Result<(), VolumeFault> {
 }
 
 /// Does what a call asks for. `reached` is left with the path at which a walk stopped.
-fn carry_out<Rt: Files + AllocGlobal + Clone + Drop, R: Read, W: Write, E: Write>(
+fn carry_out<Rt: Files<File = File> + AllocGlobal + Clone + Drop, R: Read, W: Write, E: Write>(
     rt: &Rt,
     work: Work<'_>,
     input: &mut R,
@@ -106,6 +110,7 @@ fn carry_out<Rt: Files + AllocGlobal + Clone + Drop, R: Read, W: Write, E: Write
         }
         Task::Look(asked) => look(rt, &work, asked, out, coloured)?,
         Task::Change(asked) => change(rt, &work, asked, input, reached)?,
+        Task::Serve => serve_volume(rt, &work, input, out)?,
         Task::Save {
             directory,
             damaged: true,
@@ -184,17 +189,41 @@ fn draw_as<W: Write>(map: &Map, svg: bool, coloured: bool, out: &mut W) -> io::R
 }
 
 /// Mounts the volume, changes it, unmounts it and brings the file to its medium.
-fn change<Rt: Files + AllocGlobal + Clone + Drop, R: Read>(
+fn change<Rt: Files<File = File> + AllocGlobal + Clone + Drop, R: Read>(
     rt: &Rt,
     work: &Work<'_>,
     asked: Change<'_>,
     input: &mut R,
     reached: &mut String,
 ) -> Result<(), VolumeFault> {
+    let _locked = lock(rt, work.file)?;
     let mut session = Session::new(mount(rt, work.file, work.sector_size)?);
     let changed = change_in(rt, &mut session, asked, input, reached);
     let (flash, closed) = session.close();
     changed?;
+    closed?;
+    flash.sync()?;
+    Ok(())
+}
+
+/// Mounts the volume and answers what the input asks, up to the unmount; where none is asked for, it
+/// is unmounted once the input or a stream ends. Then the file is brought to its medium.
+fn serve_volume<Rt: Files<File = File> + AllocGlobal, R: Read, W: Write>(
+    rt: &Rt,
+    work: &Work<'_>,
+    input: &mut R,
+    out: &mut W,
+) -> Result<(), VolumeFault> {
+    let _locked = lock(rt, work.file)?;
+    let session = Session::new(mount(rt, work.file, work.sector_size)?);
+    let data_max = session.write_max();
+    let mut served = Served::new(rt.alloc(), session);
+    let mut room = Room::new(rt.alloc(), PATH_TEXT_MAX, data_max)?;
+    let streams = serve(&mut served, &mut room, input, out);
+    let (session, failed) = served.into_parts();
+    let (flash, closed) = session.close();
+    failed?;
+    streams?;
     closed?;
     flash.sync()?;
     Ok(())

@@ -1,6 +1,8 @@
 //! Requests to a mounted volume, one after another, up to its unmount.
 
-ghost use Rattle.std.specs.Prelude.{◌≡◌};
+ghost use Rattle.std.specs.Prelude.{◌≡◌, IfOk, OnErr};
+ghost use Rattle.jffs_core.specs.Trees.{KeepsTree};
+ghost use Rattle.jffs_manage.specs.Changes.{IsAnswered, IsCarriedOut};
 
 use crate::fault::VolumeFault;
 use jffs_core::{Cleaned, Core};
@@ -82,8 +84,36 @@ impl<F: Flash> Session<F> {
         }
     }
 
+    /// Has one request answered, and erases what died by it: what the core answered. If the erase
+    /// fails, the core has failed. `Memory`: nothing was asked.
+    pub fn carry_out(&mut self, wish: Wish) -> Result<Outcome, VolumeFault>
+        ensures done { IfOk result
+            (λ outcome. IsCarriedOut wish outcome self.old.core self.new.core) }
+        ensures memory { OnErr result (self.new.core.tree ≡ self.old.core.tree) }
+    {
+        let seq = self.seq.saturating_add(1);
+        let outcome = self.answer(WRITER, seq, wish)?;
+        self.seq = seq;
+        self.erase_after(outcome);
+        Ok(outcome)
+    }
+
+    /// Erases what died by a request with this outcome.
+    fn erase_after(&mut self, outcome: Outcome)
+        ensures { KeepsTree self.old.core self.new.core }
+    {
+        if matches!(outcome, Outcome::Refused(_)) {
+            return;
+        }
+        let _ = self.core.erase_dead();
+    }
+
     /// Has a request of this sender answered. `Memory`: nothing was asked.
-    fn answer(&mut self, writer: u16, seq: u32, wish: Wish) -> Result<Outcome, VolumeFault> {
+    fn answer(&mut self, writer: u16, seq: u32, wish: Wish) -> Result<Outcome, VolumeFault>
+        ensures answered { IfOk result
+            (λ outcome. IsAnswered wish outcome self.old.core self.new.core) }
+        ensures memory { OnErr result (self.new.core.tree ≡ self.old.core.tree) }
+    {
         if self.core.reserve_answer().is_err() {
             return Err(VolumeFault::Memory);
         }
@@ -105,16 +135,20 @@ impl<F: Flash> Session<F> {
         }
     }
 
-    /// Unmounts the volume, unless its device failed or no node was appended, and gives the device
-    /// back.
-    pub fn close(mut self) -> (F, Result<(), VolumeFault>) {
-        let closed = if self.core.failed() {
+    /// Unmounts the volume, unless its device failed or no node was appended.
+    pub fn finish(&mut self) -> Result<(), VolumeFault> {
+        if self.core.failed() {
             Err(VolumeFault::Refused(Cause::Failed))
         } else if self.core.limits() == self.begun {
             Ok(())
         } else {
             self.unmount()
-        };
+        }
+    }
+
+    /// Unmounts the volume, as [`finish`](Session::finish) does, and gives the device back.
+    pub fn close(mut self) -> (F, Result<(), VolumeFault>) {
+        let closed = self.finish();
         let Session {
             core,
             seq: _,

@@ -6,6 +6,7 @@ mod faults;
 mod filling;
 mod images;
 mod maps;
+mod served;
 mod streams;
 mod texts;
 mod trees;
@@ -13,6 +14,7 @@ mod words;
 
 use jffs_manage::run_volume;
 use std::fs;
+use std::fs::File;
 use std::process::Abort;
 use std::rt::Files;
 use std::test::Fail;
@@ -21,7 +23,7 @@ use std::test::Fail;
 /// output where the status is 0, else to standard error.
 type Row<'a> = (&'a str, &'a str, u8, &'a str);
 
-fn plays<Rt: Abort + Files + AllocGlobal + Clone + Drop>(
+fn plays<Rt: Abort + Files<File = File> + AllocGlobal + Clone + Drop>(
     rt: &Rt,
     rows: &[Row<'_>],
 ) -> Result<(), Fail> {
@@ -44,7 +46,7 @@ fn plays<Rt: Abort + Files + AllocGlobal + Clone + Drop>(
 
 /// Calls without input, each with its status and the line that it writes to standard error after
 /// `head`.
-fn refuses<Rt: Abort + Files + AllocGlobal + Clone + Drop>(
+fn refuses<Rt: Abort + Files<File = File> + AllocGlobal + Clone + Drop>(
     rt: &Rt,
     head: &str,
     rows: &[(&str, u8, &str)],

@@ -3,6 +3,7 @@
 
 use jffs_manage::run_volume;
 use std::alloc::{AllocError, Global};
+use std::fs::File;
 use std::io::{ErrorKind, Write};
 use std::process::Abort;
 use std::rt::Files;
@@ -66,7 +67,7 @@ const SECOND: [Record<'_>; 1] = [(FILE, 3, 2, 4, b'f', b"new!")];
 
 /// Saves what is in an image, and looks at the status and at all that goes to standard error; the
 /// image's file stays as it is.
-fn saves<Rt: Abort + Files + AllocGlobal + Clone + Drop>(
+fn saves<Rt: Abort + Files<File = File> + AllocGlobal + Clone + Drop>(
     rt: &Rt,
     image: &[u8],
     option: &str,

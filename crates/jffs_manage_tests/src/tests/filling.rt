@@ -4,12 +4,13 @@
 use super::plays;
 use jffs_manage::run_volume;
 use std::fs;
+use std::fs::File;
 use std::process::Abort;
 use std::rt::Files;
 use std::test::Fail;
 
 /// The status of a call, and what it wrote to standard output.
-fn called<Rt: Files + AllocGlobal + Clone + Drop>(
+fn called<Rt: Files<File = File> + AllocGlobal + Clone + Drop>(
     rt: &Rt,
     line: &str,
     input: &[u8],
@@ -27,7 +28,7 @@ fn called<Rt: Files + AllocGlobal + Clone + Drop>(
 
 /// Puts files of so many bytes until one is refused, replaces the first ones, and then sees that no
 /// unfinished file is left and that each file can be removed.
-fn is_filled<Rt: Abort + Files + AllocGlobal + Clone + Drop>(
+fn is_filled<Rt: Abort + Files<File = File> + AllocGlobal + Clone + Drop>(
     rt: &Rt,
     size: usize,
 ) -> Result<(), Fail> {

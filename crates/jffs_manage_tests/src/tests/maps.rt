@@ -4,6 +4,7 @@ use super::plays;
 use jffs_manage::run_volume;
 use std::alloc::Global;
 use std::fs;
+use std::fs::File;
 use std::process::Abort;
 use std::rt::Files;
 use std::test::Fail;
@@ -96,7 +97,7 @@ fn picture_map(alloc: Global) -> Result<String, Fail> {
 }
 
 /// What `map` writes to a terminal, without option or with one.
-fn shows<Rt: Abort + Files + AllocGlobal + Clone + Drop>(
+fn shows<Rt: Abort + Files<File = File> + AllocGlobal + Clone + Drop>(
     rt: &Rt,
     option: Option<&str>,
     wanted: &str,

@@ -3,6 +3,7 @@
 
 use super::plays;
 use std::fs;
+use std::fs::File;
 use std::process::Abort;
 use std::rt::Files;
 use std::test::Fail;
@@ -37,7 +38,7 @@ fn a_directory_is_removed_with_all_below_it(rt: HostRuntime) -> Result<(), Fail>
     Ok(())
 }
 
-fn saves_a_tree<Rt: Abort + Files + AllocGlobal + Clone + Drop>(rt: &Rt) -> Result<(), Fail> {
+fn saves_a_tree<Rt: Abort + Files<File = File> + AllocGlobal + Clone + Drop>(rt: &Rt) -> Result<(), Fail> {
     plays(
         rt,
         &[
@@ -69,7 +70,7 @@ fn saves_a_tree<Rt: Abort + Files + AllocGlobal + Clone + Drop>(rt: &Rt) -> Resu
 }
 
 /// The saved tree is changed on the host, and loaded over the same volume.
-fn loads_the_tree<Rt: Abort + Files + AllocGlobal + Clone + Drop>(rt: &Rt) -> Result<(), Fail> {
+fn loads_the_tree<Rt: Abort + Files<File = File> + AllocGlobal + Clone + Drop>(rt: &Rt) -> Result<(), Fail> {
     fs::write(rt, "saved/g", "another")?;
     fs::create_dir(rt, "saved/new")?;
     fs::write(rt, "saved/new/h", "four!")?;

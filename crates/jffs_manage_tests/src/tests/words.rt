@@ -14,7 +14,7 @@ fn each_word_that_is_wrong_has_its_line(rt: HostRuntime) -> Result<(), Fail> {
                 "creat r.image",
                 2,
                 "unknown command 'creat'; commands are format, ls, cat, put, mkdir, mv, rm, df, \
-                check, map, save and load",
+                check, map, save, load and serve",
             ),
             (
                 "ls r.image --all",
@@ -118,8 +118,8 @@ fn each_command_wants_its_words(rt: HostRuntime) -> Result<(), Fail> {
             (
                 "--sector-size 1024",
                 2,
-                "a command is wanted: format, ls, cat, put, mkdir, mv, rm, df, check, map, save \
-                or load; --help tells more",
+                "a command is wanted: format, ls, cat, put, mkdir, mv, rm, df, check, map, \
+                save, load or serve; --help tells more",
             ),
             (
                 "map -x a",

@@ -1,0 +1,70 @@
+-- How a mounted volume answers the requests of `serve`.
+use Rattle.std.specs.Prelude.{◌≡◌, ◌⊎◌, ⊤, Bool, true, false, List, ℕ}
+use Rattle.jffs_tree.specs.declared.wish.Cause.{Cause}
+use Rattle.jffs_tree.specs.declared.wish.Outcome.{Outcome}
+use Rattle.jffs_tree.specs.declared.wish.Outcome.TheVariants.{Refused}
+use Rattle.jffs_tree.specs.declared.wish.Wish.{Wish}
+use Rattle.jffs_protocol.specs.declared.serving.Failure.TheVariants as failure
+use Rattle.jffs_protocol.specs.declared.serving.Said.{Said}
+use Rattle.jffs_protocol.specs.declared.serving.Said.TheVariants as said
+use Rattle.jffs_core.specs.CoreState.{CoreState}
+use Rattle.jffs_manage.specs.declared.wanting.Wanted.{Wanted}
+use Rattle.jffs_manage.specs.declared.wanting.Wanted.TheVariants as wanted
+use Rattle.jffs_manage.specs.Answers.{query_answer, refused_text}
+use Rattle.jffs_manage.specs.Changes.{IsCarriedOut}
+
+abbrev pub is_refused : Outcome → Bool
+is_refused (Refused cause) = true
+is_refused _ = false
+
+-- The core refused a change.
+pub record IsRefused (wish : Wish) (old new : CoreState) (written : List ℕ) : Type 0 where
+  pub cause : Cause
+  pub carried_out : IsCarriedOut wish (Refused cause) old new
+  pub is : written ≡ refused_text cause
+
+-- The core granted a change, and works afterwards.
+pub record IsGranted (wish : Wish) (old new : CoreState) : Type 0 where
+  pub outcome : Outcome
+  pub carried_out : IsCarriedOut wish outcome old new
+  pub granted : is_refused outcome ≡ false
+  pub works : new.failed ≡ false
+
+-- When these bytes are the answer: to a look, if the device works, those of the look; and to a
+-- change that the core refused, its cause.
+abbrev pub AnswersWith : Wanted → CoreState → CoreState → List ℕ → Type 0
+AnswersWith (wanted.Query q) old new written =
+    (new ≡ old) × (old.failed ≡ false → written ≡ query_answer old q)
+AnswersWith (wanted.Change wish) old new written = IsRefused wish old new written
+AnswersWith _ old new written = ⊥
+
+-- When `ok` is: once the core granted a change, or where nothing was to be changed.
+abbrev pub IsDone : Wanted → CoreState → CoreState → Type 0
+IsDone (wanted.Change wish) old new = IsGranted wish old new
+IsDone wanted.Sync old new = new ≡ old
+IsDone _ old new = ⊥
+
+-- When it is that memory was lacking: the tree is the same, or the core refused.
+abbrev pub LacksMemory : Wanted → CoreState → CoreState → Type 0
+LacksMemory (wanted.Change wish) old new =
+    (new.tree ≡ old.tree) ⊎ ((cause : Cause) × IsCarriedOut wish (Refused cause) old new)
+LacksMemory _ old new = new ≡ old
+
+-- What may be said to what is wanted, of the volume before and after, with these bytes.
+abbrev pub IsManner : Wanted → CoreState → CoreState → Said → List ℕ → Type 0
+IsManner w old new said.Answered written = AnswersWith w old new written
+IsManner w old new said.Done written = IsDone w old new
+IsManner w old new said.Last written = w ≡ wanted.Unmount
+IsManner w old new said.Malformed written = new ≡ old
+IsManner w old new said.Memory written = LacksMemory w old new
+IsManner w old new (said.Failed why) written = ⊤
+
+-- this is said, or that the medium failed
+abbrev pub IsSettled : Said → Said → Type 0
+IsSettled meant result = (result ≡ meant) ⊎ (result ≡ said.Failed failure.Medium)
+
+-- the cause is the answer, or memory was lacking
+abbrev pub SaysRefused : Cause → Said → List ℕ → Type 0
+SaysRefused cause said.Answered written = written ≡ refused_text cause
+SaysRefused cause said.Memory written = ⊤
+SaysRefused cause _ written = ⊥

@@ -1,0 +1,165 @@
+//! A mounted volume that answers the requests of a client.
+
+ghost use Rattle.std.specs.Prelude.{◌≡◌, ℕ, List, []};
+ghost use Rattle.jffs_core.specs.CoreState.{CoreState};
+ghost use Rattle.jffs_manage.specs.Wanting.{wanted_of};
+ghost use Rattle.jffs_manage.specs.Manner.{IsManner, IsSettled, SaysRefused};
+
+use crate::answering::{answer_query, write_refusal};
+use crate::fault::VolumeFault;
+use crate::session::Session;
+use crate::wanting::{Query, Wanted, wants};
+use jffs_file::{FileFlash, FileStore, StoreFault};
+use jffs_flash::Flash;
+use jffs_protocol::{Ask, Failure, Said, Server};
+use jffs_tree::{Cause, Outcome, Wish};
+use std::alloc::Global;
+use std::fs::OpenFile;
+use std::io::{Seek, Write};
+
+/// A device whose bytes can be brought to their medium.
+pub(crate) trait Settle {
+    /// Brings all that was written to the medium, and waits for it.
+    fn settle(&self) -> Result<(), StoreFault>;
+}
+
+impl<X: Write + Seek + OpenFile + Drop> Settle for FileFlash<FileStore<X>> {
+    fn settle(&self) -> Result<(), StoreFault> {
+        self.sync()
+    }
+}
+
+/// A mounted volume that is served.
+#[derive(Drop)]
+pub(crate) struct Served<F: Flash> {
+    alloc: Global,
+    session: Session<F>,
+    /// What ended it, if it failed.
+    fault: Option<VolumeFault>,
+}
+
+impl<F: Flash> Served<F> {
+    pub fn new(alloc: Global, session: Session<F>) -> Served<F> {
+        Served {
+            alloc,
+            session,
+            fault: None,
+        }
+    }
+
+    /// The session, and what ended it, if it failed.
+    pub fn into_parts(self) -> (Session<F>, Result<(), VolumeFault>) {
+        let Served {
+            alloc: _,
+            session,
+            fault,
+        } = self;
+        match fault {
+            Some(fault) => (session, Err(fault)),
+            None => (session, Ok(())),
+        }
+    }
+}
+
+impl<F: Flash + Settle> Server for Served<F> {
+    ghost manner = { λ old ask body new said written.
+        IsManner (wanted_of ask body) old.session.core new.session.core said written };
+
+    fn answer(&mut self, ask: Ask, body: &[u8], out: &mut Vec<u8>) -> Said {
+        match wants(self.alloc, ask, body) {
+            Ok(Some(wanted)) => self.grant(wanted, out),
+            Ok(None) => Said::Malformed,
+            Err(_) => Said::Memory,
+        }
+    }
+}
+
+impl<F: Flash + Settle> Served<F> {
+    /// Answers what is wanted.
+    fn grant(&mut self, wanted: Wanted, out: &mut Vec<u8>) -> Said
+        requires empty { out.old.items ≡ [] }
+        ensures { IsManner wanted self.old.session.core self.new.session.core result
+            out.new.items }
+    {
+        match wanted {
+            Wanted::Query(query) => self.look(&query, out),
+            Wanted::Change(wish) => self.change(wish, out),
+            Wanted::Sync => self.settle(Said::Done),
+            Wanted::Unmount => self.unmount(),
+        }
+    }
+
+    /// Answers a look.
+    fn look(&self, query: &Query, out: &mut Vec<u8>) -> Said
+        requires empty { out.old.items ≡ [] }
+        ensures { IsManner (Wanted.Query query.now) self.now.session.core self.now.session.core
+            result out.new.items }
+    {
+        match answer_query(self.alloc, self.session.core(), query, out) {
+            Ok(()) => Said::Answered,
+            Err(_) => Said::Memory,
+        }
+    }
+
+    /// Changes the volume, and says that it is done once the file has it.
+    fn change(&mut self, wish: Wish, out: &mut Vec<u8>) -> Said
+        requires empty { out.old.items ≡ [] }
+        ensures { IsManner (Wanted.Change wish) self.old.session.core self.new.session.core result
+            out.new.items }
+    {
+        let Ok(outcome) = self.session.carry_out(wish) else {
+            return Said::Memory;
+        };
+        if self.session.core().failed() {
+            return self.fail(Failure::Device, VolumeFault::Refused(Cause::Device));
+        }
+        match outcome {
+            Outcome::Refused(Cause::Memory) => Said::Memory,
+            Outcome::Refused(cause) => refuse(cause, out),
+            _ => self.settle(Said::Done),
+        }
+    }
+
+    /// Brings the file to its medium, and then says this.
+    fn settle(&mut self, said: Said) -> Said
+        ensures core { self.new.session ≡ self.old.session }
+        ensures said { IsSettled said result }
+    {
+        match self.session.core().log().flash().settle() {
+            Ok(()) => said,
+            Err(_) => self.fail(Failure::Medium, VolumeFault::Medium),
+        }
+    }
+
+    /// Unmounts the volume, and says that it is done once the file has it.
+    fn unmount(&mut self) -> Said
+        ensures { (old new : CoreState) (written : List ℕ) → IsManner Wanted.Unmount old new result
+            written }
+    {
+        match self.session.finish() {
+            Ok(()) => self.settle(Said::Last),
+            Err(VolumeFault::Memory) => self.fail(Failure::Memory, VolumeFault::Memory),
+            Err(fault) => self.fail(Failure::Device, fault),
+        }
+    }
+
+    /// Keeps what ends the session, and says so.
+    fn fail(&mut self, why: Failure, fault: VolumeFault) -> Said
+        ensures core { self.new.session ≡ self.old.session }
+        ensures said { result ≡ Said.Failed why }
+    {
+        self.fault = Some(fault);
+        Said::Failed(why)
+    }
+}
+
+/// Says that a request was refused.
+fn refuse(cause: Cause, out: &mut Vec<u8>) -> Said
+    requires empty { out.old.items ≡ [] }
+    ensures { SaysRefused cause result out.new.items }
+{
+    match write_refusal(cause, out) {
+        Ok(()) => Said::Answered,
+        Err(_) => Said::Memory,
+    }
+}

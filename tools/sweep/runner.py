@@ -2,6 +2,7 @@
 import os
 import pathlib
 import re
+import resource
 import shutil
 import subprocess
 import tempfile
@@ -151,6 +152,41 @@ class Runner:
                 break
             at += step if at < plain.calls else 1
         self.tally.count(group, done, plain.calls, asserted)
+
+
+def options(parser, parts):
+    """What the call of a sweep says: the parser may have options of its own."""
+    parser.add_argument("parts", nargs="*", metavar="PART", help=f"{', '.join(parts)}; all where none is named")
+    parser.add_argument("--quick", action="store_true", help="only one of eight allocations, calls and runs")
+    parser.add_argument("--jobs", type=int, default=2, help="how many programs run at once (2)")
+    parser.add_argument("--built", type=pathlib.Path, default=TOP, help="where crates/NAME/out/NAME is looked for")
+    parser.set_defaults(serve=None)
+    chosen = parser.parse_args()
+    for part in chosen.parts:
+        if part not in parts:
+            parser.error(f"there is no part {part}")
+    chosen.built = chosen.built.resolve()
+    chosen.thin = 8 if chosen.quick else 1
+    # Seconds of one processor for one test or script, after which its allocations are thinned out.
+    chosen.budget = 1 if chosen.quick else 8
+    return chosen
+
+
+def run_parts(chosen, parts):
+    """Runs the chosen parts, and prints what passed; the status to end with."""
+    # A program that crashes is told of; its memory needn't be kept.
+    resource.setrlimit(resource.RLIMIT_CORE, (0, resource.getrlimit(resource.RLIMIT_CORE)[1]))
+    runner = Runner(chosen)
+    try:
+        for part in chosen.parts or parts:
+            began = time.monotonic()
+            print(f"{part}:", flush=True)
+            parts[part](runner)
+            print(f"  {time.monotonic() - began:.0f} s", flush=True)
+    finally:
+        runner.close()
+    print(f"{runner.tally.passed} passed, {runner.tally.failed} failed")
+    return 1 if runner.tally.failed else 0
 
 
 def take(path):

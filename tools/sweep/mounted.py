@@ -1,0 +1,2 @@
+def mounted(runner):
+    pass

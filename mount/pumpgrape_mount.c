@@ -20,8 +20,8 @@
 
 #define VERSION "0.1.0"
 
-// The unit in which `df` counts: the shortest record, in bytes.
-enum { BLOCK = 64 };
+// The weight of a record without data, in bytes, and what `df` counts in.
+enum { RECORD = 64 };
 
 static const char HELP[] =
     "pumpgrape-mount IMAGE DIR [-f] [-o OPTION[,OPTION..]]\n"
@@ -87,8 +87,11 @@ static int error_of_path(const char *path) {
     return -EINVAL;
 }
 
-// Asks for something at one path: a verb, and the rest of the line after the path's count.
+// Asks for something at one path: a verb, and the rest of the line after the path's count. There is no path where a file
+// is open that was removed.
 static int ask(struct answer *answer, const char *verb, const char *path, const char *rest) {
+    if (path == NULL)
+        return -ESTALE;
     int error = served_ask(answer, text(path), NOTHING, "%s %zu%s\n", verb, strlen(path), rest);
     return error == -EINVAL ? error_of_path(path) : error;
 }
@@ -102,6 +105,32 @@ static int change(const char *verb, const char *path) {
 static int look(struct answer *answer, const char *verb, const char *path, const char *rest) {
     int error = ask(answer, verb, path, rest);
     return error == -EINVAL ? -ENOENT : error;
+}
+
+// Whether a record with so many bytes may be asked for. Below the weight `sure` every change has room, above it even a
+// removal may have none: so it isn't reached, and what is full can be made empty again.
+static int has_room(size_t data) {
+    // At least what the live records weigh, and the weight.
+    static uint64_t live, sure;
+    uint64_t record = RECORD + (data + 3) / 4 * 4;
+    struct answer answer;
+    if (live + record >= sure) {
+        int error = served_ask(&answer, NOTHING, NOTHING, "room\n");
+        if (error != 0)
+            return error;
+        live = answer.numbers[3];
+        sure = answer.numbers[4];
+    }
+    if (live + record >= sure)
+        return -ENOSPC;
+    live += record;
+    return 0;
+}
+
+// Makes a file or directory.
+static int make(const char *verb, const char *path) {
+    int error = has_room(0);
+    return error != 0 ? error : change(verb, path);
 }
 
 static void *on_init(struct fuse_conn_info *connection, struct fuse_config *config) {
@@ -178,16 +207,23 @@ static int on_read(const char *path, char *bytes, size_t size, off_t offset, str
     return error != 0 ? error : (int)count;
 }
 
-// Writes in pieces of the longest write. Where one is refused after others, so many bytes were written.
+// Writes one piece, of the longest write at most.
+static int write_piece(const char *path, const char *bytes, size_t size, intmax_t offset) {
+    struct answer answer;
+    if (path == NULL || offset > UINT32_MAX)
+        return path == NULL ? -ESTALE : -EFBIG;
+    int error = has_room(size);
+    return error != 0 ? error
+                      : served_ask(&answer, text(path), (struct counted){bytes, size}, "write %zu %jd %zu\n",
+                                   strlen(path), offset, size);
+}
+
+// Writes piece by piece. Where one is refused after others, what was written is what those have.
 static int on_write(const char *path, const char *bytes, size_t size, off_t offset, struct fuse_file_info *file) {
     (void)file;
     for (size_t done = 0; done < size;) {
-        struct answer answer;
         size_t piece = size - done < limits.write ? size - done : limits.write;
-        intmax_t at = (intmax_t)offset + (intmax_t)done;
-        int error = at > UINT32_MAX ? -EFBIG
-                                    : served_ask(&answer, text(path), (struct counted){bytes + done, piece},
-                                                 "write %zu %jd %zu\n", strlen(path), at, piece);
+        int error = write_piece(path, bytes + done, piece, (intmax_t)offset + (intmax_t)done);
         if (error != 0)
             return done > 0 ? (int)done : error;
         done += piece;
@@ -202,22 +238,23 @@ static int on_truncate(const char *path, off_t size, struct fuse_file_info *file
     if (size > UINT32_MAX)
         return -EFBIG;
     snprintf(rest, sizeof rest, " %jd", (intmax_t)size);
-    return ask(&answer, "truncate", path, rest);
+    int error = has_room(0);
+    return error != 0 ? error : ask(&answer, "truncate", path, rest);
 }
 
 static int on_create(const char *path, mode_t mode, struct fuse_file_info *file) {
     (void)mode, (void)file;
-    return change("create", path);
+    return make("create", path);
 }
 
 static int on_mknod(const char *path, mode_t mode, dev_t device) {
     (void)device;
-    return S_ISREG(mode) ? change("create", path) : -EPERM;
+    return S_ISREG(mode) ? make("create", path) : -EPERM;
 }
 
 static int on_mkdir(const char *path, mode_t mode) {
     (void)mode;
-    return change("mkdir", path);
+    return make("mkdir", path);
 }
 
 static int on_remove(const char *path) { return change("remove", path); }
@@ -231,29 +268,25 @@ static int rename_free(const char *from, const char *to) {
     return error == -EINVAL ? error_of_path(to) : error;
 }
 
-// Whether the file at `from` may take the place of the file at `to`, and the rename has room for sure once that one is
-// removed; else why not. A directory replaces nothing.
+// Whether the file at `from` may take the place of the file at `to`; else why not. A directory replaces nothing.
 static int may_replace(const char *from, const char *to) {
-    struct answer old, new, room;
+    struct answer old, new;
     int error = look(&new, "stat", from, "");
     error = error != 0 ? error : look(&old, "stat", to, "");
-    error = error != 0 ? error : served_ask(&room, NOTHING, NOTHING, "room\n");
     if (error != 0)
         return error;
     if (new.letter == 'd')
         return old.letter == 'd' ? -ENOTEMPTY : -ENOTDIR;
-    if (old.letter == 'd')
-        return -EISDIR;
-    uint64_t live = room.numbers[3], sure = room.numbers[4];
-    return live - old.numbers[1] < sure ? 0 : -ENOSPC;
+    return old.letter == 'd' ? -EISDIR : 0;
 }
 
 // No request replaces, so what stands at `to` is removed first, by a record of its own. After a loss of power between
-// both records the new one is there whole, at `from`.
+// both records the new one is there whole, at `from`. Once there is room for a rename, a removal leaves no less.
 static int on_rename(const char *from, const char *to, unsigned flags) {
     if ((flags & ~(unsigned)RENAME_NOREPLACE) != 0)
         return -EINVAL;
-    int error = rename_free(from, to);
+    int error = has_room(0);
+    error = error != 0 ? error : rename_free(from, to);
     if (error != -EEXIST || (flags & RENAME_NOREPLACE) != 0)
         return error;
     error = may_replace(from, to);
@@ -269,10 +302,10 @@ static int on_statfs(const char *path, struct statvfs *status) {
         return error;
     uint64_t all = answer.numbers[0] * answer.numbers[1], live = answer.numbers[3], sure = answer.numbers[4];
     memset(status, 0, sizeof *status);
-    status->f_bsize = status->f_frsize = BLOCK;
-    status->f_blocks = all / BLOCK;
-    status->f_bfree = (all - live) / BLOCK;
-    status->f_bavail = live < sure ? (sure - live) / BLOCK : 0;
+    status->f_bsize = status->f_frsize = RECORD;
+    status->f_blocks = all / RECORD;
+    status->f_bfree = (all - live) / RECORD;
+    status->f_bavail = live < sure ? (sure - live) / RECORD : 0;
     status->f_namemax = limits.name;
     return 0;
 }
@@ -322,7 +355,7 @@ static const struct fuse_opt OPTIONS[] = {
     FUSE_OPT_KEY("sector_size=", KEY_SECTOR_SIZE), FUSE_OPT_END,
 };
 
-// Takes a word of the call: 0 where it is used up, 1 where libfuse has to see it, and -1 after telling that it is wrong.
+// Takes a word of the call. Answers 0 where it is used up, 1 where libfuse has to see it, and -1 where it is wrong.
 static int take_word(void *data, const char *word, int key, struct fuse_args *rest) {
     (void)data, (void)rest;
     switch (key) {
@@ -357,8 +390,9 @@ static char *program_beside(void) {
         return NULL;
     here[length] = '\0';
     *strrchr(here, '/') = '\0';
-    for (const char **name = (const char *[]){"jffs_volume", "../../crates/jffs_volume/out/jffs_volume", NULL}; *name; name++) {
-        snprintf(path, sizeof path, "%s/%s", here, *name);
+    const char *names[] = {"jffs_volume", "../../crates/jffs_volume/out/jffs_volume"};
+    for (int at = 0; at < 2; at++) {
+        snprintf(path, sizeof path, "%s/%s", here, names[at]);
         if (access(path, X_OK) == 0)
             return strdup(path);
     }
@@ -369,12 +403,13 @@ static char *program_beside(void) {
 static int check_words(void) {
     if (mounted.directory == NULL)
         return tell("IMAGE and DIR are wanted: -h tells how it is called"), 2;
-    char *whole = realpath(mounted.directory, NULL);
     struct stat found;
+    char *whole = realpath(mounted.directory, NULL);
     if (whole == NULL || stat(whole, &found) != 0)
         return tell("%s: %s", mounted.directory, strerror(errno)), 2;
     if (!S_ISDIR(found.st_mode))
-        return tell("%s: %s", mounted.directory, strerror(ENOTDIR)), 2;
+        return tell("%s: %s", whole, strerror(ENOTDIR)), 2;
+    free(mounted.directory);
     mounted.directory = whole;
     if (mounted.program == NULL && (mounted.program = program_beside()) == NULL)
         return tell("there is no built jffs_volume beside this program: -o serve=PROGRAM says where one is"), 2;

@@ -1,0 +1,2 @@
+def kills(runner):
+    pass

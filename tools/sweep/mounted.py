@@ -50,7 +50,7 @@ def mounted(runner):
               (writers, "plain"), (writers, "sanitized")]
     runner.each(parts, lambda part: play(runner, *part))
     mount_kills.kills(runner)
-    runner.tally.tell("killed", "mounts")
+    runner.tally.tell("kills", "sessions")
 
 
 def play(runner, part, run):

@@ -1,5 +1,5 @@
 """Requests of `jffs_volume serve` that are malformed, each with the bytes that its line counts, on a volume with sectors of
-1,024 bytes. Where a line isn't of a known form, or one of its counts is no number, it counts none."""
+1,024 bytes. A line that isn't of a known form, or has a word that is no number, counts none."""
 import string
 
 WRITE_MAX, PATH_MAX = 192, 168
@@ -46,11 +46,10 @@ def plain(verb, form, paths, data=b"x"):
 
 
 def with_word(verb, form, at, bad):
-    """A request whose word `at` is no number; where that is no count the others count their bytes."""
+    """A line whose word `at` is no number."""
     words = ["2" if kind == "p" else "3" if kind == "l" else "0" for kind in form]
     words[at] = bad
-    counted = [b"/a" if kind == "p" else b"xyz" for kind in form if kind != "n"]
-    return request(verb, counted if form[at] == "n" else [], words)
+    return request(verb, [], words)
 
 
 def made(rand):

@@ -58,7 +58,7 @@ class Timed(Served):
     """A client whose program is stopped once it takes too long."""
 
     def __init__(self, program, image, size, **options):
-        self.timer = None
+        self.timer, self.image = None, image
         super().__init__(program, "serve", image, "--sector-size", size, **options)
         self.timer = threading.Timer(LIMIT, self.process.kill)
         self.timer.start()
@@ -213,17 +213,21 @@ class Requests:
                 if not why and self.seed % 2:
                     why = self.ask(client, "unmount")
                 status = client.end()
-        except Ended as ended:
-            return str(ended)
+        except (Ended, BrokenPipeError, ValueError) as fault:
+            return f"the answers end, or aren't understood: {type(fault).__name__} {fault}"
         dump = ("mounted clean", self.judge.tree.dump())
         if why or status:
             return why or f"status {status}"
         return None if left(image, self.sectors, self.size) == dump else "another tree is left, or an unclean log"
 
     def asked(self, client):
+        looked = self.random.randrange(REQUESTS)
         for number in range(REQUESTS):
             why = self.ask(client, *(self.look() if self.random.random() < 0.3 else self.change()))
             why = why or (self.weigh(client) if number % 20 == 19 else None)
+            if number == looked and not why:
+                found = left(client.image, self.sectors, self.size)
+                why = None if found and found[1] == self.judge.tree.dump() else "the file hasn't what was answered"
             if why:
                 return f"request {number}: {why}"
         return None

@@ -1,20 +1,22 @@
-"""Requests of `jffs_volume serve` that are malformed, each with the bytes that its line counts, on a volume with sectors of
-1,024 bytes. A line that isn't of a known form, or has a word that is no number, counts none."""
+"""Requests of `jffs_volume serve` that are malformed, each with the bytes that its line counts, on a volume with
+sectors of 1,024 bytes. A line that isn't of a known form, or has a word that is no number, counts none."""
 import string
 
-WRITE_MAX, PATH_MAX = 192, 168
+WRITE_MAX = 192
 # The words of each line: a path's count, the count of a write's bytes, or another number.
 FORMS = {"stat": "p", "list": "p", "read": "pnn", "room": "", "limits": "", "check": "", "create": "p", "mkdir": "p",
          "write": "pnl", "truncate": "pn", "remove": "p", "rename": "pp", "sync": "", "unmount": ""}
-NO_NUMBERS = ["", "+1", "-1", "01", "00", "1.0", "0x1", "a", "1a", "4294967296", "99999999999999999999", "1\t", "\u00b2", "1,0"]
+NO_NUMBERS = ["", "+1", "-1", "01", "00", "1.0", "0x1", "a", "1a", "4294967296", "99999999999999999999", "1\t", "\u00b2",
+              "1,0"]
 NO_PATHS = [b"a", b"//", b"/a/", b"/a//b", b"a/b", b"/ ", b"/a b", b"/\n", b"/a\n", b"/\x00", b"/\x1f", b"/\x7f", b"/\x80",
-            "/\u00e4".encode(), b"\xff\xff", b"/" + 21 * b"n", b"/d/" + 21 * b"n", 9 * b"/1", 8 * b"/12345678901234567890" + b"/",
-            b"\n", b"/\r"]
-LINES = [b"", b" ", b"\0", b"\t", b"\r", b"foo", b"STAT 2", b"Stat 2", b"stat", b"stat ", b"stat  2", b" stat 2", b"stat 2 ", b"stat 2 2",
-         b"stat\t2", b"stat 2\r", b"stat\x002", b"stat2", b"\xff\xfe", b"room 1", b"room ", b"check now", b"sync 0", b"limits /",
-         b"unmount 1", b"unmount ", b"rename 2", b"rename 2 2 2", b"write 2 0", b"write 2 0 1 1", b"read 2", b"read 2 0",
-         b"truncate 2", b"pumpgrape 1", b"ok", b"quit", b"exit", b"stat 2;stat 2", b"a" * 99, b"a" * 100, b"a" * 101, b"a" * 102,
-         b"stat 2" + b" " * 95, b"stat 2" + b" " * 94, b"stat " + b"0" * 200 + b"2", b"stat " + b"9" * 100_000, b" " * 1_000_000]
+            "/\u00e4".encode(), b"\xff\xff", b"/" + 21 * b"n", b"/d/" + 21 * b"n", 9 * b"/1", b"\n", b"/\r",
+            8 * b"/12345678901234567890" + b"/", b"", 169 * b"/", 9 * b"/12345678901234567890", b"/" + 100_000 * b"a"]
+LINES = [b"", b" ", b"\0", b"\t", b"\r", b"foo", b"STAT 2", b"Stat 2", b"stat", b"stat ", b"stat  2", b" stat 2", b"stat 2 ",
+         b"stat 2 2", b"stat\t2", b"stat 2\r", b"stat\x002", b"stat2", b"\xff\xfe", b"room 1", b"room ", b"check now",
+         b"sync 0", b"limits /", b"unmount 1", b"unmount ", b"rename 2", b"rename 2 2 2", b"write 2 0", b"write 2 0 1 1",
+         b"read 2", b"read 2 0", b"truncate 2", b"pumpgrape 1", b"ok", b"quit", b"exit", b"stat 2;stat 2", b"a" * 99,
+         b"a" * 100, b"a" * 101, b"a" * 102, b"stat 2" + b" " * 94, b"stat 2" + b" " * 95, b"stat " + b"0" * 200 + b"2",
+         b"stat " + b"9" * 100_000, b" " * 1_000_000]
 
 
 def request(verb, counted, words):
@@ -31,7 +33,7 @@ def table():
             for bad in NO_NUMBERS:
                 yield f"{verb}, word {at + 1} {bad!r}", with_word(verb, form, at, bad)
         for at in range(form.count("p")):
-            for bad in NO_PATHS + [b"", b"/" * (PATH_MAX + 1), 9 * b"/12345678901234567890", b"/" + b"a" * 100_000]:
+            for bad in NO_PATHS:
                 paths = [b"/a"] * at + [bad] + [b"/a"]
                 yield f"{verb} of path {bad[:30]!r}", plain(verb, form, paths[:form.count("p")])
     for length in (WRITE_MAX + 1, 4096, 65_536, 1_000_000):
@@ -78,7 +80,8 @@ def noise(rand):
 
 def no_number(rand):
     digits = "".join(rand.choice(string.digits) for _ in range(rand.randint(1, 9)))
-    return rand.choice([rand.choice(NO_NUMBERS), "0" + digits, "-" + digits, digits + rand.choice("abc.,;:_'"), digits + 10 * "7"])
+    odd = digits + rand.choice("abc.,;:_'")
+    return rand.choice([rand.choice(NO_NUMBERS), "0" + digits, "-" + digits, odd, digits + 10 * "7"])
 
 
 def no_path(rand):

@@ -1,4 +1,5 @@
-"""Kills a mount, or what serves it, at random moments while files are written; what was fsynced before has to be whole."""
+"""Kills a mount, or what serves it, at random moments while files are written: what was fsynced before has to be
+whole."""
 import os
 import pathlib
 import random

@@ -1,21 +1,22 @@
 """Uses mounted volumes as people do: trees, limits, refusals, a full volume, two writers; also where the mount runs with
 sanitizers or below valgrind, and where the mount or what serves it is killed."""
-import ctypes
 import errno
 import os
 import pathlib
 import random
 import shutil
-import signal
 import subprocess
 import sys
 import time
 
 import mount_kills
+from mount_calls import fault_of, new, place, table
 from mounting import BUILT, LIMIT, RUNS, Mounted, NotMounted, build, missing
+from serve_client import Served
 from served import left, make, program_of
 
-FILE_MAX, PIECE = 1 << 20, 4032
+# The longest piece of a write on the largest volume.
+PIECE = 4032
 STUB = pathlib.Path(__file__).resolve().parent / "stub_serve.py"
 # How a tree goes in, and how it comes out again.
 COPIES = {
@@ -27,8 +28,9 @@ COPIES = {
 }
 # What an answer to a change is for a system call.
 ANSWERS = {
-    "refused_RootFixed": "EBUSY", "refused_NoParent": "ENOENT", "refused_NameTaken": "EEXIST", "refused_NotFound": "ENOENT",
-    "refused_IsDirectory": "EISDIR", "refused_FileLong": "EFBIG", "refused_NotEmpty": "ENOTEMPTY", "refused_InodesSpent": "ENOSPC",
+    "refused_RootFixed": "EBUSY", "refused_NoParent": "ENOENT", "refused_NameTaken": "EEXIST",
+    "refused_NotFound": "ENOENT", "refused_IsDirectory": "EISDIR", "refused_FileLong": "EFBIG",
+    "refused_NotEmpty": "ENOTEMPTY", "refused_InodesSpent": "ENOSPC",
     "refused_VersionsSpent": "EROFS", "refused_Memory": "ENOMEM", "refused_NoSpace": "ENOSPC", "refused_Device": "EIO",
     "refused_Failed": "EIO", "refused_DataLong": "EIO", "memory": "ENOMEM", "malformed": "EINVAL",
 }
@@ -46,8 +48,8 @@ def mounted(runner):
         return
     runs = [run for run in RUNS if run != "valgrind" or shutil.which("valgrind")]
     parts = [(trees, run) for run in runs] + [(calls, run) for run in runs] + [(answers, run) for run in runs]
-    parts += [(called, "plain"), (background, "plain"), (read_only, "plain"), (full, "plain"), (full, "sanitized"),
-              (writers, "plain"), (writers, "sanitized")]
+    parts += [(part, "plain") for part in (called, background, read_only, dots)]
+    parts += [(part, run) for part in (full, writers) for run in ("plain", "sanitized")]
     runner.each(parts, lambda part: play(runner, *part))
     mount_kills.kills(runner)
     runner.tally.tell("kills", "sessions")
@@ -65,7 +67,8 @@ def play(runner, part, run):
 
 def shell(command):
     """Why a command fails or complains, or None."""
-    ran = subprocess.run(command, shell=True, stdout=subprocess.PIPE, stderr=subprocess.STDOUT, text=True, timeout=600, check=False)
+    ran = subprocess.run(command, shell=True, stdout=subprocess.PIPE, stderr=subprocess.STDOUT, text=True, timeout=600,
+                         check=False)
     return f"{command}: status {ran.returncode}: {ran.stdout}" if ran.returncode or ran.stdout else None
 
 
@@ -77,9 +80,11 @@ def grow(top, seed, files=60):
     folders = ["", "d", "d/e", "d/e/f", "empty", "1/2/3/4/5/6/7"]
     for folder in folders:
         (top / folder).mkdir(parents=True, exist_ok=True)
-    lengths = [0, 1, 3, 64, PIECE - 1, PIECE, PIECE + 1, 4096, 100_000] + [int(40_000 * rand.random() ** 4) for _ in range(files)]
+    lengths = [0, 1, 3, 64, PIECE - 1, PIECE, PIECE + 1, 4096, 100_000]
+    lengths += [int(40_000 * rand.random() ** 4) for _ in range(files)]
     for number, length in enumerate(lengths):
-        (top / rand.choice(folders[:4]) / rand.choice(["{}", "~{}", "{}.txt", ".{}", "n{}{{}}"]).format(number)).write_bytes(rand.randbytes(length))
+        name = rand.choice(["{}", "~{}", "{}.txt", ".{}", "n{}{{}}"]).format(number)
+        (top / rand.choice(folders[:4]) / name).write_bytes(rand.randbytes(length))
     (top / "d" / "x.txt").write_bytes(b"\0" * 5000)
 
 
@@ -94,120 +99,26 @@ def trees(runner, name, run):
                 yield f"{copy}: {command}", shell(command.format(given=given, top=mount.top, back=back))
             names = os.listdir(mount.top / "d")
             yield f"{copy}: names in order", None if names == sorted(names) else str(names)
-            yield f"{copy}: rm", shell(f"rm -r {mount.top}/* {mount.top}/.[!.]*")
+            yield f"{copy}: removed", shell(f"find {mount.top} -mindepth 1 -delete")
         yield "end", mount.wrong_end()
 
 
 # Calls, and what refuses them.
 
-def fault_of(call, *words):
-    """The name of the error that a system call ends with, or what it answers."""
-    try:
-        return call(*words)
-    except OSError as fault:
-        return errno.errorcode[fault.errno]
-
-
-def place(path, offset, data):
-    """Writes at an offset; how many bytes were taken."""
-    file = os.open(path, os.O_WRONLY)
-    try:
-        return os.pwrite(file, data, offset)
-    finally:
-        os.close(file)
-
-
-def fetch(path, offset, count):
-    file = os.open(path, os.O_RDONLY)
-    try:
-        return os.pread(file, count, offset)
-    finally:
-        os.close(file)
-
-
-def new(path):
-    os.close(os.open(path, os.O_WRONLY | os.O_CREAT | os.O_EXCL, 0o644))
-
-
-def rename_flags(old, renamed, flags):
-    if ctypes.CDLL(None, use_errno=True).renameat2(-100, os.fsencode(old), -100, os.fsencode(renamed), flags):
-        raise OSError(ctypes.get_errno(), "renameat2")
-
-
 def calls(runner, name, run):
     """Each limit and one beyond it, and each cause that a refusal has."""
     with Mounted(runner, name, run=run) as mount:
-        for call, words, wanted in table(str(mount.top)):
-            found = fault_of(call, *words)
-            shown = [word[:60] if isinstance(word, (str, bytes)) else word for word in words]
-            yield f"{call.__name__} {shown}", None if found == wanted else f"{found!r}, not {wanted!r}"
+        for call, wanted, *words in table(mount.top):
+            yield f"{call.__name__} {words}"[:200], differs(fault_of(call, *words), wanted)
         yield "df", wrong_room(os.statvfs(mount.top))
         yield "what is shown", wrong_look(mount.top)
         yield "end", mount.wrong_end()
 
 
-def table(top):
-    """Each call with its words, and what it has to answer."""
-    a, b, d, deep = top + "/a", top + "/b", top + "/d", top + "/d" + "/1" * 7
-    yield from [(new, [a], None), (new, [a], "EEXIST"), (os.mkdir, [a], "EEXIST"), (os.mkdir, [d], None), (os.mkdir, [d], "EEXIST")]
-    yield from [(os.mkdir, [top + "/d" + "/1" * depth], None) for depth in range(1, 7)]
-    yield from [(new, [deep], None), (os.unlink, [deep], None), (os.mkdir, [deep], None), (new, [deep + "/1"], "ENAMETOOLONG"),
-                (os.mkdir, [deep + "/1"], "ENAMETOOLONG"), (os.stat, [deep + "/1"], "ENAMETOOLONG")]
-    yield from [(new, [top + "/" + "n" * 20], None), (new, [top + "/" + "n" * 21], "ENAMETOOLONG"),
-                (os.mkdir, [top + "/" + "m" * 20], None), (os.mkdir, [top + "/" + "m" * 21], "ENAMETOOLONG"),
-                (os.rename, [a, top + "/" + "n" * 21], "ENAMETOOLONG"), (os.stat, [top + "/" + "n" * 255], "ENAMETOOLONG")]
-    for odd in (" ", "a b", "\t", "\n", "a\nb", "\x7f", "\u00e4", b"\xff".decode(errors="surrogateescape")):
-        yield from [(new, [f"{top}/{odd}"], "EINVAL"), (os.path.exists, [f"{top}/{odd}"], False), (os.rename, [a, f"{top}/{odd}"], "EINVAL")]
-    yield from [(new, [f"{top}/!\"#$%&'()*+,-~`{{}}"], None), (os.stat, [top + "/none"], "ENOENT"), (new, [top + "/none/n"], "ENOENT"),
-                (new, [a + "/n"], "ENOTDIR"), (os.unlink, [d], "EISDIR"), (os.rmdir, [a], "ENOTDIR"), (os.rmdir, [d], "ENOTEMPTY"),
-                (os.unlink, [top + "/none"], "ENOENT"), (os.listdir, [a], "ENOTDIR"), (fetch, [d, 0, 1], "EISDIR")]
-    yield from [(os.truncate, [a, FILE_MAX], None), (os.truncate, [a, FILE_MAX + 1], "EFBIG"), (os.truncate, [a, 1 << 32], "EFBIG"),
-                (place, [a, FILE_MAX - 1, b"z"], 1), (place, [a, FILE_MAX, b"z"], "EFBIG"),
-                (place, [a, 1 << 32, b"z"], "EFBIG"), (place, [a, 1 << 40, b"z"], "EFBIG"), (fetch, [a, FILE_MAX - 2, 9], b"\0z"),
-                (fetch, [a, FILE_MAX, 9], b""), (fetch, [a, 1 << 40, 9], b""), (os.truncate, [a, 0], None), (os.path.getsize, [a], 0)]
-    yield from [(place, [a, 5000, b"end"], 3), (fetch, [a, 0, 9000], bytes(5000) + b"end"), (os.truncate, [a, 5001], None),
-                (os.truncate, [a, 5005], None), (fetch, [a, 4999, 9], b"\0e\0\0\0\0"), (append, [a, b"x"], 1), (fetch, [a, 5004, 9], b"\0x")]
-    yield from [(new, [b], None), (place, [b, 0, b"other"], 5), (os.rename, [b, a], None), (fetch, [a, 0, 9], b"other"),
-                (os.path.exists, [b], False), (new, [b], None), (rename_flags, [a, b, 1], "EEXIST"), (rename_flags, [a, b, 2], "EINVAL"),
-                (os.rename, [a, d], "EISDIR"), (os.rename, [d, a], "ENOTDIR"), (os.rename, [d, top + "/e"], None),
-                (os.rename, [top + "/e", d], None), (os.rename, [d + "/1", top + "/1"], "EXDEV"), (os.rename, [d, d + "/1/d"], "EINVAL"),
-                (os.rename, [d + "/1", top + "/" + "m" * 20], "ENOTEMPTY"), (os.rename, [a, d + "/f"], None), (os.rename, [d + "/f", a], None),
-                (os.rename, [top + "/none", a], "ENOENT"), (fetch, [a, 0, 9], b"other")]
-    yield from [(os.symlink, [a, top + "/l"], "EPERM"), (os.link, [a, top + "/l"], "EPERM"), (os.mkfifo, [top + "/l"], "EPERM"),
-                (os.chmod, [a, 0o600], None), (os.utime, [a, (1, 1)], None), (sync, [a], None), (sync, [d], None),
-                (removed_while_open, [b], ["ESTALE"] * 5), (os.path.exists, [b], False)]
-
-
-def append(path, data):
-    with open(path, "ab", buffering=0) as file:
-        return file.write(data)
-
-
-def sync(path):
-    file = os.open(path, os.O_RDONLY)
-    try:
-        os.fsync(file)
-    finally:
-        os.close(file)
-
-
-def removed_while_open(path):
-    """A file that is removed is gone, also for who has it open."""
-    file = os.open(path, os.O_RDWR)
-    try:
-        os.unlink(path)
-        new(path)
-        calls = [(os.pwrite, b"z", 0), (os.pread, 9, 0), (os.ftruncate, 9), (os.fstat,), (os.fchmod, 0o600)]
-        return [fault_of(call, file, *words) for call, *words in calls]
-    finally:
-        os.close(file)
-        os.unlink(path)
-
-
 def wrong_room(room):
     """Why `df` shows something else than docs/MOUNT.md says, or None, of 64 sectors of 16,384 bytes."""
     sure, used = 733_440, room.f_frsize * (room.f_blocks - room.f_bfree)
-    holds = room.f_frsize * room.f_blocks == 1 << 20 and room.f_namemax == 20 and room.f_frsize * room.f_bavail + used == sure
+    holds = (room.f_frsize * room.f_blocks, room.f_frsize * room.f_bavail + used, room.f_namemax) == (1 << 20, sure, 20)
     return None if holds and used > 0 else str(room)
 
 
@@ -228,7 +139,8 @@ def answers(runner, name, run):
     for number, answer in enumerate(LAST):
         with Mounted(runner, f"{name}.{number}", run=run, program=STUB) as mount:
             yield answer, differs(fault_of(new, f"{mount.top}/{answer}"), "EIO")
-            yield f"{answer}, then", differs([fault_of(new, mount.top / "memory"), fault_of(os.listdir, mount.top)], ["EIO", "EIO"])
+            after = [fault_of(new, mount.top / "memory"), fault_of(os.listdir, mount.top)]
+            yield f"{answer}, then", differs(after, ["EIO", "EIO"])
             status = mount.stop()
             told = "jffs_volume serve has ended" in mount.said() and status == 1
             yield f"{answer}, end", None if told else f"status {status}: {mount.said()}"
@@ -247,15 +159,19 @@ def called(runner, name, _):
     given = ["-o", f"serve={program}"]
     for words, status, said in [
             (["-h"], 0, "pumpgrape-mount IMAGE DIR"), (["--help"], 0, "fusermount3 -u"), (["-V"], 0, "pumpgrape-mount 0.1.0"),
-            ([], 2, "IMAGE and DIR are wanted"), ([image], 2, "IMAGE and DIR are wanted"), ([image, here, "x"], 2, "unexpected word 'x'"),
-            (["-x", image, here], 2, "unknown option '-x'"), ([image, here / "none", *given], 2, "none: No such file or directory"),
+            ([], 2, "IMAGE and DIR are wanted"), ([image], 2, "IMAGE and DIR are wanted"),
+            ([image, here, "x"], 2, "unexpected word 'x'"), (["-x", image, here], 2, "unknown option '-x'"),
+            ([image, here / "none", *given], 2, "none: No such file or directory"),
             ([image, image, *given], 2, "Not a directory"), ([runner.folder / "no.image", here, *given], 2, "no.image"),
-            ([STUB, here, *given], 2, "stub_serve.py"), ([image, here, "-o", f"serve={here}/none"], 2, "none: No such file"),
-            ([image, here, "-o", "serve=/bin/true"], 1, "doesn't serve as wanted"), ([image, here, *given, "-o", "nonsense"], 1, "nonsense"),
-            ([image, here, "-o", "serve=/bin/echo"], 1, "doesn't serve as wanted")]:
+            ([STUB, here, *given], 2, "stub_serve.py"),
+            ([image, here, "-o", f"serve={here}/none"], 2, "none: No such file"),
+            ([image, here, "-o", "serve=/bin/true"], 1, "doesn't serve as wanted"),
+            ([image, here, "-o", "serve=/bin/echo"], 1, "doesn't serve as wanted"),
+            ([image, here, *given, "-o", "nonsense"], 1, "nonsense")]:
         for more in ([], ["-f"]):
             call = [str(word) for word in (BUILT / "pumpgrape-mount", *words, *more)]
-            ran = subprocess.run(call, stdout=subprocess.PIPE, stderr=subprocess.STDOUT, text=True, timeout=LIMIT, check=False)
+            ran = subprocess.run(call, stdout=subprocess.PIPE, stderr=subprocess.STDOUT, text=True, timeout=LIMIT,
+                                 check=False)
             holds = ran.returncode == status and said in ran.stdout and not os.path.ismount(here)
             yield f"{call[1:]}", None if holds else f"status {ran.returncode}: {ran.stdout}"
 
@@ -286,12 +202,23 @@ def read_only(runner, name, _):
     mount.command[-1] += ",ro"
     with mount:
         yield "read", None if (mount.top / "f").read_bytes() == b"hello" else "other bytes"
-        for call, words in ((new, ["g"]), (os.mkdir, ["g"]), (os.unlink, ["f"]), (place, ["f", 0, b"z"]), (os.truncate, ["f", 0])):
-            found = fault_of(call, mount.top / words[0], *words[1:])
-            yield f"{call.__name__}", differs(found, "EROFS")
+        calls_of = [(new, "g"), (os.mkdir, "g"), (os.unlink, "f"), (place, "f", 0, b"z"), (os.truncate, "f", 0)]
+        for call, file, *words in calls_of:
+            yield call.__name__, differs(fault_of(call, mount.top / file, *words), "EROFS")
         yield "rename", differs(fault_of(os.rename, mount.top / "f", mount.top / "g"), "EROFS")
         yield "end", mount.wrong_end()
     yield "the file", None if mount.image.read_bytes() == before else "other bytes"
+
+
+def dots(runner, name, run):
+    """Names that mean something else in a path of the host."""
+    mount = Mounted(runner, name, run=run)
+    with Served(program_of(runner), "serve", mount.image, "--sector-size", mount.sizes[1]) as client:
+        for path in ("/.", "/..", "/...", "/.a"):
+            client.ask("create", path)
+    with mount:
+        yield "names", differs(os.listdir(mount.top), ["...", ".a"])
+        yield "end", mount.wrong_end()
 
 
 # A full volume, and two writers.
@@ -307,7 +234,8 @@ def full(runner, name, run):
                 yield f"{what}, filled {turn}", found if isinstance(found, str) else None
                 if isinstance(found, str):
                     break
-                yield f"{what}, df {turn}", None if os.statvfs(mount.top).f_bavail * 64 < length + 192 else str(os.statvfs(mount.top))
+                room = os.statvfs(mount.top)
+                yield f"{what}, df {turn}", None if room.f_bavail * room.f_frsize < length + 192 else str(room)
                 made += found
                 yield f"{what}, removed {turn}", empty(mount.top, data)
             yield f"{what}, end", mount.wrong_end()

@@ -8,11 +8,9 @@ import threading
 
 import malformed
 from model import Tree, sure_room
+from serve_client import Ended, Refused, Served, encode
 
 TOP = pathlib.Path(__file__).resolve().parent.parent.parent
-sys.path.insert(0, str(TOP / "tools"))
-from serve_client import Ended, Refused, Served, encode  # noqa: E402
-
 SIZES = [(6, 1024), (6, 1024), (8, 1024), (8, 2048), (16, 4096), (64, 16384)]
 LISTS, REQUESTS = 300, 80
 MADE = 10_000
@@ -110,7 +108,8 @@ class Judge:
             text = lines_of(found, words[0])
             return f"ok {len(text)} {sum(map(len, text)) + len(text)}"
         if verb == "read":
-            return "refused IsDirectory" if isinstance(found, dict) else f"ok {len(found.bytes[words[1]:words[1] + words[2]])}"
+            held = "" if isinstance(found, dict) else found.bytes[words[1]:words[1] + words[2]]
+            return "refused IsDirectory" if isinstance(found, dict) else f"ok {len(held)}"
         if verb == "write" and len(words[2]) > tree.data_max:
             return "malformed"
         cause = tree.cause(in_words(verb, *words))
@@ -121,7 +120,8 @@ class Judge:
         wanted = self.wanted(verb, *words)
         if verb == "stat" and wanted != answer.rpartition(" ")[0] and wanted != answer:
             return f"{verb} {words} is answered {answer}, not {wanted} LIVE"
-        if verb != "stat" and answer != wanted and not (wanted == "ok" and answer == "refused NoSpace" and self.may_be_full()):
+        full = wanted == "ok" and answer == "refused NoSpace" and self.may_be_full()
+        if verb != "stat" and answer != wanted and not full:
             return f"{verb} {words} is answered {answer}, not {wanted}"
         if answer == "ok" and verb not in ("sync", "unmount"):
             self.tree.grant(in_words(verb, *words))
@@ -145,8 +145,8 @@ def in_words(verb, *words):
 
 def lines_of(found, path):
     """The lines of `list`."""
-    entries = found if isinstance(found, dict) else {path.rpartition("/")[2]: found}
-    return [f"d {name}" if isinstance(entries[name], dict) else f"f {len(entries[name].bytes)} {name}" for name in sorted(entries)]
+    entries = sorted(found.items()) if isinstance(found, dict) else [(path.rpartition("/")[2], found)]
+    return [f"d {name}" if isinstance(entry, dict) else f"f {len(entry.bytes)} {name}" for name, entry in entries]
 
 
 class Requests:
@@ -164,7 +164,7 @@ class Requests:
     def change(self):
         """A change at random; most are granted."""
         rand, path, longest = self.random, self.path(), self.judge.tree.data_max
-        verb = rand.choice(["create"] * 3 + ["mkdir"] * 2 + ["write"] * 8 + ["truncate"] * 2 + ["remove"] * 2 + ["rename"])
+        verb = rand.choice(["create"] * 3 + ["mkdir", "truncate", "remove"] * 2 + ["write"] * 8 + ["rename"])
         if verb == "rename":
             return verb, path, self.path()
         if verb == "truncate":
@@ -175,9 +175,8 @@ class Requests:
         return verb, path
 
     def look(self):
-        path = self.path()
-        return self.random.choice([("stat", path), ("list", path), ("sync",), ("limits",),
-                                   ("read", path, self.random.randrange(3000), self.random.choice([0, 10, 5000, 2**32 - 1]))])
+        path, offset, count = self.path(), self.random.randrange(3000), self.random.choice([0, 10, 5000, 2**32 - 1])
+        return self.random.choice([("stat", path), ("list", path), ("read", path, offset, count), ("sync",), ("limits",)])
 
     def ask(self, client, *request):
         """Why a request is answered wrongly, or None."""
@@ -263,7 +262,8 @@ def answer_to(client, request):
         after = text_of(client, "stat", "/a")
     except (BrokenPipeError, Ended):
         return f"the program has ended after {request[:200]!r}"
-    return None if (answer, after) == (b"malformed\n", "ok f 5 72") else f"{answer!r}, then {after}, after {request[:200]!r}"
+    holds = (answer, after) == (b"malformed\n", "ok f 5 72")
+    return None if holds else f"{answer!r}, then {after}, after {request[:200]!r}"
 
 
 # Input that ends anywhere.
@@ -274,7 +274,7 @@ ENDED = [("create", "/b"), ("write", "/b", 0, b"12345"), ("stat", "/b"), ("renam
 
 def end_anywhere(runner, program):
     """What was asked for whole is done, and the volume is unmounted, after whichever byte the input ends."""
-    stream = b"".join(encode(*request) for request in ENDED)
+    stream = stream_of(ENDED)
 
     def play(end):
         runner.tally.add(f"input that ends after {end} bytes", end_after(runner, program, stream[:end]))
@@ -282,14 +282,20 @@ def end_anywhere(runner, program):
     runner.each(range(0, len(stream) + 1, runner.options.thin), play)
 
 
+def stream_of(requests):
+    return b"".join(encode(*request) for request in requests)
+
+
 def end_after(runner, program, given):
+    """Why what is answered or left after this input is wrong, or None."""
     image, judge = make(runner, f"cut.{len(given)}", 6, 1024), Judge(6, 1024)
     ran = runner.run([program, "serve", image, "--sector-size", 1024], given, limit=LIMIT)
-    whole = [request for at, request in enumerate(ENDED) if len(b"".join(encode(*step) for step in ENDED[:at + 1])) <= len(given)]
+    whole = [request for at, request in enumerate(ENDED) if len(stream_of(ENDED[:at + 1])) <= len(given)]
     why = judge_output(judge, whole, ran)
     if why or ran.status:
         return why or f"status {ran.status}"
-    return None if left(image, 6, 1024) == ("mounted clean", judge.tree.dump()) else "another tree is left, or an unclean log"
+    wanted = ("mounted clean", judge.tree.dump())
+    return None if left(image, 6, 1024) == wanted else "another tree is left, or an unclean log"
 
 
 def judge_output(judge, requests, ran):
@@ -320,7 +326,7 @@ def refuse_allocations(runner, program, seed):
     sectors, size = draw.sectors, draw.size
     requests = [draw.change() if number % 4 else draw.look() for number in range(SHORT)]
     requests += [("unmount",)] * (seed % 2)
-    given = b"".join(encode(*request) for request in requests)
+    given = stream_of(requests)
 
     def run(at, limit, on=False):
         image = make(runner, f"refused.{seed}", sectors, size)

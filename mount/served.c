@@ -212,7 +212,7 @@ static void become(const char *program, const char *image, const char *sector_si
     setsid();
     signal(SIGPIPE, SIG_DFL);
     if (dup2(pipes[0][0], 0) >= 0 && dup2(pipes[1][1], 1) >= 0 && dup2(pipes[2][1], 2) >= 0)
-        execv(program, words);
+        execvp(program, words);
     dprintf(2, "pumpgrape-mount: %s: %s\n", program, strerror(errno));
     _exit(2);
 }

@@ -2,6 +2,7 @@
 refusal that a volume can be brought to."""
 import ctypes
 import errno
+import mmap
 import os
 
 FILE_MAX = 1 << 20
@@ -52,7 +53,8 @@ def sized(a):
                 (fetch, b"", a, 1 << 40, 9), (os.truncate, None, a, 0), (os.path.getsize, 0, a)]
     yield from [(place, 3, a, 5000, b"end"), (fetch, bytes(5000) + b"end", a, 0, 9000), (os.truncate, None, a, 5001),
                 (os.truncate, None, a, 5005), (fetch, b"\0e\0\0\0\0", a, 4999, 9), (append, 1, a, b"x"),
-                (fetch, b"\0x", a, 5004, 9), (emptied, None, a), (os.path.getsize, 0, a)]
+                (fetch, b"\0x", a, 5004, 9), (emptied, None, a), (os.path.getsize, 0, a),
+                (place, 5000, a, 0, b"m" * 5000), (mapped, b"m", a, 4500), (fetch, b"mMm", a, 4499, 3), (emptied, None, a)]
 
 
 def renamed(top, a, b, d, m, none):
@@ -111,6 +113,15 @@ def sync(path):
         os.fsync(file)
     finally:
         os.close(file)
+
+
+def mapped(path, at):
+    """Changes a byte of the file's own mapping; what it was."""
+    with open(path, "r+b") as file, mmap.mmap(file.fileno(), 0) as bytes_of:
+        was = bytes_of[at:at + 1]
+        bytes_of[at:at + 1] = was.upper()
+        bytes_of.flush()
+    return was
 
 
 def emptied(path):

@@ -70,13 +70,12 @@ class Mounted:
 
     def __exit__(self, *_):
         """Leaves nothing behind, whatever went wrong."""
-        if self.process.poll() is None:
-            self.detach()
-            try:
-                self.process.wait(5)
-            except subprocess.TimeoutExpired:
-                self.process.kill()
-                self.process.wait()
+        self.detach()
+        try:
+            self.process.wait(LIMIT)
+        except subprocess.TimeoutExpired:
+            self.process.kill()
+            self.process.wait()
 
     def said(self):
         return self.errors.read_text(errors="replace")

@@ -202,7 +202,7 @@ static int on_read(const char *path, char *bytes, size_t size, off_t offset, str
         return error;
     size_t count = answer.numbers[0];
     if (count > size)
-        return -EIO;
+        return served_take(NULL, count), -EIO;
     error = served_take(bytes, count);
     return error != 0 ? error : (int)count;
 }

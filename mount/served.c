@@ -132,6 +132,8 @@ static int parse_ok(const char *words, struct answer *answer) {
         if (at == ANSWER_NUMBERS || words[0] != ' ' || words[1] < '0' || words[1] > '9')
             return give_up();
         answer->numbers[at] = strtoull(words + 1, &end, 10);
+        if (answer->numbers[at] > UINT32_MAX)
+            return give_up();
         words = end;
     }
     return 0;

@@ -35,7 +35,7 @@ ANSWERS = {
     "refused_Failed": "EIO", "refused_DataLong": "EIO", "memory": "ENOMEM", "malformed": "EINVAL",
 }
 # Answers after which nothing can be asked any more.
-LAST = ["failed_Device", "end", "what", "refused", "ok_x", "ok_1_2_3_4_5_6", "ok__1", "okay"]
+LAST = ["failed_Device", "end", "what", "refused", "ok_x", "ok_1_2_3_4_5_6", "ok__1", "ok_4294967296", "okay"]
 
 
 def mounted(runner):

@@ -300,7 +300,7 @@ def end_after(runner, program, given):
 
 def judge_output(judge, requests, ran):
     """Why what a program has answered to these requests is wrong, or None. Where an allocation was refused to it, it may
-    have said so instead."""
+    have said so instead, or have ended."""
     greeting, _, out = ran.out.partition("\n")
     if greeting != "pumpgrape 1":
         return None if ran.refused and ran.status == 1 and ran.out == "" else f"it begins with {greeting!r}"
@@ -308,7 +308,7 @@ def judge_output(judge, requests, ran):
         answer, _, out = out.partition("\n")
         if ran.refused and answer in ("memory", "refused Memory"):
             continue
-        if ran.refused and request == ("unmount",) and answer == "failed Memory":
+        if ran.refused and ran.status == 1 and (answer, out) in (("", ""), ("failed Memory", "")):
             break
         why = judge.take(answer, *request)
         if why:

@@ -46,6 +46,9 @@ def mounted(runner):
         return
     if not program_of(runner) or not build(runner):
         return
+    for program in ("valgrind", "rsync"):
+        if not shutil.which(program):
+            print(f"  left out: there is no {program}", flush=True)
     runs = [run for run in RUNS if run != "valgrind" or shutil.which("valgrind")]
     parts = [(trees, run) for run in runs] + [(calls, run) for run in runs] + [(answers, run) for run in runs]
     parts += [(part, "plain") for part in (called, background, read_only, dots)]
@@ -93,6 +96,8 @@ def trees(runner, name, run):
     grow(given, 1, 60 if run == "plain" else 10)
     with Mounted(runner, name, run=run) as mount:
         for copy, (into, out) in COPIES.items():
+            if not shutil.which(copy.split()[0]):
+                continue
             back = runner.folder / f"{name}.{copy.replace(' ', '')}"
             back.mkdir()
             for command in (into, "diff -r {given} {top}", out, "diff -r {given} {back}", "diff -r {top} {back}"):

@@ -90,7 +90,7 @@ fn a_long_line_is_no_request(rt: HostRuntime) -> Result<(), Fail> {
         let mut input = vec![in rt.alloc(); b' '; length]?;
         input.extend_from_slice(b"\nroom\n")?;
         let out = given(rt.alloc(), &input, Said::Done)?;
-        assert_eq!(rt; out.as_slice(), b"pumpgrape 1\nmalformed\n[]", "of {length}");
+        assert_eq!(rt; out.as_slice(), b"pumpgrape 1\nmalformed\n[]".as_slice(), "of {length}");
     }
     Ok(())
 }
@@ -145,7 +145,7 @@ fn a_stream_that_fails_is_named(rt: HostRuntime) -> Result<(), Fail> {
     let mut out = Vec::new(rt.alloc());
     let ended = serve(&mut server, &mut room, &mut broken, &mut out);
     assert_eq!(rt; ended, Err(StreamFault::Input));
-    assert_eq!(rt; out.as_slice(), b"pumpgrape 1\n");
+    assert_eq!(rt; out.as_slice(), b"pumpgrape 1\n".as_slice());
     let ended = serve(&mut server, &mut room, &mut b"".as_slice(), &mut broken);
     assert_eq!(rt; ended, Err(StreamFault::Output));
     let mut lacking = Broken {

@@ -11,8 +11,8 @@ ghost use Rattle.jffs_manage.specs.Answers.{limits_answer, check_answer, query_a
 ghost use Rattle.jffs_manage.specs.Looks.{usage_in};
 
 use crate::fault::VolumeFault;
-use crate::wanting::Query;
 use crate::looking::{Sight, Usage, list, sight_of, usage_of};
+use crate::wanting::Query;
 use jffs_core::Core;
 use jffs_flash::Flash;
 use jffs_node::{FILE_MAX, NAME_MAX, PATH_DEPTH_MAX, Path};
@@ -46,11 +46,7 @@ pub(crate) fn answer_query<F: Flash, W: Write>(
 }
 
 /// Says what stands at a path: its kind, size, and what its live records take, in bytes.
-fn answer_stat<F: Flash, W: Write>(
-    core: &Core<F>,
-    path: &Path,
-    out: &mut W,
-) -> io::Result<()>
+fn answer_stat<F: Flash, W: Write>(core: &Core<F>, path: &Path, out: &mut W) -> io::Result<()>
     ensures { OnOk result
         (Appends (W.contents out.old) (W.contents out.new) (stat_answer core.now path.now)) }
 {

@@ -65,11 +65,9 @@ impl Command {
     /// The fewest words that follow it.
     fn least(self) -> usize {
         match self {
-            Command::List
-            | Command::Usage
-            | Command::Check
-            | Command::Map
-            | Command::Serve => { 1 },
+            Command::List | Command::Usage | Command::Check | Command::Map | Command::Serve => {
+                1
+            },
             Command::Show
             | Command::Put
             | Command::MakeDir

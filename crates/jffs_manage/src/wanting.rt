@@ -36,11 +36,7 @@ pub(crate) enum Wanted {
 }
 
 /// What a request wants with these bytes after its line. `None` where a path is none. `Memory`.
-pub(crate) fn wants(
-    alloc: Global,
-    ask: Ask,
-    body: &[u8],
-) -> Result<Option<Wanted>, NoMemory>
+pub(crate) fn wants(alloc: Global, ask: Ask, body: &[u8]) -> Result<Option<Wanted>, NoMemory>
     requires { first_len ask ≤ length body.now }
     ensures { IfOk result (λ found. IfSome found (λ w. w ≡ wanted_of ask body.now)) }
 {
@@ -59,12 +55,7 @@ pub(crate) fn wants(
 }
 
 /// What a request wants with this path, and the bytes after it.
-fn wanted_at(
-    alloc: Global,
-    ask: Ask,
-    path: Path,
-    rest: &[u8],
-) -> Result<Option<Wanted>, NoMemory>
+fn wanted_at(alloc: Global, ask: Ask, path: Path, rest: &[u8]) -> Result<Option<Wanted>, NoMemory>
     ensures { IfOk result (λ found. IfSome found (λ w. w ≡ wanted_by ask path rest.now)) }
 {
     let wish = match ask {

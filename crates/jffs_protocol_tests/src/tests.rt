@@ -63,17 +63,32 @@ fn each_request_takes_what_it_counts(rt: HostRuntime) -> Result<(), Fail> {
         ("stat 3\n/\n/list 1\n/", "[/\n/][/]"),
         ("read 2 0 9\n/acreate 2\n/b", "[/a][/b]"),
         ("mkdir 2\n/atruncate 2 7\n/aremove 2\n/a", "[/a][/a][/a]"),
-        ("write 2 0 4\n/a\n\n\n\nrename 2 3\n/a/bc", "[/a\n\n\n\n][/a/bc]"),
+        (
+            "write 2 0 4\n/a\n\n\n\nrename 2 3\n/a/bc",
+            "[/a\n\n\n\n][/a/bc]",
+        ),
         ("write 2 5 0\n/async\n", "[/a]ok\n"),
         ("stat 0\nunmount\nroom\n", "[]ok\n"),
-        ("stat 8\n12345678stat 9\n123456789room\n", "[12345678]malformed\n[]"),
+        (
+            "stat 8\n12345678stat 9\n123456789room\n",
+            "[12345678]malformed\n[]",
+        ),
         (
             "write 8 0 10\n12345678abcdefghijwrite 1 0 11\n1abcdefghijkroom\n",
             "[12345678abcdefghij]malformed\n[]",
         ),
-        ("stat\nstat 1 1\nroom 1\n\nroom\n", "malformed\nmalformed\nmalformed\nmalformed\n[]"),
-        ("stat 01\n ROOM\nroom \n  room\n", "malformed\nmalformed\nmalformed\nmalformed\n"),
-        ("stat 4294967296\nstat +1\nread 1 0\n", "malformed\nmalformed\nmalformed\n"),
+        (
+            "stat\nstat 1 1\nroom 1\n\nroom\n",
+            "malformed\nmalformed\nmalformed\nmalformed\n[]",
+        ),
+        (
+            "stat 01\n ROOM\nroom \n  room\n",
+            "malformed\nmalformed\nmalformed\nmalformed\n",
+        ),
+        (
+            "stat 4294967296\nstat +1\nread 1 0\n",
+            "malformed\nmalformed\nmalformed\n",
+        ),
         ("stat 3\n/a", ""),
         ("room\nstat 99\n/a", "[]"),
         ("room\nroom", "[]"),
@@ -90,7 +105,11 @@ fn a_long_line_is_no_request(rt: HostRuntime) -> Result<(), Fail> {
         let mut input = vec![in rt.alloc(); b' '; length]?;
         input.extend_from_slice(b"\nroom\n")?;
         let out = given(rt.alloc(), &input, Said::Done)?;
-        assert_eq!(rt; out.as_slice(), b"pumpgrape 1\nmalformed\n[]".as_slice(), "of {length}");
+        assert_eq!(rt;
+            out.as_slice(),
+            b"pumpgrape 1\nmalformed\n[]".as_slice(),
+            "of {length}"
+        );
     }
     Ok(())
 }
@@ -103,9 +122,18 @@ fn each_thing_said_has_its_line(rt: HostRuntime) -> Result<(), Fail> {
         (Said::Last, "pumpgrape 1\nok\n"),
         (Said::Malformed, "pumpgrape 1\nmalformed\n[]"),
         (Said::Memory, "pumpgrape 1\nmemory\n[]"),
-        (Said::Failed(Failure::Device), "pumpgrape 1\nfailed Device\n"),
-        (Said::Failed(Failure::Medium), "pumpgrape 1\nfailed Medium\n"),
-        (Said::Failed(Failure::Memory), "pumpgrape 1\nfailed Memory\n"),
+        (
+            Said::Failed(Failure::Device),
+            "pumpgrape 1\nfailed Device\n",
+        ),
+        (
+            Said::Failed(Failure::Medium),
+            "pumpgrape 1\nfailed Medium\n",
+        ),
+        (
+            Said::Failed(Failure::Memory),
+            "pumpgrape 1\nfailed Memory\n",
+        ),
     ] {
         let out = given(rt.alloc(), b"sync\nroom\n", said)?;
         assert_eq!(rt; out.as_slice(), wanted.as_bytes());

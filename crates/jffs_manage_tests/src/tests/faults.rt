@@ -121,7 +121,9 @@ fn each_length_that_is_wrong_has_its_line(rt: HostRuntime) -> Result<(), Fail> {
 }
 
 /// Each path that is wrong has its line.
-fn refuses_paths<Rt: Abort + Files<File = File> + AllocGlobal + Clone + Drop>(rt: &Rt) -> Result<(), Fail> {
+fn refuses_paths<Rt: Abort + Files<File = File> + AllocGlobal + Clone + Drop>(
+    rt: &Rt,
+) -> Result<(), Fail> {
     refuses(
         rt,
         "jffs_volume: q.image: ",

@@ -38,7 +38,9 @@ fn a_directory_is_removed_with_all_below_it(rt: HostRuntime) -> Result<(), Fail>
     Ok(())
 }
 
-fn saves_a_tree<Rt: Abort + Files<File = File> + AllocGlobal + Clone + Drop>(rt: &Rt) -> Result<(), Fail> {
+fn saves_a_tree<Rt: Abort + Files<File = File> + AllocGlobal + Clone + Drop>(
+    rt: &Rt,
+) -> Result<(), Fail> {
     plays(
         rt,
         &[
@@ -70,7 +72,9 @@ fn saves_a_tree<Rt: Abort + Files<File = File> + AllocGlobal + Clone + Drop>(rt:
 }
 
 /// The saved tree is changed on the host, and loaded over the same volume.
-fn loads_the_tree<Rt: Abort + Files<File = File> + AllocGlobal + Clone + Drop>(rt: &Rt) -> Result<(), Fail> {
+fn loads_the_tree<Rt: Abort + Files<File = File> + AllocGlobal + Clone + Drop>(
+    rt: &Rt,
+) -> Result<(), Fail> {
     fs::write(rt, "saved/g", "another")?;
     fs::create_dir(rt, "saved/new")?;
     fs::write(rt, "saved/new/h", "four!")?;

@@ -1,5 +1,5 @@
 -- What `serve` answers to a look, byte for byte.
-use Rattle.std.specs.Prelude.{ℕ, Bool, true, false, List, ◌++◌, ◌==◌, length, take, drop, count_by}
+use Rattle.std.specs.Prelude.{ℕ, true, false, List, ◌++◌, ◌==◌, length, take, drop, count_by}
 use Rattle.std.specs.Prelude.{codes, decimal, if◌then◌else◌}
 use Rattle.std.specs.Option.{option_map_or}
 use Rattle.jffs_node.specs.declared.node.TheConstants.{FILE_MAX}

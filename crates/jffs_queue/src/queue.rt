@@ -170,8 +170,7 @@ impl Flash for QueuedFlash {
     /// for the bytes that it fills.
     fn read(&mut self, at: u32, buffer: &mut [u8]) -> Result<(), FlashFault>
         requires { at + length buffer.old ≤ length (seen_device self.old).image }
-        ensures never_fails { IsOk result }
-        ensures same { self.new ≡ self.old }
+        ensures passes { IsOk result × (self.new ≡ self.old) }
 
         // What each device promises.
         ensures device { Reads result (seen_device self.old) (seen_device self.new) }

@@ -4,10 +4,9 @@ import random
 import shutil
 import signal
 import subprocess
-import sys
 import time
 
-from cases import TOP
+from second_reader import contents, left
 
 SECTORS, SIZE = 8, 2048
 WRITE_MAX = SIZE // 4 - 64
@@ -20,7 +19,6 @@ LOADED = ["/a", "/d-", "/d/a", "/d/b", "/d/e/a", "/f/a"]
 LOADS = 25
 # Of so many commands of a script the first ones are run to their end, and the run of the others is killed.
 SCRIPTS, LINES, FIRST = 200, 300, 100
-READER = TOP / "tools/read_volume.py"
 
 
 class Session:
@@ -188,13 +186,8 @@ def stopped_at(files, entries, found):
 def read(path):
     """The directories, as None, and files on the volume in a file, as the second reader finds them; None where it finds
     no volume."""
-    with path.open("rb") as image:
-        seen = subprocess.run([sys.executable, str(READER), str(SECTORS), str(SIZE)], stdin=image,
-                              capture_output=True, text=True, check=False)
-    if seen.returncode:
-        return None
-    lines = [line.split(" ") for line in seen.stdout.splitlines() if line[:2] in ("d ", "f ") and line != "d /"]
-    return {words[1]: bytes.fromhex(words[3].strip("-")) if words[0] == "f" else None for words in lines}
+    found = left(path, SECTORS, SIZE)
+    return contents(found[1]) if found else None
 
 
 def script(seed):

@@ -1,5 +1,6 @@
 """System calls on a mounted volume, each with what it has to answer: at each limit and one beyond it, and for each cause of a
 refusal that a volume can be brought to."""
+import contextlib
 import ctypes
 import errno
 import mmap
@@ -75,25 +76,30 @@ def fault_of(call, *words):
         return errno.errorcode[fault.errno]
 
 
-def place(path, offset, data):
-    """Writes at an offset; how many bytes were taken."""
-    file = os.open(path, os.O_WRONLY)
+@contextlib.contextmanager
+def opened(path, flags):
+    """The descriptor of a file or directory, until the block of its `with` ends."""
+    file = os.open(path, flags, 0o644)
     try:
-        return os.pwrite(file, data, offset)
+        yield file
     finally:
         os.close(file)
+
+
+def place(path, offset, data):
+    """Writes at an offset; how many bytes were taken."""
+    with opened(path, os.O_WRONLY) as file:
+        return os.pwrite(file, data, offset)
 
 
 def fetch(path, offset, count):
-    file = os.open(path, os.O_RDONLY)
-    try:
+    with opened(path, os.O_RDONLY) as file:
         return os.pread(file, count, offset)
-    finally:
-        os.close(file)
 
 
 def new(path):
-    os.close(os.open(path, os.O_WRONLY | os.O_CREAT | os.O_EXCL, 0o644))
+    with opened(path, os.O_WRONLY | os.O_CREAT | os.O_EXCL):
+        pass
 
 
 def rename_by(old, other, flags):
@@ -108,11 +114,8 @@ def append(path, data):
 
 
 def sync(path):
-    file = os.open(path, os.O_RDONLY)
-    try:
+    with opened(path, os.O_RDONLY) as file:
         os.fsync(file)
-    finally:
-        os.close(file)
 
 
 def mapped(path, at):
@@ -130,12 +133,10 @@ def emptied(path):
 
 def removed_while_open(path):
     """A file that is removed is gone, also for who has it open."""
-    file = os.open(path, os.O_RDWR)
-    try:
+    with opened(path, os.O_RDWR) as file:
         os.unlink(path)
         new(path)
         calls = [(os.pwrite, b"z", 0), (os.pread, 9, 0), (os.ftruncate, 9), (os.fstat,), (os.fchmod, 0o600)]
-        return [fault_of(call, file, *words) for call, *words in calls]
-    finally:
-        os.close(file)
-        os.unlink(path)
+        found = [fault_of(call, file, *words) for call, *words in calls]
+    os.unlink(path)
+    return found

@@ -8,6 +8,7 @@ import threading
 import time
 
 from mounting import LIMIT, Mounted, NotMounted
+from second_reader import contents
 
 MOMENTS = 200
 # Seconds after which the last kill comes; a session writes some tens of files in them.
@@ -88,8 +89,7 @@ def kill_one(runner, seed, victim):
     found = mount.left()
     if found is None:
         return "no volume is left"
-    lines = [line.split(" ") for line in found[1] if line[0] == "f"]
-    return writing.wrong({words[1][1:]: bytes.fromhex(words[3].strip("-")) for words in lines})
+    return writing.wrong({path[1:]: data for path, data in contents(found[1]).items()})
 
 
 def gone(process):

@@ -12,8 +12,9 @@ import time
 import mount_kills
 from mount_calls import fault_of, new, place, table
 from mounting import BUILT, LIMIT, RUNS, Mounted, NotMounted, build, missing
+from second_reader import left
 from serve_client import Served
-from served import left, make, program_of
+from served import make, program_of
 
 # The longest piece of a write on the largest volume.
 PIECE = 4032

@@ -5,7 +5,8 @@ import shutil
 import subprocess
 import time
 
-from served import left, make, program_of
+from second_reader import left
+from served import make, program_of
 
 TOP = pathlib.Path(__file__).resolve().parent.parent.parent
 BUILT = TOP / "mount/out"

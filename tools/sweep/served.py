@@ -1,16 +1,13 @@
 """Asks `jffs_volume serve` by its pipe: made lists of requests against the model, malformed requests, input that ends
 anywhere, and a refusal of each allocation."""
-import pathlib
 import random
-import subprocess
-import sys
 import threading
 
 import malformed
 from model import Tree, sure_room
+from second_reader import left
 from serve_client import Ended, Refused, Served, encode
 
-TOP = pathlib.Path(__file__).resolve().parent.parent.parent
 SIZES = [(6, 1024), (6, 1024), (8, 1024), (8, 2048), (16, 4096), (64, 16384)]
 LISTS, REQUESTS = 300, 80
 MADE = 10_000
@@ -76,15 +73,6 @@ def text_of(client, verb, *words):
         return " ".join(["ok", *client.ask(verb, *words)])
     except Refused as refused:
         return str(refused)
-
-
-def left(image, sectors, size):
-    """The first line and the dump of what the second reader finds in a file; None where it finds no volume."""
-    with image.open("rb") as given:
-        seen = subprocess.run([sys.executable, str(TOP / "tools/read_volume.py"), str(sectors), str(size)], stdin=given,
-                              capture_output=True, text=True, check=False)
-    lines = seen.stdout.splitlines()
-    return None if seen.returncode else (lines[0], [line for line in lines if line[:2] in ("d ", "f ")])
 
 
 class Judge:

@@ -169,7 +169,7 @@ def called(runner, name, _):
             ([image, here, "x"], 2, "unexpected word 'x'"), (["-x", image, here], 2, "unknown option '-x'"),
             ([image, here / "none", *given], 2, "none: No such file or directory"),
             ([image, image, *given], 2, "Not a directory"), ([runner.folder / "no.image", here, *given], 2, "no.image"),
-            ([STUB, here, *given], 2, "stub_serve.py"),
+            ([STUB, here, *given], 3, "stub_serve.py"),
             ([image, here, "-o", f"serve={here}/none"], 2, "none: No such file"),
             ([image, here, "-o", "serve=/bin/true"], 1, "doesn't serve as wanted"),
             ([image, here, "-o", "serve=/bin/echo"], 1, "doesn't serve as wanted"),

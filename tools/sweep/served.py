@@ -79,7 +79,7 @@ class Judge:
     """The tree that the granted requests made, and whether an answer is right."""
 
     def __init__(self, sectors, size):
-        self.sectors, self.size, self.tree = sectors, size, Tree(size)
+        self.sectors, self.size, self.tree, self.changed = sectors, size, Tree(size), False
 
     def wanted(self, verb, *words):
         """The line that has to answer a request, where the tree says it: not `room`, `check` and what weighs how much."""
@@ -113,7 +113,12 @@ class Judge:
             return f"{verb} {words} is answered {answer}, not {wanted}"
         if answer == "ok" and verb not in ("sync", "unmount"):
             self.tree.grant(in_words(verb, *words))
+            self.changed = True
         return None
+
+    def wanted_end(self):
+        """How the log ends: where nothing was changed, the erased volume stays as it was."""
+        return "mounted clean" if self.changed else "mounted unclean"
 
     def may_be_full(self):
         return self.tree.weight_bound() >= sure_room(self.sectors, self.size)
@@ -282,8 +287,8 @@ def end_after(runner, program, given):
     why = judge_output(judge, whole, ran)
     if why or ran.status:
         return why or f"status {ran.status}"
-    wanted = ("mounted clean", judge.tree.dump())
-    return None if left(image, 6, 1024) == wanted else "another tree is left, or an unclean log"
+    wanted = (judge.wanted_end(), judge.tree.dump())
+    return None if left(image, 6, 1024) == wanted else "another tree is left, or the log ends in another way"
 
 
 def judge_output(judge, requests, ran):
@@ -339,4 +344,4 @@ def judge_left(ran, requests, judge):
         return why or f"status {ran.status}: {ran.errors}"
     if ran.left is None or ran.left[1] != judge.tree.dump():
         return "another tree is left"
-    return None if ran.left[0] == "mounted clean" or ran.status == 1 else "an unclean log is left"
+    return None if ran.left[0] == judge.wanted_end() or ran.status == 1 else "the log ends in another way"

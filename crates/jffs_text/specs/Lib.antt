@@ -3,3 +3,4 @@ pub mod Wishes
 pub mod Causes
 pub mod Dump
 pub mod Added
+pub mod Scripts

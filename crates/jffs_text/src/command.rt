@@ -1,6 +1,7 @@
 //! What a script's writer asks for.
 
 ghost use Rattle.std.specs.Prelude.{◌≡◌, IfOk};
+ghost use Rattle.jffs_text.specs.Scripts.{IsCommand};
 ghost use Rattle.jffs_text.specs.Wishes.{wish_of};
 
 use crate::keyword::Edit;
@@ -50,7 +51,9 @@ impl<'a> Command<'a> {
     /// A mistake of the kind `Command` where they begin with no command's word, or are too few or
     /// too many; then that of the first word, from the left, that isn't what should stand there:
     /// of the kind `Path`, `Number` or `Hex`, or `Memory` if allocation failed.
-    pub fn of_words(alloc: Global, mut words: Words<'a>) -> Result<Command<'a>, Mistake> {
+    pub fn of_words(alloc: Global, mut words: Words<'a>) -> Result<Command<'a>, Mistake>
+        ensures { IfOk result IsCommand }
+    {
         let line = words;
         match Edit::of(line, words.take()) {
             Ok(edit) => Command::parse(alloc, edit, words),
@@ -64,7 +67,9 @@ impl<'a> Command<'a> {
         alloc: Global,
         edit: Edit,
         mut words: Words<'a>,
-    ) -> Result<Command<'a>, Mistake> {
+    ) -> Result<Command<'a>, Mistake>
+        ensures { IfOk result IsCommand }
+    {
         let path = words.take_spelled()?;
         match edit {
             Edit::MakeDir => Ok(Command::MakeDir(path)),
@@ -81,7 +86,9 @@ impl<'a> Command<'a> {
         alloc: Global,
         path: SpelledPath<'a>,
         mut words: Words<'a>,
-    ) -> Result<Command<'a>, Mistake> {
+    ) -> Result<Command<'a>, Mistake>
+        ensures { IfOk result IsCommand }
+    {
         let offset = words.take_number(0, u32::MAX)?;
         let bytes = Bytes::from_vec(words.take_bytes(alloc)?)?;
         Ok(Command::Write {
@@ -91,7 +98,9 @@ impl<'a> Command<'a> {
         })
     }
 
-    fn parse_fill(path: SpelledPath<'a>, mut words: Words<'a>) -> Result<Command<'a>, Mistake> {
+    fn parse_fill(path: SpelledPath<'a>, mut words: Words<'a>) -> Result<Command<'a>, Mistake>
+        ensures { IfOk result IsCommand }
+    {
         let offset = words.take_number(0, u32::MAX)?;
         let count = words.take_number(0, FILL_MAX)?;
         let byte = words.take_byte()?;
@@ -103,12 +112,16 @@ impl<'a> Command<'a> {
         })
     }
 
-    fn parse_truncate(path: SpelledPath<'a>, mut words: Words<'a>) -> Result<Command<'a>, Mistake> {
+    fn parse_truncate(path: SpelledPath<'a>, mut words: Words<'a>) -> Result<Command<'a>, Mistake>
+        ensures { IfOk result IsCommand }
+    {
         let size = words.take_number(0, u32::MAX)?;
         Ok(Command::Truncate { path, size })
     }
 
-    fn parse_rename(from: SpelledPath<'a>, mut words: Words<'a>) -> Result<Command<'a>, Mistake> {
+    fn parse_rename(from: SpelledPath<'a>, mut words: Words<'a>) -> Result<Command<'a>, Mistake>
+        ensures { IfOk result IsCommand }
+    {
         let to = words.take_spelled()?;
         Ok(Command::Rename { from, to })
     }

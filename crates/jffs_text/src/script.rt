@@ -1,13 +1,16 @@
 //! Scripts, and how one is read.
 
-ghost use Rattle.std.specs.Prelude.{◌≡◌};
+ghost use Rattle.std.specs.Prelude.{◌≡◌, true, IfOk, IfSome, OnOk};
 ghost use Rattle.std.specs.Int.{is_in_range};
 ghost use Rattle.std.specs.List.{list_all};
+ghost use Rattle.jffs_flash.specs.Sizes.{is_geometry as allows_geometry};
+ghost use Rattle.jffs_text.specs.declared.keyword.Keyword.TheVariants as keyword;
+ghost use Rattle.jffs_text.specs.Scripts.{IsInBounds, IsDraft, Admits};
 
 use crate::command::Command;
 use crate::fault::{ScriptFault, ScriptWhy};
 pub use crate::keyword::LineForm;
-use crate::keyword::{Keyword, VOLUME_FORM};
+use crate::keyword::{Edit, Keyword, VOLUME_FORM};
 use crate::mistake::{Mistake, ScriptMistake};
 use crate::quote::Quote;
 use crate::word::Words;
@@ -81,7 +84,9 @@ pub struct Script<'a> {
 impl<'a> Script<'a> {
     /// Reads a script. An error has the first line that is refused, from 1, and the first reason
     /// that holds there; `Memory` comes wherever allocation failed.
-    pub fn parse(alloc: Global, text: &'a [u8]) -> Result<Script<'a>, ScriptFault> {
+    pub fn parse(alloc: Global, text: &'a [u8]) -> Result<Script<'a>, ScriptFault>
+        ensures bounds { IfOk result IsInBounds }
+    {
         match Script::read(alloc, text) {
             Ok(script) => Ok(script),
             Err(mistake) => Err(mistake.fault),
@@ -89,7 +94,9 @@ impl<'a> Script<'a> {
     }
 
     /// Reads a script as `parse` does. An error has the fault of `parse`, and says more of it.
-    pub fn read(alloc: Global, text: &'a [u8]) -> Result<Script<'a>, ScriptMistake> {
+    pub fn read(alloc: Global, text: &'a [u8]) -> Result<Script<'a>, ScriptMistake>
+        ensures bounds { IfOk result IsInBounds }
+    {
         let mut draft = Draft::new(alloc);
         for (index, line) in text.split(|byte| *byte == b'\n').enumerate() {
             if let Err(mistake) = draft.take_line(line) {
@@ -124,7 +131,9 @@ struct Draft<'a> {
 }
 
 impl<'a> Draft<'a> {
-    fn new(alloc: Global) -> Draft<'a> {
+    fn new(alloc: Global) -> Draft<'a>
+        ensures { IsDraft result }
+    {
         Draft {
             alloc,
             volume: None,
@@ -136,7 +145,10 @@ impl<'a> Draft<'a> {
     }
 
     /// The script, where some line had a statement.
-    fn finish(self) -> Option<Script<'a>> {
+    fn finish(self) -> Option<Script<'a>>
+        requires draft { IsDraft self }
+        ensures { IfSome result IsInBounds }
+    {
         let (sectors, sector_size) = self.volume?;
         Some(Script {
             sectors,
@@ -148,7 +160,10 @@ impl<'a> Draft<'a> {
         })
     }
 
-    fn take_line(&mut self, line: &'a [u8]) -> Result<(), Mistake> {
+    fn take_line(&mut self, line: &'a [u8]) -> Result<(), Mistake>
+        requires draft { IsDraft self.old }
+        ensures { OnOk result (IsDraft self.new) }
+    {
         let line = line_text(line)?;
         if line.len() == 0 || line.starts_with('#') {
             return Ok(());
@@ -173,7 +188,9 @@ impl<'a> Draft<'a> {
     }
 
     /// Whether the statement may stand here.
-    fn admit(&self, keyword: Keyword) -> Result<(), Mistake> {
+    fn admit(&self, keyword: Keyword) -> Result<(), Mistake>
+        ensures { OnOk result (Admits self.now keyword) }
+    {
         let headed = self.writers.len() > 0;
         match keyword {
             Keyword::Volume => Err(Mistake::SecondVolume),
@@ -193,7 +210,11 @@ impl<'a> Draft<'a> {
         }
     }
 
-    fn take_statement(&mut self, keyword: Keyword, mut words: Words<'a>) -> Result<(), Mistake> {
+    fn take_statement(&mut self, keyword: Keyword, mut words: Words<'a>) -> Result<(), Mistake>
+        requires draft { IsDraft self.old }
+        requires room { Admits self.old keyword }
+        ensures { OnOk result (IsDraft self.new) }
+    {
         match keyword {
             Keyword::Volume => {}
             Keyword::Line(form) => {
@@ -203,17 +224,29 @@ impl<'a> Draft<'a> {
             Keyword::Cleaner => self.cleaner = Some(words.take_number(1, ROUNDS_MAX)?),
             Keyword::Reader => self.take_reader(words)?,
             Keyword::Writer => self.begin_writer()?,
-            Keyword::Edit(edit) => {
-                let command = Command::parse(self.alloc, edit, words)?;
-                if let Some(writer) = self.writers.last_mut() {
-                    writer.commands.push(command)?;
-                }
-            }
+            Keyword::Edit(edit) => self.take_command(edit, words)?,
         }
         Ok(())
     }
 
-    fn take_reader(&mut self, mut words: Words<'_>) -> Result<(), Mistake> {
+    /// Takes a command of the last writer, where there is one.
+    fn take_command(&mut self, edit: Edit, words: Words<'a>) -> Result<(), Mistake>
+        requires draft { IsDraft self.old }
+        requires room { Admits self.old (keyword.Edit edit) }
+        ensures { OnOk result (IsDraft self.new) }
+    {
+        let command = Command::parse(self.alloc, edit, words)?;
+        if let Some(writer) = self.writers.last_mut() {
+            writer.commands.push(command)?;
+        }
+        Ok(())
+    }
+
+    fn take_reader(&mut self, mut words: Words<'_>) -> Result<(), Mistake>
+        requires draft { IsDraft self.old }
+        requires room { Admits self.old keyword.Reader }
+        ensures { OnOk result (IsDraft self.new) }
+    {
         let writer = words.take_number(1, WRITERS_MAX as u32)?;
         let seq = words.take_number(1, u32::MAX)?;
         let path = words.take_path(self.alloc)?;
@@ -221,7 +254,11 @@ impl<'a> Draft<'a> {
         Ok(())
     }
 
-    fn begin_writer(&mut self) -> Result<(), AllocError> {
+    fn begin_writer(&mut self) -> Result<(), AllocError>
+        requires draft { IsDraft self.old }
+        requires room { Admits self.old keyword.Writer }
+        ensures { OnOk result (IsDraft self.new) }
+    {
         self.writers.push(Writer {
             commands: Vec::new(self.alloc),
         })?;
@@ -230,7 +267,9 @@ impl<'a> Draft<'a> {
 }
 
 /// The sizes in the first statement, where it is a `volume` with sizes that a volume may have.
-fn volume_sizes(mut words: Words<'_>) -> Result<(u32, u32), Mistake> {
+fn volume_sizes(mut words: Words<'_>) -> Result<(u32, u32), Mistake>
+    ensures { IfOk result (λ sizes. allows_geometry sizes.0 sizes.1 ≡ true) }
+{
     let line = words;
     let word = words.take();
     if word != "volume" {

@@ -73,14 +73,12 @@ impl<F: Flash> Session<F> {
     /// nothing was asked.
     pub fn ask(&mut self, wish: Wish) -> Result<(), VolumeFault> {
         let removes = matches!(&wish, Wish::Remove(_));
-        let seq = self.seq.saturating_add(1);
-        let outcome = self.answer(WRITER, seq, wish)?;
-        self.seq = seq;
-        match outcome {
+        match self.carry_out(wish)? {
             Outcome::Refused(Cause::NoSpace) if removes => Err(VolumeFault::Stuck),
             Outcome::Refused(Cause::NoSpace) => Err(VolumeFault::NoSpace),
             Outcome::Refused(cause) => Err(VolumeFault::Refused(cause)),
-            _ => self.erase_dead(),
+            _ if self.core.failed() => Err(VolumeFault::Refused(Cause::Device)),
+            _ => Ok(()),
         }
     }
 
@@ -118,13 +116,6 @@ impl<F: Flash> Session<F> {
             return Err(VolumeFault::Memory);
         }
         Ok(self.core.answer(Request { writer, seq, wish }))
-    }
-
-    fn erase_dead(&mut self) -> Result<(), VolumeFault> {
-        match self.core.erase_dead() {
-            Ok(_) => Ok(()),
-            Err(cause) => Err(VolumeFault::Refused(cause)),
-        }
     }
 
     /// Has the control ask for the unmount.

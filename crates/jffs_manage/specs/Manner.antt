@@ -60,8 +60,8 @@ IsManner w old new said.Memory written = LacksMemory w old new
 IsManner w old new (said.Failed why) written = ⊤
 
 -- this is said, or that the medium failed
-abbrev pub IsSettled : Said → Said → Type 0
-IsSettled meant result = (result ≡ meant) ⊎ (result ≡ said.Failed failure.Medium)
+abbrev pub IsSynced : Said → Said → Type 0
+IsSynced meant result = (result ≡ meant) ⊎ (result ≡ said.Failed failure.Medium)
 
 -- the cause is the answer, or memory was lacking
 abbrev pub SaysRefused : Cause → Said → List ℕ → Type 0

@@ -5,7 +5,8 @@
 //! program; `arguments` reads its words, `mounting` opens the file, `looking`, `mapping` and
 //! `drawing` write what is there, `changing` does what is asked, in a `session` that ends with an
 //! unmount, `rooming` sees that a put has room before it begins, `hosting` carries whole trees from
-//! and to a directory of the host, and `salvaging` saves what is left of a volume that is refused.
+//! and to a directory of the host, `salvaging` saves what is left of a volume that is refused, and
+//! `serving` answers a client's requests, which `wanting` reads and `answering` looks up.
 #![tactic(auto)]
 
 mod answering;

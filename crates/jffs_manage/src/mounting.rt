@@ -38,8 +38,8 @@ pub(crate) fn mount<Rt: Files + AllocGlobal>(
     }
 }
 
-/// Takes the lock of a file, which whoever changes it holds: the operating system gives it back once
-/// the handle is gone, also where the program is killed, and leaves nothing behind.
+/// Takes the lock of a file, which whoever changes it holds: the operating system gives it back
+/// once the handle is gone, also where the program is killed, and leaves nothing behind.
 ///
 /// `Locked` where another program holds it, `NoLock` where the file can't be locked, `Unread` or
 /// `File` where it can't be opened, `Memory`.

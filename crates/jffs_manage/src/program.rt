@@ -206,8 +206,8 @@ fn change<Rt: Files<File = File> + AllocGlobal + Clone + Drop, R: Read>(
     Ok(())
 }
 
-/// Mounts the volume and answers what the input asks, up to the unmount; where none is asked for, it
-/// is unmounted once the input or a stream ends. Then the file is brought to its medium.
+/// Mounts the volume and answers what the input asks, up to the unmount; where none is asked for,
+/// it is unmounted once the input or a stream ends. Then the file is brought to its medium.
 fn serve_volume<Rt: Files<File = File> + AllocGlobal, R: Read, W: Write>(
     rt: &Rt,
     work: &Work<'_>,

@@ -3,7 +3,7 @@
 ghost use Rattle.std.specs.Prelude.{◌≡◌, ℕ, List, []};
 ghost use Rattle.jffs_core.specs.CoreState.{CoreState};
 ghost use Rattle.jffs_manage.specs.Wanting.{wanted_of};
-ghost use Rattle.jffs_manage.specs.Manner.{IsManner, IsSettled, SaysRefused};
+ghost use Rattle.jffs_manage.specs.Manner.{IsManner, IsSynced, SaysRefused};
 
 use crate::answering::{answer_query, write_refusal};
 use crate::fault::VolumeFault;
@@ -18,13 +18,13 @@ use std::fs::OpenFile;
 use std::io::{Seek, Write};
 
 /// A device whose bytes can be brought to their medium.
-pub(crate) trait Settle {
+pub(crate) trait SyncFlash {
     /// Brings all that was written to the medium, and waits for it.
-    fn settle(&self) -> Result<(), StoreFault>;
+    fn sync_flash(&self) -> Result<(), StoreFault>;
 }
 
-impl<X: Write + Seek + OpenFile + Drop> Settle for FileFlash<FileStore<X>> {
-    fn settle(&self) -> Result<(), StoreFault> {
+impl<X: Write + Seek + OpenFile + Drop> SyncFlash for FileFlash<FileStore<X>> {
+    fn sync_flash(&self) -> Result<(), StoreFault> {
         self.sync()
     }
 }
@@ -61,7 +61,7 @@ impl<F: Flash> Served<F> {
     }
 }
 
-impl<F: Flash + Settle> Server for Served<F> {
+impl<F: Flash + SyncFlash> Server for Served<F> {
     ghost manner = { λ old ask body new said written.
         IsManner (wanted_of ask body) old.session.core new.session.core said written };
 
@@ -74,7 +74,7 @@ impl<F: Flash + Settle> Server for Served<F> {
     }
 }
 
-impl<F: Flash + Settle> Served<F> {
+impl<F: Flash + SyncFlash> Served<F> {
     /// Answers what is wanted.
     fn grant(&mut self, wanted: Wanted, out: &mut Vec<u8>) -> Said
         requires empty { out.old.items ≡ [] }
@@ -84,7 +84,7 @@ impl<F: Flash + Settle> Served<F> {
         match wanted {
             Wanted::Query(query) => self.look(&query, out),
             Wanted::Change(wish) => self.change(wish, out),
-            Wanted::Sync => self.settle(Said::Done),
+            Wanted::Sync => self.sync(Said::Done),
             Wanted::Unmount => self.unmount(),
         }
     }
@@ -116,16 +116,16 @@ impl<F: Flash + Settle> Served<F> {
         match outcome {
             Outcome::Refused(Cause::Memory) => Said::Memory,
             Outcome::Refused(cause) => refuse(cause, out),
-            _ => self.settle(Said::Done),
+            _ => self.sync(Said::Done),
         }
     }
 
     /// Brings the file to its medium, and then says this.
-    fn settle(&mut self, said: Said) -> Said
+    fn sync(&mut self, said: Said) -> Said
         ensures core { self.new.session ≡ self.old.session }
-        ensures said { IsSettled said result }
+        ensures said { IsSynced said result }
     {
-        match self.session.core().log().flash().settle() {
+        match self.session.core().log().flash().sync_flash() {
             Ok(()) => said,
             Err(_) => self.fail(Failure::Medium, VolumeFault::Medium),
         }
@@ -137,7 +137,7 @@ impl<F: Flash + Settle> Served<F> {
             written }
     {
         match self.session.finish() {
-            Ok(()) => self.settle(Said::Last),
+            Ok(()) => self.sync(Said::Last),
             Err(VolumeFault::Memory) => self.fail(Failure::Memory, VolumeFault::Memory),
             Err(fault) => self.fail(Failure::Device, fault),
         }

@@ -72,8 +72,8 @@ impl Ask {
     }
 }
 
-/// The request of a line, without its line feed; `None` where it is that of no request. `written` is
-/// left with the line of the request that was thought of.
+/// The request of a line, without its line feed; `None` where it is that of no request. `written`
+/// is left with the line of the request that was thought of.
 pub(crate) fn ask_of(line: &[u8], written: &mut Vec<u8>) -> io::Result<Option<Ask>>
     ensures { IfOk result (λ found. IfSome found (λ ask. line.now ≡ ask_line ask)) }
 {

@@ -28,6 +28,8 @@ GAVE_UP = re.compile(r"\Aerror: [^\n]*(memory|AllocError|AllocFailed)[^\n]*\nthe
 SCAN = "Scan"
 FUSES = [(which, what) for which in ("Writes", "All") for what in ("Nothing", "Half")]
 MOST_CALLS = 5000
+# How threads run, besides alone.
+LOADED, DELAYED = "under load", "with random delays"
 
 
 def why_wrong(check, *arguments):
@@ -42,7 +44,7 @@ def why_wrong(check, *arguments):
 # Refused memory.
 
 def memory(runner):
-    if not runner.build():
+    if not runner.build(runner.refuses):
         return
     named = set()
     subjects = [subject for crate in crates_with_tests() for subject in tests(runner, crate)]
@@ -206,22 +208,22 @@ def play(runner, program, what, lines):
 
 def threads(runner):
     program = runner.program("jffs")
-    if program is None:
+    if program is None or not runner.build(runner.delays):
         return
     processor = min(os.sched_getaffinity(0))
     texts = cases.examples() + cases.scripts(range(1, 16), 240) + cases.scripts(range(16, 22), 1500)
     scripts, rounds = [(name, Script(text)) for name, text in texts], 24 // runner.options.thin
     runs = [(name, script, where) for name, script in scripts for where in (processor, None)] * rounds
-    for load in (False, True):
-        busy = start_load(processor) if load else []
+    for how in ("alone", LOADED, DELAYED):
+        busy = start_load(processor) if how == LOADED else []
         try:
-            runner.each(runs, lambda run: run_threads(runner, program, load, *run))
+            runner.each(enumerate(runs), lambda run: run_threads(runner, program, how, run[0], *run[1]))
         finally:
             for process in busy:
                 process.kill()
                 process.wait()
         for _ in scripts:
-            runner.tally.count("under load" if load else "alone", 2 * rounds)
+            runner.tally.count(how, 2 * rounds)
     runner.tally.tell("runs", f"scripts, half of them on processor {processor}")
 
 
@@ -232,8 +234,9 @@ def start_load(processor):
     return [subprocess.Popen(words, stdin=subprocess.DEVNULL) for words in (pinned, pinned, loop)]
 
 
-def run_threads(runner, program, load, name, script, processor):
-    ran = runner.run([program], script.text, limit=60, processor=processor)
+def run_threads(runner, program, how, number, name, script, processor):
+    delays = number if how == DELAYED else None
+    ran = runner.run([program], script.text, limit=60, processor=processor, delays=delays)
     why = ran.crash() or why_wrong(script_judge.judge, script, ran.status, ran.out, False)
-    where = " on one processor" if processor is not None else ""
-    runner.tally.add(f"{name}{where}{' under load' if load else ''}", why)
+    where = "on one processor, " if processor is not None else ""
+    runner.tally.add(f"{name}, {where}{how}, run {number}", why)

@@ -66,21 +66,22 @@ class Runner:
     def __init__(self, options):
         self.options, self.tally = options, Tally()
         self.folder = pathlib.Path(tempfile.mkdtemp(prefix="sweep."))
-        self.library = self.folder / "refuse.so"
+        self.refuses, self.delays = self.folder / "refuse.so", self.folder / "delay.so"
         self.missing = set()
 
     def close(self):
         shutil.rmtree(self.folder, ignore_errors=True)
 
-    def build(self):
-        """The library that refuses; False where it can't be built."""
-        command = ["cc", "-O2", "-shared", "-fPIC", "-o", str(self.library), str(HERE / "refuse.c")]
+    def build(self, library):
+        """The library that refuses, or the one that delays; False where it can't be built."""
+        source = HERE / f"{library.stem}.c"
+        command = ["cc", "-O2", "-shared", "-fPIC", "-o", str(library), str(source)]
         try:
             built = subprocess.run(command, capture_output=True, text=True, check=False)
             why = None if built.returncode == 0 else built.stderr
         except OSError as fault:
             why = str(fault)
-        self.tally.add("cc refuse.c", why)
+        self.tally.add(f"cc {source.name}", why)
         return why is None
 
     def program(self, crate, name=None):
@@ -102,16 +103,18 @@ class Runner:
         folder.mkdir()
         return folder
 
-    def run(self, words, text="", at=None, on=False, limit=20, cwd=TOP, processor=None):
+    def run(self, words, text="", at=None, on=False, limit=20, cwd=TOP, processor=None, delays=None):
         """Runs a program; allocation number `at` is refused, all later ones too where it goes on, and with 0 the
-        allocations are only counted."""
+        allocations are only counted. In its stead threads may be delayed, at random from the seed `delays` on."""
         own = self.folder / f"{threading.get_ident()}"
         seen, count = own.with_suffix(".seen"), own.with_suffix(".count")
         env = dict(os.environ)
         if at is not None:
-            env.update(LD_PRELOAD=str(self.library), REFUSE_AT=str(at))
+            env.update(LD_PRELOAD=str(self.refuses), REFUSE_AT=str(at))
             env.update(REFUSE_SEEN=str(seen), REFUSE_COUNT=str(count))
             env.update({"REFUSE_ON": "1"} if on else {})
+        if delays is not None:
+            env.update(LD_PRELOAD=str(self.delays), DELAY_SEED=str(delays))
         if processor is not None:
             words = ["taskset", "-c", str(processor)] + words
         started = time.monotonic()

@@ -38,7 +38,7 @@ def served(runner):
     runner.tally.tell("requests asked", "lists")
     refuse_malformed(runner, program)
     end_anywhere(runner, program)
-    if runner.build():
+    if runner.build(runner.refuses):
         runner.each(range(REFUSED // min(thin, REFUSED)), lambda seed: refuse_allocations(runner, program, seed))
         runner.tally.tell("allocations refused", "lists")
 

@@ -1,8 +1,9 @@
 """What `bench/count` counts: the jobs of bench/workloads.txt in small, and single calls, each at two sizes of what is
 there when it is made. What a call costs is what twice as many calls take more, so that no program is needed that makes
 it alone."""
+import functools
 import sys
-from typing import Callable, NamedTuple, Optional, Tuple
+from typing import Callable, NamedTuple, Tuple
 
 from cases import TOP
 
@@ -15,12 +16,13 @@ IMAGE = "volume.image"
 
 
 class Run(NamedTuple):
-    """A run of a program, in a folder that has the image, if any, under the name IMAGE."""
+    """A run of a program, in a folder that has the image that `begin` leaves, if any, under the name IMAGE."""
     program: str
     words: Tuple[str, ...] = ()
     text: bytes = b""
-    image: Optional[bytes] = None
-    # How it has to end, and what the last line that it prints begins with.
+    begin: Tuple[str, ...] = ()
+    sizes: Tuple[int, int] = LARGEST
+    # How it has to end, and what the last line that it prints has.
     status: int = 0
     last: str = ""
 
@@ -46,23 +48,31 @@ def jobs():
             yield name, Run(program, (*words, "small"), last=f"{words[0]} {stored[words[0]]}")
 
 
-def numbered(commands):
-    return [f"request 1 {number} {command}" for number, command in enumerate(commands, 1)]
+@functools.lru_cache(maxsize=None)
+def image_of(begin, sizes):
+    """The image of a volume on which these requests were granted."""
+    volume = Volume(*sizes)
+    for number, request in enumerate(begin, 1):
+        volume.request(1, number, *request.split())
+    volume.request(1, len(begin) + 1, "unmount")
+    return bytes(volume.flash)
 
 
-def replay(begin, body, last, sizes=LARGEST):
-    """A run of jffs_replay: commands, and then operations, of which those that begin with a command's verb are one."""
-    lines = ["flash {} {}".format(*sizes), "mount", *numbered(begin), *body]
-    return Run("jffs_replay", (), "\n".join(lines + [""]).encode(), last=last)
+def served(begin, requests, last="ok", sizes=LARGEST):
+    """A run of `jffs_volume serve` over a volume on which the first ones were granted before."""
+    text = b"".join(encode(verb, *words) for verb, *words in requests)
+    return Run("jffs_volume", ("serve", IMAGE, "--sector-size", str(sizes[1])), text, tuple(begin), sizes, last=last)
 
 
-def asked(begin, body, last="appended", sizes=LARGEST):
-    """The same where the calls are requests."""
-    return replay(begin, [f"request 2 {number} {command}" for number, command in enumerate(body, 1)], last, sizes)
+def replayed(begin, operations, last, sizes=LARGEST):
+    """A run of `jffs_replay`: requests, and then operations of other kinds."""
+    requests = [f"request 1 {number} {request}" for number, request in enumerate(begin, 1)]
+    lines = ["flash {} {}".format(*sizes), "mount", *requests, *operations, ""]
+    return Run("jffs_replay", (), "\n".join(lines).encode(), last=last)
 
 
 def name_of(number):
-    """Names in no order, of one length."""
+    """Names in no order, all of one length."""
     return f"/d/{number * 7919 % 100000:05}"
 
 
@@ -70,116 +80,91 @@ def files(count):
     return ["mkdir /d"] + [f"create {name_of(number)}" for number in range(count)]
 
 
-def pieces(first, count):
-    return [f"fill /f {192 * number} 192 5a" for number in range(first, first + count)]
+def names(count, first=0):
+    return [name_of(number) for number in range(first, first + count)]
 
 
-def over(names, count):
-    """Writes over a few bytes of files, by turns."""
-    return [f"write {names[number * 7 % len(names)]} 3 00112233445566778899aabbccddeeff" for number in range(count)]
+def pieces(count):
+    return ["create /f"] + [f"fill /f {192 * number} 192 5a" for number in range(count)]
+
+
+def over(paths, count):
+    """Writes of 16 bytes over the same bytes of files, by turns."""
+    return [("write", paths[number * 7 % len(paths)], 3, b"sixteen bytes ..") for number in range(count)]
 
 
 def append(size, calls):
-    return asked(["create /f", *pieces(0, size)], pieces(size, calls))
+    return served(pieces(size), [("write", "/f", 192 * number, 192 * b"Z") for number in range(size, size + calls)])
 
 
 def overwrite(size, calls):
-    return asked(files(size), over([name_of(number) for number in range(size)], calls))
+    return served(files(size), over(names(size), calls))
 
 
 def create(size, calls):
-    return asked(files(size), [f"create {name_of(number)}" for number in range(size, size + calls)])
+    return served(files(size), [("create", name) for name in names(calls, size)])
 
 
 def rename(size, calls):
-    return asked(files(size), [f"rename {name_of(number)} {name_of(number)}x" for number in range(calls)])
+    return served(files(size), [("rename", name, name + "x") for name in names(calls)])
 
 
 def remove(size, calls):
-    return asked(files(size), [f"remove {name_of(number)}" for number in range(calls)])
+    return served(files(size), [("remove", name) for name in names(calls)])
 
 
 def refused(size, calls):
-    return asked(files(size), [f"write {name_of(number)}x 0 00" for number in range(calls)], "refused NotFound")
+    return served(files(size), [("remove", name + "x") for name in names(calls)], "refused NotFound")
+
+
+def refused_late(size, calls):
+    """The oldest sector has so many dead records before a live one, and is looked at after each answer."""
+    begin = ["create /f", *(f"truncate /f {number}" for number in range(size)), "create /live", *pieces(100)[1:]]
+    return served(begin, [("remove", "/none")] * calls, "refused NotFound")
 
 
 def deep(size, calls):
-    """Writes to a file whose path has so many names."""
-    home = [f"mkdir {'/level' * depth}" for depth in range(1, size)]
-    path = "/level" * size
-    return asked(home + [f"create {path}"], over([path], calls))
+    begin = [f"mkdir {'/level' * depth}" for depth in range(1, size)] + [f"create {'/level' * size}"]
+    return served(begin, over(["/level" * size], calls))
 
 
 def long_write(size, calls):
-    """Writes of so many bytes, over the same ones."""
-    return asked(["create /f"], [f"write /f 0 {size * '5a'}" for _ in range(calls)])
+    return served(["create /f"], [("write", "/f", 0, size * b"Z")] * calls)
 
 
 def turn(size, calls):
-    """Writes over the bytes of so many files on the smallest volume, each with the erases that follow it."""
-    names = [f"/f{number}" for number in range(size)]
-    body = [[f"request 2 {number} {command}", "erase_dead"] for number, command in enumerate(over(names, calls), 1)]
-    begin = [f"create {name}" for name in names]
-    return replay(begin, [line for both in body for line in both], "erased", SMALLEST)
+    paths = [f"/f{number}" for number in range(size)]
+    return served([f"create {path}" for path in paths], over(paths, calls), sizes=SMALLEST)
+
+
+def read(size, calls):
+    reads = [("read", "/f", 192 * (number * 7 % (size - 3)), 500) for number in range(calls)]
+    return served(pieces(size), [*reads, ("sync",)])
+
+
+def stat(size, calls):
+    return served(files(size), [*(("stat", name) for name in names(calls)), ("sync",)])
+
+
+def listing(size, calls):
+    return served(files(size), [*[("list", "/d")] * calls, ("sync",)])
 
 
 def clean(size, calls):
-    """Cleanings of a sector full of live records, of so many."""
-    return replay(files(size), ["clean_oldest"] * calls, "erased sector", (64, 4096))
-
-
-def erase_dead(size, calls):
-    """Looks for dead sectors where so many dead records stand before a live one."""
-    begin = ["create /f", *(f"truncate /f {number}" for number in range(size)), "create /live", *pieces(0, 100)]
-    return replay(begin, ["erase_dead"] * calls, "erased 0")
+    return replayed(files(size), ["clean_oldest"] * calls, "erased sector", (64, 4096))
 
 
 def mount(size, calls):
-    """Mounts of so many records, all but the last of them dead."""
-    return replay(["create /f", *over(["/f"], size)], ["mount"] * calls, "mounted unclean")
+    writes = [f"write /f 3 {16 * '5a'}"] * size
+    return replayed(["create /f", *writes], ["mount"] * calls, "mounted unclean")
 
 
 def mount_files(size, calls):
-    """Mounts of so many files, which are listed then."""
-    return replay(files(size), ["mount"] * calls, "mounted unclean")
-
-
-def image_of(requests, sizes=LARGEST):
-    volume = Volume(*sizes)
-    for number, request in enumerate(requests, 1):
-        volume.request(1, number, *request.split())
-    volume.request(1, len(requests) + 1, "unmount")
-    return bytes(volume.flash)
-
-
-def served(begin, requests):
-    text = b"".join(encode(verb, *words) for verb, *words in requests)
-    return Run("jffs_volume", ("serve", IMAGE, "--sector-size", str(LARGEST[1])), text, image_of(begin), last="ok")
-
-
-def serve_read(size, calls):
-    """Reads of 500 bytes of a file of so many pieces."""
-    reads = [("read", "/f", 192 * (number * 7 % (size - 3)), 500) for number in range(calls)]
-    return served(["create /f", *pieces(0, size)], [*reads, ("sync",)])
-
-
-def serve_stat(size, calls):
-    return served(files(size), [*(("stat", name_of(number)) for number in range(calls)), ("sync",)])
-
-
-def serve_list(size, calls):
-    return served(files(size), [*(("list", "/d") for _ in range(calls)), ("sync",)])
-
-
-def serve_write(size, calls):
-    """Writes at the end of a file of so many pieces."""
-    writes = [("write", "/f", 192 * number, b"Z" * 192) for number in range(size, size + calls)]
-    return served(["create /f", *pieces(0, size)], [*writes, ("sync",)])
+    return replayed(files(size), ["mount"] * calls, "mounted unclean")
 
 
 def parse(size, calls):
-    """Commands of a script, which is refused in its last line and so never run."""
-    lines = ["volume 64 16384", "writer", *over(["/dir/name"], size + calls), "no command", ""]
+    lines = ["volume 64 16384", "writer", *[f"write /dir/name 3 {16 * '5a'}"] * (size + calls), "no command", ""]
     return Run("jffs", (), "\n".join(lines).encode(), status=2, last=f"bad script, line {size + calls + 3}: Command")
 
 
@@ -190,16 +175,15 @@ CALLS = [
     Call("rename", rename, (300, 1200), 100, .2, "a rename of one of so many files"),
     Call("remove", remove, (300, 1200), 100, .2, "a remove of one of so many files"),
     Call("refused", refused, (300, 1200), 200, .2, "a request that is refused as NotFound beside so many files"),
+    Call("refused_late", refused_late, (60, 240), 200, .1, "the same with so many dead records before a live one"),
     Call("deep", deep, (2, 8), 200, .4, "a write of 16 bytes to a path of so many names"),
     Call("long_write", long_write, (1000, 4000), 50, 1, "a write of so many bytes"),
-    Call("turn", turn, (2, 8), 200, .3, "a write with the erases after it, where so many files turn in a small ring"),
-    Call("clean", clean, (300, 1200), 4, .2, "a cleaning of a sector, of so many live records"),
-    Call("erase_dead", erase_dead, (60, 240), 200, .1, "a look for dead sectors with so many dead before a live one"),
-    Call("mount", mount, (300, 1200), 4, 1.1, "a mount of so many records"),
+    Call("turn", turn, (2, 8), 200, .3, "a write to one of so many files of a ring that turns, with its erases"),
+    Call("read", read, (300, 1200), 200, .2, "a read of 500 bytes of a file of so many pieces"),
+    Call("stat", stat, (300, 1200), 50, 1.1, "a look at one of so many files, which weighs its records"),
+    Call("list", listing, (300, 1200), 10, 1.1, "the names and sizes of so many files"),
+    Call("clean", clean, (300, 1200), 2, .2, "a cleaning of a sector of 63 live records, of so many"),
+    Call("mount", mount, (300, 1200), 4, 1.1, "a mount of so many records of one file"),
     Call("mount_files", mount_files, (300, 1200), 4, 1.2, "a mount of so many files, and their list"),
-    Call("serve_read", serve_read, (300, 1200), 200, .2, "a served read of 500 bytes of a file of so many pieces"),
-    Call("serve_stat", serve_stat, (300, 1200), 200, .2, "a served stat of one of so many files"),
-    Call("serve_list", serve_list, (300, 1200), 10, 1.1, "a served list of so many files"),
-    Call("serve_write", serve_write, (300, 1200), 100, .2, "a served write to the end of a file of so many pieces"),
     Call("parse", parse, (500, 2000), 500, .1, "a command of a script, after so many"),
 ]

@@ -12,7 +12,7 @@ from datetime import date
 from typing import NamedTuple, Optional
 
 from cases import TOP
-from cost_cases import CALLS, IMAGE, jobs
+from cost_cases import CALLS, IMAGE, image_of, jobs
 
 STORED = TOP / "bench/counts.txt"
 MEASURES = ("instructions", "requests for memory", "bytes at most")
@@ -53,9 +53,9 @@ def subjects():
 def settle_in(folder, program, run):
     """Puts what a run needs into an empty folder, so that no name in the call tells where the checkout is."""
     os.symlink(program, os.path.join(folder, run.program))
-    if run.image is not None:
+    if run.begin:
         with open(os.path.join(folder, IMAGE), "wb") as image:
-            image.write(run.image)
+            image.write(image_of(run.begin, run.sizes))
 
 
 def check_output(run, ended):
@@ -106,11 +106,10 @@ def middle(counts):
 
 
 def margin_of(counts):
-    """Twice the spread of five counts. One in a thousand is borne of instructions in any case, and one in a thousand
-    of the bytes, for another release of the C library."""
+    """Twice the spread of five counts; of instructions one in a thousand at least, since the C library's differ a
+    little from one release to the next."""
     spread = [2 * (max(values) - min(values)) for values in zip(*counts)]
-    least = middle(counts)
-    return Count(max(spread[0], least.instructions // 1000), spread[1], max(spread[2], least.most // 1000))
+    return Count(max(spread[0], middle(counts).instructions // 1000), *spread[1:])
 
 
 def stored():
@@ -154,9 +153,11 @@ def compare(tally, subject, now):
         if was is None:
             continue
         told = f"{new} {what}, {was} stored, {part_of(new, was)}"
-        tally.add(subject.name, f"{told}, and {margin} are borne" if new > was + margin else None)
+        accept = f"bench/count --store {subject.name}"
+        rises = f"{told}, and {margin} are borne; where that is meant: {accept}"
+        tally.add(subject.name, rises if new > was + margin else None)
         if new < was - margin:
-            print(f"  {subject.name}: {told}: store that by bench/count --store {subject.name}", flush=True)
+            print(f"  {subject.name}: {told}; store that: {accept}", flush=True)
 
 
 def order_of(call, counts):

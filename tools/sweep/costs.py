@@ -124,13 +124,21 @@ def stored():
     return found
 
 
+def release_of(*words):
+    """The first word that a command tells of its version; nothing where it isn't there."""
+    if shutil.which(words[0]) is None:
+        return ""
+    told = subprocess.run(words, stdout=subprocess.PIPE, text=True, check=False).stdout
+    return told.split()[0] if told.strip() else ""
+
+
 def store(found):
     """Writes counts and margins, in the order of the cases; those of other names stay."""
     kept = {**stored(), **found}
-    release = subprocess.run(["valgrind", "--version"], capture_output=True, text=True, check=False).stdout.strip()
+    releases = [release_of("rt", "version"), release_of("valgrind", "--version"), " ".join(platform.libc_ver())]
     lines = ["# What bench/count counted: a name, and then instructions, requests for memory and the most bytes held at",
              "# once, each with the margin that a rise may have; - where it isn't compared.",
-             f"# Last stored on {date.today()}: {' '.join(platform.libc_ver())}, {release}."]
+             f"# Last stored on {date.today()}, with {', '.join(filter(None, releases))}."]
     for name in [subject.name for subject in subjects()]:
         if name in kept:
             numbers = [number for both in zip(*kept[name]) for number in both]

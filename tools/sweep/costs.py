@@ -136,9 +136,9 @@ def store(found):
     """Writes counts and margins, in the order of the cases; those of other names stay."""
     kept = {**stored(), **found}
     releases = [release_of("rt", "version"), release_of("valgrind", "--version"), " ".join(platform.libc_ver())]
-    lines = ["# What bench/count counted: a name, and then instructions, requests for memory and the most bytes held at",
-             "# once, each with the margin that a rise may have; - where it isn't compared.",
-             f"# Last stored on {date.today()}, with {', '.join(filter(None, releases))}."]
+    lines = ["# What bench/count counted: a name, and then instructions, requests for memory and the most bytes held",
+             "# at once, each with the margin that a rise may have; - where it isn't compared.",
+             f"# Last stored on {date.today()} with {', '.join(filter(None, releases))}."]
     for name in [subject.name for subject in subjects()]:
         if name in kept:
             numbers = [number for both in zip(*kept[name]) for number in both]

@@ -39,6 +39,7 @@ class Subject(NamedTuple):
     name: str
     run: object
     shorter: object = None
+    # Whether its instructions differ from run to run, so that they say nothing.
     varies: bool = False
 
 
@@ -88,28 +89,33 @@ def numbers_of(tool, program, run):
     return [int(match[1].replace(",", "")) for match in found]
 
 
-def count_run(program, run):
-    return Count(*numbers_of("callgrind", program, run), *numbers_of("dhat", program, run))
+def count_run(program, run, varies=False):
+    instructions = [None] if varies else numbers_of("callgrind", program, run)
+    return Count(*instructions, *numbers_of("dhat", program, run))
 
 
 def count(program, subject):
     """The count of a subject; of calls the most bytes of the longer run."""
-    whole = count_run(program, subject.run)
+    whole = count_run(program, subject.run, subject.varies)
     if subject.shorter is not None:
         less = count_run(program, subject.shorter)
         whole = Count(whole.instructions - less.instructions, whole.requests - less.requests, whole.most)
     return whole
 
 
-def middle(counts):
-    return Count(*(sorted(values)[len(values) // 2] for values in zip(*counts)))
+def middle_and_margin(values, least):
+    """The middle one of five counts, and twice their spread, or the least margin; nothing where they aren't counted."""
+    if None in values:
+        return None, None
+    middle = sorted(values)[len(values) // 2]
+    return middle, max(2 * (max(values) - min(values)), int(middle * least))
 
 
-def margin_of(counts):
-    """Twice the spread of five counts; of instructions one in a thousand at least, since the C library's differ a
-    little from one release to the next."""
-    spread = [2 * (max(values) - min(values)) for values in zip(*counts)]
-    return Count(max(spread[0], middle(counts).instructions // 1000), *spread[1:])
+def to_store(counts):
+    """The counts and their margins. Of instructions one in a thousand is borne at least, since those of the C library
+    differ a little from one release to the next."""
+    pairs = [middle_and_margin(values, least) for values, least in zip(zip(*counts), (.001, 0, 0))]
+    return tuple(Count(*part) for part in zip(*pairs))
 
 
 def stored():
@@ -230,4 +236,4 @@ def keep(runner, names=()):
         return
     chosen = chosen_of(names)
     found = count_all(runner, chosen, RUNS)
-    store({name: (middle(counts), margin_of(counts)) for name, counts in found.items()})
+    store({name: to_store(counts) for name, counts in found.items()})

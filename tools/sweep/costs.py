@@ -17,8 +17,9 @@ from cost_cases import CALLS, IMAGE, image_of, jobs
 STORED = TOP / "bench/counts.txt"
 MEASURES = ("instructions", "requests for memory", "bytes at most")
 RUNS, LIMIT = 5, 600
-# The C library picks its copies of bytes by the processor; without these it takes those that each x86-64 has.
-PLAIN = "glibc.cpu.hwcaps=-AVX512F,-AVX512VL,-AVX2,-AVX,-ERMS,-FSRM,-SSE4_2,-SSE4_1,-SSSE3,-RTM,-BMI2,-MOVBE"
+# The C library picks its copies of bytes by the processor; without these it takes those that each processor has for
+# which a program is built (x86-64-v2).
+PLAIN = "glibc.cpu.hwcaps=-AVX512F,-AVX512VL,-AVX2,-AVX,-ERMS,-FSRM,-RTM,-BMI2,-MOVBE"
 TOOLS = {"callgrind": (r"Collected : (\d+)",),
          "dhat": (r"Total: +[\d,]+ bytes in ([\d,]+) blocks", r"At t-gmax: +([\d,]+) bytes")}
 

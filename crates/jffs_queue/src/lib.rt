@@ -6,8 +6,10 @@
 #![tactic(auto)]
 
 mod call;
+mod handed;
 mod overlay;
 mod queue;
 
 pub use call::Call;
+pub use handed::HandedFlash;
 pub use queue::QueuedFlash;

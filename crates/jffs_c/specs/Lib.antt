@@ -1,0 +1,4 @@
+pub mod Codes
+pub mod Handle
+pub mod Blocked
+pub mod Exports

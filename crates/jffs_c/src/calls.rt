@@ -1,0 +1,107 @@
+//! The calls of the device that the caller carries out.
+
+ghost use Rattle.std.specs.Prelude.{◌≡◌, IfErr};
+ghost use Rattle.jffs_c.specs.Blocked.{looks_blocked};
+
+use crate::code::Code;
+use crate::volume::{Phase, Volume};
+use jffs_queue::Call;
+
+/// A call of the device, as C sees it.
+#[repr(C)]
+#[derive(Clone, Copy, Debug, PartialEq, Eq)]
+pub struct NextCall {
+    /// Whether a sector is to be erased; else bytes are to be programmed.
+    pub erase: bool,
+    /// Where it begins on the medium, in bytes.
+    pub at: u32,
+    /// How many bytes it changes.
+    pub len: u32,
+}
+
+impl Volume {
+    /// Tells the next call in `call`, and copies the bytes of a program to the start of `buffer`.
+    ///
+    /// `Failed`; `Nothing` where no call is left; `BufferShort` where the buffer can't take the
+    /// bytes: `call` says how many they are.
+    pub(crate) fn next_call(&self, call: &mut NextCall, buffer: &mut [u8]) -> Code
+        ensures { IfErr (looks_blocked self.now.phase) (λ why. result ≡ why) }
+    {
+        if let Err(code) = self.may_look() {
+            return code;
+        }
+        match self.core.log().flash().next() {
+            None => Code::Nothing,
+            Some(Call::Erase { sector }) => {
+                let len = self.core.log().sector_size();
+                *call = NextCall {
+                    erase: true,
+                    at: sector.saturating_mul(len),
+                    len,
+                };
+                Code::Done
+            }
+            Some(Call::Program { at, bytes }) => {
+                *call = NextCall {
+                    erase: false,
+                    at: *at,
+                    len: u32::try_from(bytes.len()).unwrap_or(u32::MAX),
+                };
+                put(bytes, buffer)
+            }
+        }
+    }
+
+    /// Takes note that the next call was carried out. `Failed`; `Nothing` where no call is left.
+    pub(crate) fn carried_out(&mut self) -> Code
+        ensures core { self.new.core ≡ self.old.core }
+        ensures failed { IfErr (looks_blocked self.old.phase)
+            (λ why. (result ≡ why) × (self.new ≡ self.old)) }
+    {
+        match self.phase {
+            Phase::Failed => Code::Failed,
+            Phase::Ready => Code::Nothing,
+            Phase::Carrying => {
+                self.core.log().flash().carried_out();
+                self.turn();
+                Code::Done
+            }
+        }
+    }
+
+    /// Takes note that the next call failed. From then on all is refused. `Failed`; `Nothing`
+    /// where no call is left.
+    pub(crate) fn call_failed(&mut self) -> Code
+        ensures core { self.new.core ≡ self.old.core }
+        ensures failed { IfErr (looks_blocked self.old.phase)
+            (λ why. (result ≡ why) × (self.new ≡ self.old)) }
+    {
+        match self.phase {
+            Phase::Failed => Code::Failed,
+            Phase::Ready => Code::Nothing,
+            Phase::Carrying => {
+                self.phase = Phase::Failed;
+                Code::Done
+            }
+        }
+    }
+
+    /// How many calls are left; 0 after a failure.
+    pub(crate) fn calls_left(&self) -> u32 {
+        match self.phase {
+            Phase::Carrying => u32::try_from(self.core.log().flash().left()).unwrap_or(u32::MAX),
+            Phase::Ready | Phase::Failed => 0,
+        }
+    }
+}
+
+/// Copies bytes to the start of a buffer. `BufferShort` where it can't take them.
+pub(crate) fn put(bytes: &[u8], buffer: &mut [u8]) -> Code {
+    match buffer.get_mut(0..bytes.len()) {
+        Some(start) => {
+            start.copy_from_slice(bytes);
+            Code::Done
+        }
+        None => Code::BufferShort,
+    }
+}

@@ -1,0 +1,169 @@
+//! Changes of a volume.
+
+ghost use Rattle.std.specs.Prelude.{◌≡◌, IfOk, IfErr, Err};
+ghost use Rattle.jffs_c.specs.Blocked.{blocked, IsHeldBack};
+
+use crate::code::Code;
+use crate::volume::Volume;
+use jffs_core::Cleaned;
+use jffs_line::{CONTROL, Request};
+use jffs_node::{Path, copied};
+use jffs_tree::{Outcome, Wish};
+
+/// The sender's number in the records.
+const WRITER: u16 = 1;
+
+impl Volume {
+    /// Makes a file without bytes. The causes of the core, and those of the path.
+    pub(crate) fn create(&mut self, path: &[u8]) -> Code
+        ensures held_back { IsHeldBack self.old self.new result }
+    {
+        match self.path_to_change(path) {
+            Ok(path) => self.ask(WRITER, Wish::Create(path)),
+            Err(code) => code,
+        }
+    }
+
+    /// Makes a directory without names.
+    pub(crate) fn make_dir(&mut self, path: &[u8]) -> Code
+        ensures held_back { IsHeldBack self.old self.new result }
+    {
+        match self.path_to_change(path) {
+            Ok(path) => self.ask(WRITER, Wish::MakeDir(path)),
+            Err(code) => code,
+        }
+    }
+
+    /// Removes a file, or a directory without names.
+    pub(crate) fn remove(&mut self, path: &[u8]) -> Code
+        ensures held_back { IsHeldBack self.old self.new result }
+    {
+        match self.path_to_change(path) {
+            Ok(path) => self.ask(WRITER, Wish::Remove(path)),
+            Err(code) => code,
+        }
+    }
+
+    /// Writes bytes into a file from `offset` on.
+    pub(crate) fn write(&mut self, path: &[u8], offset: u32, bytes: &[u8]) -> Code
+        ensures held_back { IsHeldBack self.old self.new result }
+    {
+        let path = match self.path_to_change(path) {
+            Ok(path) => path,
+            Err(code) => return code,
+        };
+        match copied(self.alloc, bytes) {
+            Ok(bytes) => self.ask(
+                WRITER,
+                Wish::Write {
+                    path,
+                    offset,
+                    bytes,
+                },
+            ),
+            Err(_) => Code::Memory,
+        }
+    }
+
+    /// Cuts a file to `size` bytes, or fills it up with zeros.
+    pub(crate) fn truncate(&mut self, path: &[u8], size: u32) -> Code
+        ensures held_back { IsHeldBack self.old self.new result }
+    {
+        match self.path_to_change(path) {
+            Ok(path) => self.ask(WRITER, Wish::Truncate { path, size }),
+            Err(code) => code,
+        }
+    }
+
+    /// Gives what stands at `from` another name.
+    pub(crate) fn rename(&mut self, from: &[u8], to: &[u8]) -> Code
+        ensures held_back { IsHeldBack self.old self.new result }
+    {
+        let from = match self.path_to_change(from) {
+            Ok(path) => path,
+            Err(code) => return code,
+        };
+        match self.path_to_change(to) {
+            Ok(to) => self.ask(WRITER, Wish::Rename { from, to }),
+            Err(code) => code,
+        }
+    }
+
+    /// Unmounts: the log ends with an unmount node.
+    pub(crate) fn unmount(&mut self) -> Code
+        ensures held_back { IsHeldBack self.old self.new result }
+    {
+        self.ask(CONTROL, Wish::Unmount)
+    }
+
+    /// Copies what lives in the oldest sector, and erases it. `Nothing` where the log has at most
+    /// one sector.
+    pub(crate) fn clean(&mut self) -> Code
+        ensures held_back { IsHeldBack self.old self.new result }
+    {
+        if let Err(code) = self.may_change() {
+            return code;
+        }
+        let cleaned = self.core.clean_oldest();
+        self.turn();
+        match cleaned {
+            Ok(Cleaned::Erased { .. }) => Code::Done,
+            Ok(Cleaned::OneSector) => Code::Nothing,
+            Err(cause) => Code::from(cause),
+        }
+    }
+
+    /// Erases the dead sectors, the oldest first, up to one that has a live record.
+    pub(crate) fn erase_dead(&mut self) -> Code
+        ensures held_back { IsHeldBack self.old self.new result }
+    {
+        if let Err(code) = self.may_change() {
+            return code;
+        }
+        let erased = self.core.erase_dead();
+        self.turn();
+        match erased {
+            Ok(_) => Code::Done,
+            Err(cause) => Code::from(cause),
+        }
+    }
+
+    /// Has the core answer a request.
+    fn ask(&mut self, writer: u16, wish: Wish) -> Code
+        ensures held_back { IsHeldBack self.old self.new result }
+    {
+        if let Err(code) = self.may_change() {
+            return code;
+        }
+        if self.core.reserve_answer().is_err() {
+            return Code::Memory;
+        }
+        self.seq = self.seq.saturating_add(1);
+        let seq = self.seq;
+        let outcome = self.core.answer(Request { writer, seq, wish });
+        self.turn();
+        match outcome {
+            Outcome::Refused(cause) => Code::from(cause),
+            _ => Code::Done,
+        }
+    }
+
+    /// The path of a change, where one may be. `CallsLeft`, `Failed`, and then the path's faults.
+    fn path_to_change(&self, bytes: &[u8]) -> Result<Path, Code>
+        ensures { IfErr (blocked self.now.phase) (λ why. result ≡ Err why) }
+    {
+        self.may_change()?;
+        self.path(bytes)
+    }
+
+    /// The path that bytes spell, or why they spell none.
+    pub(crate) fn path(&self, bytes: &[u8]) -> Result<Path, Code> {
+        let Ok(text) = std::str::from_utf8(bytes) else {
+            return Err(Code::PathNameByte);
+        };
+        match Path::parse(self.alloc, text) {
+            Ok(path) => Ok(path),
+            Err(fault) => Err(Code::from(fault)),
+        }
+    }
+}

@@ -1,0 +1,282 @@
+//! The functions of the header.
+
+ghost use Rattle.std.specs.Prelude.{◌≡◌, IfErr, OnErr};
+ghost use Rattle.jffs_c.specs.Exports.{HoldsBack, HoldsBackLooks};
+
+use crate::calls::{NextCall, put};
+use crate::code::Code;
+use crate::handle::Handle;
+use crate::looks::{Longest, Sight, Usage};
+use crate::opening::{Refusal, open};
+use crate::texts::{name_of, text_of};
+use std::alloc::Global;
+
+/// `pg_open`: mounts a copy of the medium's bytes.
+#[unsafe(no_mangle)]
+pub extern "C" fn pg_open(
+    alloc: Global,
+    medium: &[u8],
+    sector_size: u32,
+    volume: &mut *mut u8,
+    refusal: &mut Refusal,
+) -> u32 {
+    match open(alloc, medium, sector_size) {
+        Ok(opened) => {
+            *volume = Box::into_raw(opened).cast::<u8>();
+            Code::Done.number()
+        }
+        Err(refused) => {
+            *refusal = refused.refusal;
+            refused.code.number()
+        }
+    }
+}
+
+/// `pg_close`: gives back all memory. Nothing is written.
+#[unsafe(no_mangle)]
+pub extern "C" fn pg_close(alloc: Global, volume: Handle) {
+    let _closed = volume.into_box(alloc);
+}
+
+/// `pg_create`: makes a file without bytes.
+#[unsafe(no_mangle)]
+pub extern "C" fn pg_create(volume: &mut Handle, path: &[u8]) -> u32
+    ensures held_back { HoldsBack volume.old volume.new result }
+{
+    volume.volume().create(path).number()
+}
+
+/// `pg_mkdir`: makes a directory without names.
+#[unsafe(no_mangle)]
+pub extern "C" fn pg_mkdir(volume: &mut Handle, path: &[u8]) -> u32
+    ensures held_back { HoldsBack volume.old volume.new result }
+{
+    volume.volume().make_dir(path).number()
+}
+
+/// `pg_remove`: removes a file, or a directory without names.
+#[unsafe(no_mangle)]
+pub extern "C" fn pg_remove(volume: &mut Handle, path: &[u8]) -> u32
+    ensures held_back { HoldsBack volume.old volume.new result }
+{
+    volume.volume().remove(path).number()
+}
+
+/// `pg_write`: writes bytes into a file from an offset on.
+#[unsafe(no_mangle)]
+pub extern "C" fn pg_write(volume: &mut Handle, path: &[u8], offset: u32, bytes: &[u8]) -> u32
+    ensures held_back { HoldsBack volume.old volume.new result }
+{
+    volume.volume().write(path, offset, bytes).number()
+}
+
+/// `pg_truncate`: cuts a file, or fills it up with zeros.
+#[unsafe(no_mangle)]
+pub extern "C" fn pg_truncate(volume: &mut Handle, path: &[u8], size: u32) -> u32
+    ensures held_back { HoldsBack volume.old volume.new result }
+{
+    volume.volume().truncate(path, size).number()
+}
+
+/// `pg_rename`: gives another name.
+#[unsafe(no_mangle)]
+pub extern "C" fn pg_rename(volume: &mut Handle, from: &[u8], to: &[u8]) -> u32
+    ensures held_back { HoldsBack volume.old volume.new result }
+{
+    volume.volume().rename(from, to).number()
+}
+
+/// `pg_unmount`: ends the log with an unmount node.
+#[unsafe(no_mangle)]
+pub extern "C" fn pg_unmount(volume: &mut Handle) -> u32
+    ensures held_back { HoldsBack volume.old volume.new result }
+{
+    volume.volume().unmount().number()
+}
+
+/// `pg_clean`: cleans the oldest sector.
+#[unsafe(no_mangle)]
+pub extern "C" fn pg_clean(volume: &mut Handle) -> u32
+    ensures held_back { HoldsBack volume.old volume.new result }
+{
+    volume.volume().clean().number()
+}
+
+/// `pg_erase_dead`: erases the dead sectors.
+#[unsafe(no_mangle)]
+pub extern "C" fn pg_erase_dead(volume: &mut Handle) -> u32
+    ensures held_back { HoldsBack volume.old volume.new result }
+{
+    volume.volume().erase_dead().number()
+}
+
+/// `pg_next_call`: tells the next call of the device.
+#[unsafe(no_mangle)]
+pub extern "C" fn pg_next_call(volume: &mut Handle, call: &mut NextCall, buffer: &mut [u8]) -> u32
+    ensures held_back { HoldsBackLooks volume.old volume.new result }
+{
+    volume.volume().next_call(call, buffer).number()
+}
+
+/// `pg_carried_out`: takes note that the next call was carried out.
+#[unsafe(no_mangle)]
+pub extern "C" fn pg_carried_out(volume: &mut Handle) -> u32
+    ensures held_back { HoldsBackLooks volume.old volume.new result }
+    ensures core { volume.new.value.core ≡ volume.old.value.core }
+{
+    volume.volume().carried_out().number()
+}
+
+/// `pg_call_failed`: takes note that the next call failed.
+#[unsafe(no_mangle)]
+pub extern "C" fn pg_call_failed(volume: &mut Handle) -> u32
+    ensures held_back { HoldsBackLooks volume.old volume.new result }
+    ensures core { volume.new.value.core ≡ volume.old.value.core }
+{
+    volume.volume().call_failed().number()
+}
+
+/// `pg_calls_left`: how many calls of the device are left.
+#[unsafe(no_mangle)]
+pub extern "C" fn pg_calls_left(volume: &mut Handle) -> u32 {
+    volume.volume().calls_left()
+}
+
+/// `pg_look`: what stands at a path.
+#[unsafe(no_mangle)]
+pub extern "C" fn pg_look(volume: &mut Handle, path: &[u8], sight: &mut Sight) -> u32
+    ensures held_back { HoldsBackLooks volume.old volume.new result }
+{
+    match volume.volume().look(path) {
+        Ok(found) => {
+            *sight = found;
+            Code::Done.number()
+        }
+        Err(code) => code.number(),
+    }
+}
+
+/// `pg_longest`: how long things may be.
+#[unsafe(no_mangle)]
+pub extern "C" fn pg_longest(volume: &mut Handle, longest: &mut Longest) -> u32
+    ensures held_back { HoldsBackLooks volume.old volume.new result }
+{
+    match volume.volume().longest() {
+        Ok(found) => {
+            *longest = found;
+            Code::Done.number()
+        }
+        Err(code) => code.number(),
+    }
+}
+
+/// `pg_usage`: how full the volume is.
+#[unsafe(no_mangle)]
+pub extern "C" fn pg_usage(volume: &mut Handle, usage: &mut Usage) -> u32
+    ensures held_back { HoldsBackLooks volume.old volume.new result }
+{
+    match volume.volume().usage() {
+        Ok(found) => {
+            *usage = found;
+            Code::Done.number()
+        }
+        Err(code) => code.number(),
+    }
+}
+
+/// `pg_wants_cleaning`: whether cleaning is worth it.
+#[unsafe(no_mangle)]
+pub extern "C" fn pg_wants_cleaning(volume: &mut Handle, wants: &mut bool) -> u32
+    ensures held_back { HoldsBackLooks volume.old volume.new result }
+{
+    match volume.volume().wants_cleaning() {
+        Ok(found) => {
+            *wants = found;
+            Code::Done.number()
+        }
+        Err(code) => code.number(),
+    }
+}
+
+/// `pg_is_clean`: whether it was unmounted last.
+#[unsafe(no_mangle)]
+pub extern "C" fn pg_is_clean(volume: &mut Handle, clean: &mut bool) -> u32
+    ensures held_back { HoldsBackLooks volume.old volume.new result }
+{
+    match volume.volume().clean_log() {
+        Ok(found) => {
+            *clean = found;
+            Code::Done.number()
+        }
+        Err(code) => code.number(),
+    }
+}
+
+/// `pg_read`: the bytes of a file from an offset on.
+#[unsafe(no_mangle)]
+pub extern "C" fn pg_read(
+    volume: &mut Handle,
+    path: &[u8],
+    offset: u32,
+    buffer: &mut [u8],
+    count: &mut usize,
+) -> u32
+    ensures held_back { HoldsBackLooks volume.old volume.new result }
+{
+    match volume.volume().read(path, offset, buffer) {
+        Ok(found) => {
+            *count = found;
+            Code::Done.number()
+        }
+        Err(code) => code.number(),
+    }
+}
+
+/// `pg_entry`: what stands in a directory under the name with a number.
+#[unsafe(no_mangle)]
+pub extern "C" fn pg_entry(
+    volume: &mut Handle,
+    path: &[u8],
+    number: u32,
+    name: &mut [u8],
+    name_len: &mut usize,
+    sight: &mut Sight,
+) -> u32
+    ensures held_back { HoldsBackLooks volume.old volume.new result }
+{
+    match volume.volume().entry(path, number, name) {
+        Ok((found, len)) => {
+            *sight = found;
+            *name_len = len;
+            Code::Done.number()
+        }
+        Err(code) => code.number(),
+    }
+}
+
+/// `pg_name`: the name of a code, and how long it is; 0 where there is no such code, or the buffer
+/// can't take it.
+#[unsafe(no_mangle)]
+pub extern "C" fn pg_name(code: u32, buffer: &mut [u8]) -> usize {
+    match Code::of_number(code) {
+        Some(code) => put_text(name_of(code), buffer),
+        None => 0,
+    }
+}
+
+/// `pg_text`: what a code says, and how long that is; 0 as for `pg_name`.
+#[unsafe(no_mangle)]
+pub extern "C" fn pg_text(code: u32, buffer: &mut [u8]) -> usize {
+    match Code::of_number(code) {
+        Some(code) => put_text(text_of(code), buffer),
+        None => 0,
+    }
+}
+
+/// Copies a text to the start of a buffer, and returns how long it is; 0 where it doesn't fit.
+fn put_text(text: &str, buffer: &mut [u8]) -> usize {
+    match put(text.as_bytes(), buffer) {
+        Code::Done => text.len(),
+        _ => 0,
+    }
+}

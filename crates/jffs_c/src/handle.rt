@@ -1,0 +1,22 @@
+//! A volume as C holds it.
+
+ghost use Rattle.jffs_c.specs.declared.volume.Volume.{Volume};
+
+use std::marker::Model;
+
+/// What a C program has of a volume: the pointer that `pg_open` wrote. Only this crate looks behind
+/// it.
+#[repr(C)]
+pub struct Handle {
+    pub(crate) at: *mut u8,
+    pub(crate) ghost value: { Volume },
+}
+
+impl Model for Handle {
+    ghost use Rattle.jffs_c.specs.contracts.volume.Volume.{the_row};
+    ghost use Rattle.std_alloc.specs.Box.Ownership.{box_owns};
+    ghost use Rattle.libc.specs.Heap.{chunk};
+
+    // the block of a box with the volume in it
+    ghost also_owns = { λ h. box_owns chunk the_row h.at h.value };
+}

@@ -1,0 +1,175 @@
+//! Looks at a volume. They change nothing, and see the changes whose calls are left as made.
+
+ghost use Rattle.std.specs.Prelude.{◌≡◌, ◌≤◌, length, IfErr, Err};
+ghost use Rattle.jffs_c.specs.Blocked.{looks_blocked};
+
+use crate::calls::put;
+use crate::code::Code;
+use crate::volume::Volume;
+use jffs_node::{FILE_MAX, HEADER_LEN, NAME_MAX, PATH_DEPTH_MAX};
+use jffs_tree::Tree;
+
+/// The most bytes of a path: eight names, each after a slash.
+const PATH_TEXT_MAX: u32 = (PATH_DEPTH_MAX * (NAME_MAX + 1)) as u32;
+
+/// What stands at a path.
+#[repr(C)]
+#[derive(Clone, Copy, Debug, PartialEq, Eq)]
+pub struct Sight {
+    /// Whether it is a directory; else it is a file.
+    pub directory: bool,
+    /// How many bytes a file has; 0 for a directory.
+    pub size: u32,
+}
+
+/// How long things may be, in bytes, but for the depth.
+#[repr(C)]
+#[derive(Clone, Copy, Debug, PartialEq, Eq)]
+pub struct Longest {
+    /// What one write carries.
+    pub write: u32,
+    pub path: u32,
+    pub name: u32,
+    /// How many names a path has.
+    pub depth: u32,
+    pub file: u32,
+}
+
+/// How full a volume is.
+#[repr(C)]
+#[derive(Clone, Copy, Debug, PartialEq, Eq)]
+pub struct Usage {
+    pub sectors: u32,
+    /// How many bytes a sector has.
+    pub sector_size: u32,
+    /// How many sectors are erased.
+    pub erased: u32,
+    /// How many records the log has.
+    pub records: u32,
+    /// What the live records weigh, in bytes.
+    pub weight: u64,
+    /// The weight below which no change is refused for want of room while two sectors are erased.
+    pub sure: u64,
+}
+
+impl Volume {
+    /// What stands at a path. `Failed`, the path's faults, `NotFound`.
+    pub(crate) fn look(&self, path: &[u8]) -> Result<Sight, Code>
+        ensures { IfErr (looks_blocked self.now.phase) (λ why. result ≡ Err why) }
+    {
+        self.may_look()?;
+        let inode = self.inode_at(path)?;
+        Ok(sight_of(self.core.tree(), inode))
+    }
+
+    /// Copies the bytes of a file from `offset` on, as many as there are and as `buffer` takes, and
+    /// returns how many. `Failed`, the path's faults, `NotFound`, `IsDirectory`.
+    pub(crate) fn read(&self, path: &[u8], offset: u32, buffer: &mut [u8]) -> Result<usize, Code>
+        ensures { IfErr (looks_blocked self.now.phase) (λ why. result ≡ Err why) }
+    {
+        self.may_look()?;
+        let inode = self.inode_at(path)?;
+        let tree = self.core.tree();
+        if tree.is_directory(inode) {
+            return Err(Code::IsDirectory);
+        }
+        Ok(tree.read(inode, offset, buffer))
+    }
+
+    /// What stands in a directory under the name with this number, counted from 0 in the order of
+    /// their bytes, and how long the name is; its bytes go to the start of `buffer`.
+    ///
+    /// `Failed`, the path's faults, `NotFound`, `Nothing` where there are fewer names or this is a
+    /// file, `BufferShort` where the buffer can't take the name, `Memory`.
+    pub(crate) fn entry(
+        &self,
+        path: &[u8],
+        number: u32,
+        buffer: &mut [u8],
+    ) -> Result<(Sight, usize), Code>
+        ensures { IfErr (looks_blocked self.now.phase) (λ why. result ≡ Err why) }
+    {
+        self.may_look()?;
+        let inode = self.inode_at(path)?;
+        let tree = self.core.tree();
+        let Ok(names) = tree.names(inode) else {
+            return Err(Code::Memory);
+        };
+        let Some((name, found)) = names.get(number as usize) else {
+            return Err(Code::Nothing);
+        };
+        match put(name.bytes(), buffer) {
+            Code::Done => Ok((sight_of(tree, *found), name.bytes().len())),
+            code => Err(code),
+        }
+    }
+
+    /// How long things may be. `Failed`.
+    pub(crate) fn longest(&self) -> Result<Longest, Code>
+        ensures { IfErr (looks_blocked self.now.phase) (λ why. result ≡ Err why) }
+    {
+        self.may_look()?;
+        Ok(Longest {
+            write: self.core.limits().data_max,
+            path: PATH_TEXT_MAX,
+            name: NAME_MAX as u32,
+            depth: PATH_DEPTH_MAX as u32,
+            file: FILE_MAX,
+        })
+    }
+
+    /// How full it is. `Failed`.
+    pub(crate) fn usage(&self) -> Result<Usage, Code>
+        ensures { IfErr (looks_blocked self.now.phase) (λ why. result ≡ Err why) }
+    {
+        self.may_look()?;
+        let log = self.core.log();
+        Ok(Usage {
+            sectors: log.sectors(),
+            sector_size: log.sector_size(),
+            erased: log.erased(),
+            records: u32::try_from(log.records().len()).unwrap_or(u32::MAX),
+            weight: log.live_weight(self.core.tree()),
+            sure: self.sure_weight(),
+        })
+    }
+
+    /// Whether cleaning is worth it: the oldest sector isn't the tail, and at most half of the
+    /// sectors are erased. `Failed`.
+    pub(crate) fn wants_cleaning(&self) -> Result<bool, Code>
+        ensures { IfErr (looks_blocked self.now.phase) (λ why. result ≡ Err why) }
+    {
+        self.may_look()?;
+        Ok(self.core.wants_cleaning())
+    }
+
+    /// Whether the log ends with an unmount node, and nothing was programmed after it. `Failed`.
+    pub(crate) fn clean_log(&self) -> Result<bool, Code>
+        ensures { IfErr (looks_blocked self.now.phase) (λ why. result ≡ Err why) }
+    {
+        self.may_look()?;
+        Ok(self.core.clean())
+    }
+
+    fn sure_weight(&self) -> u64 {
+        let log = self.core.log();
+        let of_each = (u64::from(log.sector_size()) * 3 / 4).saturating_sub(HEADER_LEN as u64);
+        u64::from(log.sectors().saturating_sub(4)) * of_each
+    }
+
+    /// The inode at a path. The path's faults, `NotFound`.
+    fn inode_at(&self, path: &[u8]) -> Result<u32, Code> {
+        let path = self.path(path)?;
+        match self.core.tree().resolve(&path) {
+            Some(inode) => Ok(inode),
+            None => Err(Code::NotFound),
+        }
+    }
+}
+
+fn sight_of(tree: &Tree, inode: u32) -> Sight {
+    Sight {
+        directory: tree.is_directory(inode),
+        size: tree.size(inode).unwrap_or(0),
+    }
+}

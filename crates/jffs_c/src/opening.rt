@@ -1,0 +1,107 @@
+//! A volume from the bytes of its medium.
+
+ghost use Rattle.std.specs.Prelude.{◌≡◌, ◌*◌, IfOk, IfSome, length};
+
+use crate::code::Code;
+use crate::volume::{Phase, Volume};
+use jffs_core::Core;
+use jffs_flash::{MemoryFlash, is_geometry};
+use jffs_log::ScanWhy;
+use jffs_node::Why;
+use jffs_queue::HandedFlash;
+use std::alloc::Global;
+
+/// What a refused volume is refused for. All are 0 but for `BadRecord`.
+#[repr(C)]
+#[derive(Clone, Copy, Debug, PartialEq, Eq)]
+pub struct Refusal {
+    /// The sector of the bad record, counted from 0.
+    pub sector: u32,
+    /// Where it begins in the sector, in bytes.
+    pub place: u32,
+    /// The rule that it breaks, from 1: Magic, Kind, Flags, Name, Form, Spare, Size, Pad.
+    pub rule: u32,
+}
+
+/// Why no volume is opened.
+#[derive(Drop)]
+pub(crate) struct Refused {
+    pub code: Code,
+    pub refusal: Refusal,
+}
+
+/// Mounts a copy of these bytes, of sectors of this size.
+///
+/// `Geometry` where no volume has these sizes, then the causes of a scan; `Memory`.
+pub(crate) fn open(alloc: Global, bytes: &[u8], sector_size: u32) -> Result<Box<Volume>, Refused>
+    ensures { IfOk result (λ volume. volume.value.phase ≡ Phase.Ready) }
+{
+    let Some(sectors) = sectors_of(bytes, sector_size) else {
+        return Err(plain(Code::Geometry));
+    };
+    let Ok(bytes) = bytes.to_vec(alloc) else {
+        return Err(plain(Code::Memory));
+    };
+    let medium = MemoryFlash::from_bytes(sectors, sector_size, bytes);
+    match Core::mount(alloc, HandedFlash::new(alloc, medium)) {
+        Ok(core) => match Box::new(alloc, Volume::new(alloc, core)) {
+            Ok(volume) => Ok(volume),
+            Err(_) => Err(plain(Code::Memory)),
+        },
+        Err(fault) => Err(refusal_of(fault.why)),
+    }
+}
+
+/// How many sectors of this size the bytes are; `None` where no volume has these sizes.
+fn sectors_of(bytes: &[u8], sector_size: u32) -> Option<u32>
+    ensures { IfSome result (λ sectors. length bytes.now ≡ sectors * sector_size) }
+{
+    let len = u32::try_from(bytes.len()).ok()?;
+    let sectors = len.checked_div(sector_size)?;
+    let whole = u64::from(sectors) * u64::from(sector_size) == u64::from(len);
+    if whole && is_geometry(sectors, sector_size) {
+        Some(sectors)
+    } else {
+        None
+    }
+}
+
+fn plain(code: Code) -> Refused {
+    Refused {
+        code,
+        refusal: Refusal {
+            sector: 0,
+            place: 0,
+            rule: 0,
+        },
+    }
+}
+
+fn refusal_of(why: ScanWhy) -> Refused {
+    let code = Code::from(why);
+    match why {
+        ScanWhy::BadRecord { sector, place, why } => Refused {
+            code,
+            refusal: Refusal {
+                sector,
+                place,
+                rule: rule_of(why),
+            },
+        },
+        _ => plain(code),
+    }
+}
+
+/// The number of a rule.
+fn rule_of(why: Why) -> u32 {
+    match why {
+        Why::Magic => 1,
+        Why::Kind => 2,
+        Why::Flags => 3,
+        Why::Name => 4,
+        Why::Form => 5,
+        Why::Spare => 6,
+        Why::Size => 7,
+        Why::Pad => 8,
+    }
+}

@@ -1,0 +1,79 @@
+//! A mounted volume, and how far its caller is with the calls of its device.
+
+ghost use Rattle.std.specs.Prelude.{◌≡◌, IfErr, IfSome};
+ghost use Rattle.jffs_c.specs.Blocked.{blocked, looks_blocked};
+
+use crate::code::Code;
+use jffs_core::Core;
+use jffs_queue::HandedFlash;
+use std::alloc::Global;
+
+/// How far a volume is with the calls of its device.
+#[derive(Clone, Copy, Debug, PartialEq, Eq)]
+pub enum Phase {
+    /// None is left.
+    Ready,
+    /// Some are left.
+    Carrying,
+    /// One failed, or memory was refused for one.
+    Failed,
+}
+
+/// A mounted volume whose device's calls its caller carries out.
+#[derive(Drop)]
+pub struct Volume {
+    pub alloc: Global,
+    pub core: Core<HandedFlash>,
+    /// The number of the last request.
+    pub seq: u32,
+    pub phase: Phase,
+}
+
+impl Volume {
+    /// A volume that was just mounted.
+    pub(crate) fn new(alloc: Global, core: Core<HandedFlash>) -> Volume
+        ensures core { result.core ≡ core }
+        ensures ready { result.phase ≡ Phase.Ready }
+    {
+        Volume {
+            alloc,
+            core,
+            seq: 0,
+            phase: Phase::Ready,
+        }
+    }
+
+    /// Whether it may be changed. `CallsLeft`, `Failed`.
+    pub(crate) fn may_change(&self) -> Result<(), Code>
+        ensures { result ≡ blocked self.now.phase }
+    {
+        match self.phase {
+            Phase::Ready => Ok(()),
+            Phase::Carrying => Err(Code::CallsLeft),
+            Phase::Failed => Err(Code::Failed),
+        }
+    }
+
+    /// Whether it may be looked at. `Failed`.
+    pub(crate) fn may_look(&self) -> Result<(), Code>
+        ensures { result ≡ looks_blocked self.now.phase }
+    {
+        match self.phase {
+            Phase::Ready | Phase::Carrying => Ok(()),
+            Phase::Failed => Err(Code::Failed),
+        }
+    }
+
+    /// The phase that the core and its device are in.
+    pub(crate) fn turn(&mut self)
+        ensures { self.new ≡ record self.old { phase = self.new.phase } }
+    {
+        self.phase = if self.core.failed() {
+            Phase::Failed
+        } else if self.core.log().flash().left() > 0 {
+            Phase::Carrying
+        } else {
+            Phase::Ready
+        };
+    }
+}

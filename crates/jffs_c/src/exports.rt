@@ -156,9 +156,9 @@ pub extern "C" fn pg_look(volume: &mut Handle, path: &[u8], sight: &mut Sight) -
     }
 }
 
-/// `pg_longest`: how long things may be.
+/// `pg_longest_of`: how long things may be.
 #[unsafe(no_mangle)]
-pub extern "C" fn pg_longest(volume: &mut Handle, longest: &mut Longest) -> u32
+pub extern "C" fn pg_longest_of(volume: &mut Handle, longest: &mut Longest) -> u32
     ensures held_back { HoldsBackLooks volume.old volume.new result }
 {
     match volume.volume().longest() {
@@ -170,9 +170,9 @@ pub extern "C" fn pg_longest(volume: &mut Handle, longest: &mut Longest) -> u32
     }
 }
 
-/// `pg_usage`: how full the volume is.
+/// `pg_usage_of`: how full the volume is.
 #[unsafe(no_mangle)]
-pub extern "C" fn pg_usage(volume: &mut Handle, usage: &mut Usage) -> u32
+pub extern "C" fn pg_usage_of(volume: &mut Handle, usage: &mut Usage) -> u32
     ensures held_back { HoldsBackLooks volume.old volume.new result }
 {
     match volume.volume().usage() {

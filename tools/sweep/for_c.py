@@ -1,0 +1,206 @@
+"""The library for C: each function of its header under sanitizers and valgrind, each allocation refused in turn, and lists of
+requests whose carrying out stops at each call of the device."""
+import copy
+import hashlib
+import os
+import random
+import shutil
+import subprocess
+import sys
+
+from cases import TOP, commands_of
+from model import Tree
+from second_reader import left
+from runner import HERE
+
+BINDINGS = TOP / "bindings/c"
+WRITER = TOP / "tools/write_volume.py"
+CONTROL = 10
+LISTS = 200
+HOWS = ("none", "half", "all")
+STRICT = ["-std=c11", "-O1", "-g", "-Wall", "-Wextra", "-Werror", "-I", str(BINDINGS)]
+SANITIZED = ["-fsanitize=address,undefined", "-fno-sanitize-recover=all", "-fno-omit-frame-pointer"]
+WRAPPED = ["-Wl,--wrap=malloc,--wrap=realloc"]
+VALGRIND = ["valgrind", "-q", "--error-exitcode=9", "--leak-check=full", "--show-leak-kinds=all"]
+
+
+class Built:
+    """The programs, linked with the library; `missing` says why they can't be made."""
+
+    def __init__(self, runner):
+        self.library = runner.options.built / "crates/jffs_c/out/libjffs_c.a"
+        self.folder, self.missing = runner.folder, None
+        if shutil.which("cc") is None:
+            self.missing = "cc is missing"
+        elif not self.library.exists():
+            self.missing = "the library isn't built: run `rt lib` in crates/jffs_c, or ./test"
+
+    def link(self, name, options=()):
+        """Links a program of this folder; the path, and why it isn't there."""
+        path = self.folder / (name + ("_safe" if options else ""))
+        words = ["cc", *STRICT, *options, str(HERE / f"{name}.c"), str(BINDINGS / "heap.c"), str(self.library),
+                 *(WRAPPED if name == "called" else []), "-o", str(path)]
+        made = subprocess.run(words, capture_output=True, text=True, check=False)
+        return path, made.stderr.strip() or None
+
+
+def for_c(runner):
+    """The part of a sweep."""
+    built = Built(runner)
+    if built.missing:
+        print(f"  left out: {built.missing}")
+        return
+    called, driver = program(runner, built, "called"), program(runner, built, "c_driver")
+    symbols(runner, built)
+    if called is None or driver is None:
+        return
+    call_each(runner, built, called)
+    step = runner.options.thin
+    runner.each(range(0, LISTS, step), lambda seed: Listed(runner, driver, seed).play())
+    runner.tally.tell("calls were stopped at", "lists")
+
+
+def program(runner, built, name):
+    path, why = built.link(name)
+    runner.tally.add(f"cc {name}.c", why)
+    return None if why else path
+
+
+def symbols(runner, built):
+    """Nothing but memory is asked of the C library."""
+    if shutil.which("nm") is None:
+        print("  left out: nm is missing")
+        return
+    seen = subprocess.run(["nm", "-u", str(built.library)], capture_output=True, text=True, check=False).stdout
+    asked = {words[1] for words in map(str.split, seen.splitlines()) if len(words) == 2 and words[0] == "U"}
+    more = asked - {"memcpy", "memmove", "memset", "memcmp", "rattle_alloc", "rattle_realloc", "rattle_dealloc"}
+    runner.tally.add("what the library asks for", f"also {sorted(more)}" if more else None)
+
+
+def call_each(runner, built, called):
+    """Each function, with wrong arguments of each kind, and each allocation refused in turn."""
+    safe, why = built.link("called", SANITIZED)
+    runner.tally.add("cc called.c with sanitizers", why)
+    plain = runner.run([called], limit=60)
+    runner.tally.add("each function", why_wrong(plain))
+    ways = [("plain", [called])] + ([("sanitized", [safe])] if why is None else [])
+    if shutil.which("valgrind"):
+        ways.append(("under valgrind", VALGRIND + [called]))
+        runner.tally.add("each function under valgrind", why_wrong(runner.run(ways[-1][1], limit=300)))
+    else:
+        print("  left out: valgrind is missing")
+    if why is None:
+        runner.tally.add("each function, sanitized", why_wrong(runner.run([safe], limit=120)))
+    if plain.status != 0:
+        return
+    count = int(plain.out.split()[-1])
+    runs = [(way, words, at, on) for way, words in ways for on in (False, True)
+            for at in range(1, count + 1, runner.options.thin * (16 if words[0] == "valgrind" else 1))]
+    runner.each(runs, lambda run: refuse(runner, *run))
+    runner.tally.tell("allocations were refused in turn", "ways")
+
+
+def refuse(runner, way, words, at, on):
+    ran = runner.run([*words, at, *(["on"] if on else [])], limit=120)
+    what = f"allocation {at}{' and all later ones' if on else ''} refused, {way}"
+    runner.tally.add(what, why_wrong(ran))
+
+
+def why_wrong(ran):
+    if ran.status == 0 and ran.out.splitlines()[-1:][:1] and ran.out.splitlines()[-1].startswith("right "):
+        return None
+    return ran.crash() or ran.out + ran.errors
+
+
+class Listed:
+    """A list of requests, and what the library makes of it."""
+
+    def __init__(self, runner, driver, seed):
+        rand = random.Random(f"for c {seed}")
+        self.runner, self.driver, self.name = runner, driver, f"list {seed}"
+        self.sectors, self.size = rand.choice([(6, 1024), (6, 1024), (7, 1024), (6, 2048)])
+        commands = commands_of(rand, "/w1", self.size, rand.choice([6, 12, 18]), seed % 3)
+        for _ in range(3):
+            commands.insert(rand.randrange(len(commands)), rand.choice(["clean_oldest", "erase_dead"]))
+        self.lines = commands + rand.choice([[], ["unmount"]])
+        self.rand = rand
+
+    def drive(self, stop=()):
+        """The answers, the last line's words, and the image that stands then."""
+        image = self.runner.empty_folder() / "image"
+        words = [self.driver, self.sectors, self.size, image, *stop]
+        ran = self.runner.run(words, "\n".join(self.lines) + "\n", limit=60)
+        if ran.status != 0:
+            return None, ran.errors or ran.out, image
+        *answers, last = ran.out.splitlines()
+        return answers, last.split(" "), image
+
+    def play(self):
+        answers, last, image = self.drive()
+        self.runner.tally.add(self.name, last if answers is None else self.judge(answers, image))
+        if answers is None:
+            return
+        self.same_image(answers, image.read_bytes())
+        calls = int(last[1])
+        for at in range(1, calls + 1, self.runner.options.thin):
+            how = HOWS[at % 3] if self.runner.options.thin > 1 else None
+            for part in [how] if how else HOWS:
+                self.stop(at, part)
+        self.runner.tally.count("carrying out", calls)
+
+    def trees(self, answers):
+        """The tree after each line, as the answers and the model have it; or why an answer is wrong."""
+        trees = [Tree(self.size)]
+        for line, answer in zip(self.lines, answers):
+            tree, words = copy.deepcopy(trees[-1]), line.split(" ")
+            if words[0] not in ("clean_oldest", "erase_dead", "unmount"):
+                cause = tree.cause(words)
+                if answer != (cause or "Done") and not (cause is None and answer == "NoSpace"):
+                    return None, f"{line}: {answer}, wanted {cause or 'Done'}"
+                if answer == "Done":
+                    tree.grant(words)
+            trees.append(tree)
+        return trees, None
+
+    def judge(self, answers, image):
+        trees, why = self.trees(answers)
+        found = left(image, self.sectors, self.size)
+        if why or found is None:
+            return why or "no volume is left"
+        wanted = trees[-1].dump()
+        return None if found[1] == wanted else f"left {found[1]}, wanted {wanted}"
+
+    def stop(self, at, how):
+        """Carrying out stops at this call; one of two trees is left."""
+        answers, last, image = self.drive([at, how])
+        what = f"{self.name}, {how} of call {at}"
+        if answers is None:
+            self.runner.tally.add(what, last)
+            return
+        trees, why = self.trees(answers)
+        found = left(image, self.sectors, self.size)
+        if why is None and found is None:
+            why = "no volume is left"
+        if why is None and found[1] not in (trees[-2].dump(), trees[-1].dump()):
+            why = f"left {found[1]}, wanted {trees[-2].dump()} or {trees[-1].dump()}"
+        self.runner.tally.add(what, why)
+
+    def same_image(self, answers, image):
+        """The same requests leave the same bytes by another program."""
+        lines, number = [f"flash {self.sectors} {self.size}", "mount"], 0
+        for line in self.lines:
+            if line in ("clean_oldest", "erase_dead"):
+                lines.append(line)
+                continue
+            number += 1
+            lines.append(f"request {CONTROL if line == 'unmount' else 1} {number} {line}")
+        replay = self.runner.options.built / "crates/jffs_replay/out/jffs_replay"
+        if os.access(replay, os.X_OK):
+            ran = self.runner.run([replay], "\n".join(lines + ["image"]) + "\n", limit=60)
+            same = ran.out.splitlines()[-1:] == [hashlib.sha256(image).hexdigest()]
+            self.runner.tally.add(f"{self.name}, by jffs_replay", None if same else "the images differ")
+        if "NoSpace" not in answers:
+            ran = subprocess.run([sys.executable, str(WRITER)], input="\n".join(lines).encode() + b"\n",
+                                 capture_output=True, check=False)
+            why = None if ran.stdout == image else f"the images differ: {ran.stderr.decode()}"
+            self.runner.tally.add(f"{self.name}, by write_volume.py", why)

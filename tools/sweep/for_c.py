@@ -10,14 +10,14 @@ import sys
 
 from cases import TOP, commands_of
 from model import Tree
-from second_reader import left
+from read_volume import Refused, show
 from runner import HERE
 
 BINDINGS = TOP / "bindings/c"
 WRITER = TOP / "tools/write_volume.py"
 CONTROL = 10
 LISTS = 200
-HOWS = ("none", "half", "all")
+HOWS = ("none", "half")
 STRICT = ["-std=c11", "-O1", "-g", "-Wall", "-Wextra", "-Werror", "-I", str(BINDINGS)]
 SANITIZED = ["-fsanitize=address,undefined", "-fno-sanitize-recover=all", "-fno-omit-frame-pointer"]
 WRAPPED = ["-Wl,--wrap=malloc,--wrap=realloc"]
@@ -97,11 +97,12 @@ def call_each(runner, built, called):
     runs = [(way, words, at, on) for way, words in ways for on in (False, True)
             for at in range(1, count + 1, runner.options.thin * (16 if words[0] == "valgrind" else 1))]
     runner.each(runs, lambda run: refuse(runner, *run))
-    runner.tally.tell("allocations were refused in turn", "ways")
+    runner.tally.tell("allocations were refused, one", "runs")
 
 
 def refuse(runner, way, words, at, on):
     ran = runner.run([*words, at, *(["on"] if on else [])], limit=120)
+    runner.tally.count(way, 1)
     what = f"allocation {at}{' and all later ones' if on else ''} refused, {way}"
     runner.tally.add(what, why_wrong(ran))
 
@@ -110,6 +111,14 @@ def why_wrong(ran):
     if ran.status == 0 and ran.out.splitlines()[-1:][:1] and ran.out.splitlines()[-1].startswith("right "):
         return None
     return ran.crash() or ran.out + ran.errors
+
+
+def left(image, sectors, size):
+    """The lines of directories and files that the second reader finds; None where it finds no volume."""
+    try:
+        return [line for line in show(image.read_bytes(), sectors, size) if line[:2] in ("d ", "f ")]
+    except Refused:
+        return None
 
 
 class Listed:
@@ -142,10 +151,9 @@ class Listed:
             return
         self.same_image(answers, image.read_bytes())
         calls = int(last[1])
-        for at in range(1, calls + 1, self.runner.options.thin):
-            how = HOWS[at % 3] if self.runner.options.thin > 1 else None
-            for part in [how] if how else HOWS:
-                self.stop(at, part)
+        for at in range(1, calls + 1):
+            for how in HOWS:
+                self.stop(at, how)
         self.runner.tally.count("carrying out", calls)
 
     def trees(self, answers):
@@ -168,7 +176,7 @@ class Listed:
         if why or found is None:
             return why or "no volume is left"
         wanted = trees[-1].dump()
-        return None if found[1] == wanted else f"left {found[1]}, wanted {wanted}"
+        return None if found == wanted else f"left {found}, wanted {wanted}"
 
     def stop(self, at, how):
         """Carrying out stops at this call; one of two trees is left."""
@@ -181,8 +189,8 @@ class Listed:
         found = left(image, self.sectors, self.size)
         if why is None and found is None:
             why = "no volume is left"
-        if why is None and found[1] not in (trees[-2].dump(), trees[-1].dump()):
-            why = f"left {found[1]}, wanted {trees[-2].dump()} or {trees[-1].dump()}"
+        if why is None and found not in (trees[-2].dump(), trees[-1].dump()):
+            why = f"left {found}, wanted {trees[-2].dump()} or {trees[-1].dump()}"
         self.runner.tally.add(what, why)
 
     def same_image(self, answers, image):

@@ -1,8 +1,9 @@
 // Plays a list of requests on a volume in memory by the library for C, and carries out its calls of the device:
 //     c_driver SECTORS SECTOR_SIZE IMAGE [STOP HOW] < LINES
-// IMAGE is made of erased bytes if it isn't there, and holds the medium at the end. With STOP the call of that number, from
-// 1, is not carried out but HOW much of it: none, half or all; then the call is said to have failed. Each line is answered
-// by the name of its code; at the end stands how many calls there were, and how many lines were answered.
+// IMAGE is made of erased bytes if it isn't there, and holds the medium at the end. With STOP the call of that
+// number, from 1, is not carried out but HOW much of it: none, half or all; then the call is said to have failed.
+// Each line is answered by the name of its code; at the end stands how many calls there were, and how many lines were
+// answered.
 #include <stdio.h>
 #include <stdlib.h>
 #include <string.h>

@@ -1,7 +1,7 @@
-// Calls each function of the library for C, the plain way and with wrong arguments of each kind, on a volume of 6 sectors of
-// 1024 bytes. Each answer is compared with the one that pumpgrape.h and docs/SCRIPT.md have for it. It is linked with
-// --wrap=malloc and --wrap=realloc. With AT the call of that number of these two is refused, with `on` each later one too: then
-// it goes on, and takes the answers that follow from a refusal for right too.
+// Calls each function of the library for C, the plain way and with wrong arguments of each kind, on a volume of 6
+// sectors of 1024 bytes. Each answer is compared with the one that pumpgrape.h and docs/SCRIPT.md have for it. It is
+// linked with --wrap=malloc and --wrap=realloc. With AT the call of that number of these two is refused, with `on`
+// each later one too: then it goes on, and takes the answers that follow from a refusal for right too.
 //     called [AT [on]]
 #include <stdio.h>
 #include <stdlib.h>

@@ -2,3 +2,4 @@ pub mod Codes
 pub mod Handle
 pub mod Blocked
 pub mod Exports
+pub mod Asked

@@ -1,7 +1,9 @@
 //! Changes of a volume.
 
-ghost use Rattle.std.specs.Prelude.{◌≡◌, IfOk, IfErr, Err};
+ghost use Rattle.std.specs.Prelude.{◌≡◌, ◌≢◌, IfOk, IfErr, Ok, Err};
+ghost use Rattle.jffs_node.specs.Path.{path_of};
 ghost use Rattle.jffs_c.specs.Blocked.{blocked, IsHeldBack};
+ghost use Rattle.jffs_c.specs.Asked.{code_of, Asks, AsksAt};
 
 use crate::code::Code;
 use crate::volume::Volume;
@@ -17,6 +19,8 @@ impl Volume {
     /// Makes a file without bytes. The causes of the core, and those of the path.
     pub(crate) fn create(&mut self, path: &[u8]) -> Code
         ensures held_back { IsHeldBack self.old self.new result }
+        ensures asked { blocked self.old.phase ≡ Ok tt
+            → AsksAt path.now Wish.Create self.old self.new result }
     {
         match self.path_to_change(path) {
             Ok(path) => self.ask(WRITER, Wish::Create(path)),
@@ -27,6 +31,8 @@ impl Volume {
     /// Makes a directory without names.
     pub(crate) fn make_dir(&mut self, path: &[u8]) -> Code
         ensures held_back { IsHeldBack self.old self.new result }
+        ensures asked { blocked self.old.phase ≡ Ok tt
+            → AsksAt path.now Wish.MakeDir self.old self.new result }
     {
         match self.path_to_change(path) {
             Ok(path) => self.ask(WRITER, Wish::MakeDir(path)),
@@ -37,6 +43,8 @@ impl Volume {
     /// Removes a file, or a directory without names.
     pub(crate) fn remove(&mut self, path: &[u8]) -> Code
         ensures held_back { IsHeldBack self.old self.new result }
+        ensures asked { blocked self.old.phase ≡ Ok tt
+            → AsksAt path.now Wish.Remove self.old self.new result }
     {
         match self.path_to_change(path) {
             Ok(path) => self.ask(WRITER, Wish::Remove(path)),
@@ -47,6 +55,8 @@ impl Volume {
     /// Writes bytes into a file from `offset` on.
     pub(crate) fn write(&mut self, path: &[u8], offset: u32, bytes: &[u8]) -> Code
         ensures held_back { IsHeldBack self.old self.new result }
+        ensures asked { blocked self.old.phase ≡ Ok tt
+            → AsksAt path.now (λ p. Wish.Write p offset bytes.now) self.old self.new result }
     {
         let path = match self.path_to_change(path) {
             Ok(path) => path,
@@ -68,6 +78,8 @@ impl Volume {
     /// Cuts a file to `size` bytes, or fills it up with zeros.
     pub(crate) fn truncate(&mut self, path: &[u8], size: u32) -> Code
         ensures held_back { IsHeldBack self.old self.new result }
+        ensures asked { blocked self.old.phase ≡ Ok tt
+            → AsksAt path.now (λ p. Wish.Truncate p size) self.old self.new result }
     {
         match self.path_to_change(path) {
             Ok(path) => self.ask(WRITER, Wish::Truncate { path, size }),
@@ -92,6 +104,8 @@ impl Volume {
     /// Unmounts: the log ends with an unmount node.
     pub(crate) fn unmount(&mut self) -> Code
         ensures held_back { IsHeldBack self.old self.new result }
+        ensures asked { blocked self.old.phase ≡ Ok tt
+            → Asks Wish.Unmount self.old self.new result }
     {
         self.ask(CONTROL, Wish::Unmount)
     }
@@ -128,9 +142,11 @@ impl Volume {
         }
     }
 
-    /// Has the core answer a request.
+    /// Has the core answer a request. `Memory` where there is none for its answer.
     fn ask(&mut self, writer: u16, wish: Wish) -> Code
         ensures held_back { IsHeldBack self.old self.new result }
+        ensures asked { blocked self.old.phase ≡ Ok tt
+            → Asks wish self.old self.new result }
     {
         if let Err(code) = self.may_change() {
             return code;
@@ -142,22 +158,24 @@ impl Volume {
         let seq = self.seq;
         let outcome = self.core.answer(Request { writer, seq, wish });
         self.turn();
-        match outcome {
-            Outcome::Refused(cause) => Code::from(cause),
-            _ => Code::Done,
-        }
+        answer_of(outcome)
     }
 
     /// The path of a change, where one may be. `CallsLeft`, `Failed`, and then the path's faults.
     fn path_to_change(&self, bytes: &[u8]) -> Result<Path, Code>
-        ensures { IfErr (blocked self.now.phase) (λ why. result ≡ Err why) }
+        ensures held_back { IfErr (blocked self.now.phase) (λ why. result ≡ Err why) }
+        ensures path { IfOk result (λ path. path_of bytes.now ≡ Ok path) }
+        ensures refused { IfErr result (λ code. code ≢ Code.Done) }
     {
         self.may_change()?;
         self.path(bytes)
     }
 
     /// The path that bytes spell, or why they spell none.
-    pub(crate) fn path(&self, bytes: &[u8]) -> Result<Path, Code> {
+    pub(crate) fn path(&self, bytes: &[u8]) -> Result<Path, Code>
+        ensures path { IfOk result (λ path. path_of bytes.now ≡ Ok path) }
+        ensures refused { IfErr result (λ code. code ≢ Code.Done) }
+    {
         let Ok(text) = std::str::from_utf8(bytes) else {
             return Err(Code::PathNameByte);
         };
@@ -165,5 +183,15 @@ impl Volume {
             Ok(path) => Ok(path),
             Err(fault) => Err(Code::from(fault)),
         }
+    }
+}
+
+/// The code of an outcome.
+fn answer_of(outcome: Outcome) -> Code
+    ensures { result ≡ code_of outcome }
+{
+    match outcome {
+        Outcome::Refused(cause) => Code::from(cause),
+        _ => Code::Done,
     }
 }

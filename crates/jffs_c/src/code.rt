@@ -128,6 +128,10 @@ impl Code {
 }
 
 impl From<Cause> for Code {
+    ghost use Rattle.jffs_c.specs.Asked.{code_of_cause};
+
+    ghost from_gives = { λ cause code. code ≡ code_of_cause cause };
+
     fn from(cause: Cause) -> Code {
         match cause {
             Cause::RootFixed => Code::RootFixed,
@@ -151,6 +155,11 @@ impl From<Cause> for Code {
 }
 
 impl From<PathFault> for Code {
+    ghost use Rattle.std.specs.Prelude.{◌≢◌};
+    ghost use Rattle.jffs_c.specs.declared.code.Code.TheVariants.{Done};
+
+    ghost from_gives = { λ _ code. code ≢ Done };
+
     fn from(fault: PathFault) -> Code {
         match fault {
             PathFault::NoSlash => Code::PathNoSlash,

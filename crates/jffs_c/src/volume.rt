@@ -66,7 +66,8 @@ impl Volume {
 
     /// The phase that the core and its device are in.
     pub(crate) fn turn(&mut self)
-        ensures { self.new ≡ record self.old { phase = self.new.phase } }
+        ensures rest { self.new ≡ record self.old { phase = self.new.phase } }
+        ensures core { self.new.core ≡ self.old.core }
     {
         self.phase = if self.core.failed() {
             Phase::Failed

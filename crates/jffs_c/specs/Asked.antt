@@ -1,0 +1,73 @@
+-- What a change comes to that may be.
+use Rattle.std.specs.Prelude.{◌≡◌, ◌≢◌, ◌⊎◌, List, ℕ, Ok}
+use Rattle.jffs_node.specs.declared.node.Node.{Node}
+use Rattle.jffs_node.specs.Path.{path_of}
+use Rattle.jffs_tree.specs.declared.wish.Wish.{Wish}
+use Rattle.jffs_tree.specs.declared.wish.Cause.{Cause}
+use Rattle.jffs_tree.specs.declared.wish.Cause.TheVariants as cause
+use Rattle.jffs_tree.specs.declared.wish.Outcome.{Outcome}
+use Rattle.jffs_tree.specs.declared.wish.Outcome.TheVariants as outcome
+use Rattle.jffs_line.specs.declared.request.Request.{Request}
+use Rattle.jffs_core.specs.CoreState.{CoreState, IsSameButCapacity}
+use Rattle.jffs_core.specs.Answering.{AddsAnswer, Answers}
+use Rattle.jffs_core.specs.Past.{Represents}
+use Rattle.jffs_c.specs.declared.code.Code.{Code}
+use Rattle.jffs_c.specs.declared.code.Code.TheVariants as code
+use Rattle.jffs_c.specs.declared.volume.Volume.{Volume}
+
+-- the code of a cause
+abbrev pub code_of_cause : Cause → Code
+code_of_cause cause.RootFixed = code.RootFixed
+code_of_cause cause.NoParent = code.NoParent
+code_of_cause cause.NameTaken = code.NameTaken
+code_of_cause cause.NotFound = code.NotFound
+code_of_cause cause.IsDirectory = code.IsDirectory
+code_of_cause cause.DataLong = code.DataLong
+code_of_cause cause.FileLong = code.FileLong
+code_of_cause cause.NotEmpty = code.NotEmpty
+code_of_cause cause.NotNeeded = code.NotNeeded
+code_of_cause cause.Stale = code.Stale
+code_of_cause cause.InodesSpent = code.InodesSpent
+code_of_cause cause.VersionsSpent = code.VersionsSpent
+code_of_cause cause.Memory = code.Memory
+code_of_cause cause.NoSpace = code.NoSpace
+code_of_cause cause.Device = code.Device
+code_of_cause cause.Failed = code.Failed
+
+-- the code of an outcome
+abbrev pub code_of : Outcome → Code
+code_of (outcome.Appended inode version) = code.Done
+code_of (outcome.Copied version) = code.Done
+code_of outcome.Closed = code.Done
+code_of (outcome.Refused why) = code_of_cause why
+
+-- A request with this wish was put to the core, which kept this outcome as its answer: a lawful
+-- step from the history before it.
+pub record IsAnswered (wish : Wish) (outcome : Outcome) (old new : CoreState) : Type 0 where
+  pub request : Request
+  pub wish_is : request.wish ≡ wish
+  pub reserved : CoreState
+  pub room : IsSameButCapacity old reserved
+  pub kept : AddsAnswer request.writer request.seq outcome reserved new
+  pub step : (mounted past : List Node) → Represents mounted past reserved
+      → Answers mounted past reserved new request outcome
+
+-- nothing was asked, and nothing is changed
+abbrev pub IsUnasked : Volume → Volume → Code → Type 0
+IsUnasked old new answer = (answer ≢ code.Done) × IsSameButCapacity old.core new.core
+
+-- the core was asked, and the answer is the code of what it answered
+pub record IsAsked (wish : Wish) (old new : Volume) (answer : Code) : Type 0 where
+  pub outcome : Outcome
+  pub told : answer ≡ code_of outcome
+  pub answered : IsAnswered wish outcome old.core new.core
+
+-- the core was asked this, or nothing was
+abbrev pub Asks : Wish → Volume → Volume → Code → Type 0
+Asks wish old new answer = IsUnasked old new answer ⊎ IsAsked wish old new answer
+
+-- the core was asked a wish of the path that these bytes spell, or nothing was asked
+abbrev pub AsksAt : List ℕ → (List (List ℕ) → Wish) → Volume → Volume → Code → Type 0
+AsksAt bytes wish old new answer =
+    IsUnasked old new answer
+    ⊎ ((path : List (List ℕ)) × (path_of bytes ≡ Ok path) × IsAsked (wish path) old new answer)

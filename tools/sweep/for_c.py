@@ -1,5 +1,5 @@
-"""The library for C: each function of its header under sanitizers and valgrind, each allocation refused in turn, and lists of
-requests whose carrying out stops at each call of the device."""
+"""The library for C: each function of its header under sanitizers and valgrind, each allocation refused in turn, and
+lists of requests whose carrying out stops at each call of the device."""
 import copy
 import hashlib
 import os

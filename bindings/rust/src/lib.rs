@@ -1,5 +1,5 @@
-//! A volume of JFFS version 1 on any flash. What is decided and written is decided by the proved library `libjffs_c.a`; this
-//! crate carries out its calls on a [`Device`], and isn't proved.
+//! A volume of JFFS version 1 on any flash. What is written is decided by the proved library `libjffs_c.a`; this crate
+//! carries out its calls on a [`Device`], and isn't proved.
 //!
 //! ```
 //! use pumpgrape::{Device, Volume};

@@ -73,6 +73,7 @@ impl Volume {
     /// where no call is left.
     pub(crate) fn call_failed(&mut self) -> Code
         ensures core { self.new.core ≡ self.old.core }
+        ensures kept { self.old.phase ≡ Phase.Carrying → self.new.phase ≡ Phase.Failed }
         ensures failed { IfErr (looks_blocked self.old.phase)
             (λ why. (result ≡ why) × (self.new ≡ self.old)) }
     {

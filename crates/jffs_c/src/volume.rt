@@ -58,10 +58,10 @@ impl Volume {
     pub(crate) fn may_look(&self) -> Result<(), Code>
         ensures { result ≡ looks_blocked self.now.phase }
     {
-        match self.phase {
-            Phase::Ready | Phase::Carrying => Ok(()),
-            Phase::Failed => Err(Code::Failed),
+        if self.phase == Phase::Failed {
+            return Err(Code::Failed);
         }
+        Ok(())
     }
 
     /// The phase that the core and its device are in.

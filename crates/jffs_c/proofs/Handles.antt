@@ -14,7 +14,7 @@ use denote.RawPtr.{Ptr, block_ptr, null_ptr, ptr_val, in_a_block}
 use denote.Steps.{nothing}
 use denote.Struct.Struct.{within}
 use denote.Struct.Owning.{shape}
-use Rattle.libc.specs.Heap.{chunk}
+use Rattle.jffs_c.specs.Heap.{chunk}
 use Rattle.std_alloc.specs.Box.Ownership.{box_owns}
 use Rattle.jffs_c.specs.contracts.handle.Handle as handle
 use Rattle.jffs_c.specs.contracts.volume.Volume as volume

@@ -3,3 +3,4 @@ pub mod Handle
 pub mod Blocked
 pub mod Exports
 pub mod Asked
+pub mod Heap

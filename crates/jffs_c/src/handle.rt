@@ -15,7 +15,7 @@ pub struct Handle {
 impl Model for Handle {
     ghost use Rattle.jffs_c.specs.contracts.volume.Volume.{the_row};
     ghost use Rattle.std_alloc.specs.Box.Ownership.{box_owns};
-    ghost use Rattle.libc.specs.Heap.{chunk};
+    ghost use Rattle.jffs_c.specs.Heap.{chunk};
 
     // the block of a box with the volume in it
     ghost also_owns = { λ h. box_owns chunk the_row h.at h.value };

@@ -23,7 +23,7 @@ use denote.Follow.{Part, lends_Part}
 use denote.Triple.Walked.{Stays, walk_of, says, stay_dropped, Goes-spent_ref, ends_at}
 use Rattle.std.proofs.raw_atomic.Walks.{proved}
 use Rattle.std.proofs.VecSteps.Shapes.{after}
-use Rattle.libc.specs.Heap.{chunk}
+use Rattle.jffs_c.specs.Heap.{chunk}
 use Rattle.jffs_c.specs.Handle.{with_value, handle_follows}
 use Rattle.jffs_c.proofs.Handles.{R, X, word, handle_out, handle_in}
 use Rattle.jffs_c.specs.contracts.handle.Handle.volume as f

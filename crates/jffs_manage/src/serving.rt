@@ -138,8 +138,7 @@ impl<F: Flash + SyncFlash> Served<F> {
     {
         match self.session.finish() {
             Ok(()) => self.sync(Said::Last),
-            Err(VolumeFault::Memory) => self.fail(Failure::Memory, VolumeFault::Memory),
-            Err(fault) => self.fail(Failure::Device, fault),
+            Err(fault) => self.fail(why_left(fault), fault),
         }
     }
 
@@ -150,6 +149,14 @@ impl<F: Flash + SyncFlash> Served<F> {
     {
         self.fault = Some(fault);
         Said::Failed(why)
+    }
+}
+
+/// Why an unmount that ended so left the log without its node.
+fn why_left(fault: VolumeFault) -> Failure {
+    match fault {
+        VolumeFault::Memory | VolumeFault::Refused(Cause::Memory) => Failure::Memory,
+        _ => Failure::Device,
     }
 }
 

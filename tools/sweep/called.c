@@ -220,7 +220,10 @@ static void phases(void) {
     expect(pg_next_call(&volume, &call, buffer, sizeof buffer), PG_NOTHING, "pg_next_call");
     expect(pg_carried_out(&volume), PG_NOTHING, "pg_carried_out");
     expect(pg_call_failed(&volume), PG_NOTHING, "pg_call_failed");
-    expect(pg_create(&volume, PATH("/left")), PG_DONE, "pg_create");
+    uint32_t made = pg_create(&volume, PATH("/left"));
+    expect(made, PG_DONE, "pg_create");
+    if (made != PG_DONE) // refused for memory, so that no call is left
+        return pg_close(volume);
     holds(pg_calls_left(&volume) == 2, "the record and its gate");
     expect(pg_next_call(&volume, &call, buffer, 0), PG_BUFFER_SHORT, "pg_next_call");
     holds(!call.erase && call.len == 64, "how long the record is");

@@ -221,6 +221,9 @@ def has_valgrind(runner):
 
 def cost(runner, names=()):
     """The part of the sweep."""
+    if not stored():
+        print("  left out: no counts are stored yet, which `bench/count --store` does", flush=True)
+        return
     if not has_valgrind(runner):
         return
     chosen = chosen_of(names)

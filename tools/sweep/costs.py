@@ -158,9 +158,8 @@ def part_of(now, was):
     return f"{100 * (now - was) / was:+.2f} %" if was else f"{now - was:+d}"
 
 
-def compare(tally, subject, now):
-    """Counts a failure for each rise beyond its margin; a fall beyond it is told of."""
-    found = stored().get(subject.name)
+def compare(tally, subject, now, found):
+    """Counts a failure for each rise beyond its margin; a fall beyond it is told of. `found` is what is stored."""
     if found is None:
         tally.add(subject.name, f"nothing is stored: bench/count --store {subject.name}")
         return
@@ -221,7 +220,8 @@ def has_valgrind(runner):
 
 def cost(runner, names=()):
     """The part of the sweep."""
-    if not stored():
+    known = stored()
+    if not known:
         print("  left out: no counts are stored yet, which `bench/count --store` does", flush=True)
         return
     if not has_valgrind(runner):
@@ -230,7 +230,7 @@ def cost(runner, names=()):
     counts = {name: found[0] for name, found in count_all(runner, chosen).items()}
     for subject in chosen:
         if subject.name in counts:
-            compare(runner.tally, subject, counts[subject.name])
+            compare(runner.tally, subject, counts[subject.name], known.get(subject.name))
     judge_orders(runner.tally, counts)
 
 

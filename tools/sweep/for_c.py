@@ -10,8 +10,8 @@ import sys
 
 from cases import TOP, commands_of
 from model import Tree
-from read_volume import Refused, show
 from runner import HERE
+from second_reader import left
 
 BINDINGS = TOP / "bindings/c"
 WRITER = TOP / "tools/write_volume.py"
@@ -113,14 +113,6 @@ def why_wrong(ran):
     return ran.crash() or ran.out + ran.errors
 
 
-def left(image, sectors, size):
-    """The lines of directories and files that the second reader finds; None where it finds no volume."""
-    try:
-        return [line for line in show(image.read_bytes(), sectors, size) if line[:2] in ("d ", "f ")]
-    except Refused:
-        return None
-
-
 class Listed:
     """A list of requests, and what the library makes of it."""
 
@@ -146,7 +138,7 @@ class Listed:
 
     def play(self):
         answers, last, image = self.drive()
-        self.runner.tally.add(self.name, last if answers is None else self.judge(answers, image))
+        self.runner.tally.add(self.name, last if answers is None else self.judge(answers, image, 1))
         if answers is None:
             return
         self.same_image(answers, image.read_bytes())
@@ -170,28 +162,20 @@ class Listed:
             trees.append(tree)
         return trees, None
 
-    def judge(self, answers, image):
+    def judge(self, answers, image, last):
+        """Why an answer is wrong, or the tree that is left, which has to be one of so many last ones; or None."""
         trees, why = self.trees(answers)
         found = left(image, self.sectors, self.size)
         if why or found is None:
             return why or "no volume is left"
-        wanted = trees[-1].dump()
-        return None if found == wanted else f"left {found}, wanted {wanted}"
+        wanted = [tree.dump() for tree in trees[-last:]]
+        return None if found[1] in wanted else f"left {found[1]}, wanted {' or '.join(map(str, wanted))}"
 
     def stop(self, at, how):
         """Carrying out stops at this call; one of two trees is left."""
         answers, last, image = self.drive([at, how])
-        what = f"{self.name}, {how} of call {at}"
-        if answers is None:
-            self.runner.tally.add(what, last)
-            return
-        trees, why = self.trees(answers)
-        found = left(image, self.sectors, self.size)
-        if why is None and found is None:
-            why = "no volume is left"
-        if why is None and found not in (trees[-2].dump(), trees[-1].dump()):
-            why = f"left {found}, wanted {trees[-2].dump()} or {trees[-1].dump()}"
-        self.runner.tally.add(what, why)
+        self.runner.tally.add(f"{self.name}, {how} of call {at}",
+                              last if answers is None else self.judge(answers, image, 2))
 
     def same_image(self, answers, image):
         """The same requests leave the same bytes by another program."""

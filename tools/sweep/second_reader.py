@@ -1,19 +1,17 @@
 """What the second reader, tools/read_volume.py, finds in a volume's file."""
-import subprocess
-import sys
-
-from cases import TOP
-
-READER = TOP / "tools/read_volume.py"
+from read_volume import Refused, show
 
 
 def left(image, sectors, size):
     """The first line, and the lines of directories and files; None where it finds no volume."""
-    with image.open("rb") as given:
-        seen = subprocess.run([sys.executable, str(READER), str(sectors), str(size)], stdin=given, capture_output=True,
-                              text=True, check=False)
-    lines = seen.stdout.splitlines()
-    return None if seen.returncode else (lines[0], [line for line in lines if line[:2] in ("d ", "f ")])
+    given = image.read_bytes()
+    if len(given) != sectors * size:
+        return None
+    try:
+        lines = list(show(given, sectors, size))
+    except Refused:
+        return None
+    return lines[0], [line for line in lines if line[:2] in ("d ", "f ")]
 
 
 def contents(lines):

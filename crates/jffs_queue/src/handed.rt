@@ -1,10 +1,6 @@
 //! Queued flash behind a `&`.
 
-ghost use Rattle.std.specs.Prelude.{◌≡◌, ◌+◌, ◌<◌, ◌≤◌, length, OnOk};
-ghost use Rattle.jffs_flash.specs.Image.{window};
-ghost use Rattle.jffs_flash.specs.Device.{Reads, Programs, Erases};
-ghost use Rattle.jffs_flash.specs.ReadsLeft.{TakesReads};
-ghost use Rattle.jffs_flash.specs.Wear.{Wears, uncounted, no_erase, one_erase};
+ghost use Rattle.std.specs.Prelude.{◌≡◌};
 ghost use Rattle.jffs_queue.specs.Queue.{seen_device};
 
 use crate::call::Call;
@@ -52,7 +48,7 @@ impl HandedFlash {
     }
 
     /// Lets the calls go that have been carried out.
-    fn settle(&mut self)
+    fn let_go(&mut self)
         ensures { seen_device self.new.queue ≡ seen_device self.old.queue }
     {
         for _ in 0..self.done.replace(0) {
@@ -77,17 +73,17 @@ impl Flash for HandedFlash {
     }
 
     fn read(&mut self, at: u32, buffer: &mut [u8]) -> Result<(), FlashFault> {
-        self.settle();
+        self.let_go();
         self.queue.read(at, buffer)
     }
 
     fn program(&mut self, at: u32, bytes: &[u8]) -> Result<(), FlashFault> {
-        self.settle();
+        self.let_go();
         self.queue.program(at, bytes)
     }
 
     fn erase(&mut self, sector: u32) -> Result<(), FlashFault> {
-        self.settle();
+        self.let_go();
         self.queue.erase(sector)
     }
 }

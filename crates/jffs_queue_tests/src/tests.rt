@@ -4,7 +4,7 @@
 ghost use Rattle.std.specs.Prelude.{◌≡◌, ◌+◌, ◌≤◌, ◌↔◌, length, IsTrue};
 
 use jffs_flash::{Flash, FlashFault, MemoryFlash};
-use jffs_queue::{Call, QueuedFlash};
+use jffs_queue::{Call, HandedFlash, QueuedFlash};
 use std::process::Abort;
 use std::test::Fail as TestFail;
 
@@ -69,6 +69,19 @@ fn carry_out_first(
     Ok(())
 }
 
+/// Carries out the next call that a device hands over, and says so.
+fn carry_out_next(
+    rt: &impl Abort,
+    flash: &HandedFlash,
+    medium: &mut MemoryFlash,
+) -> Result<(), FlashFault> {
+    if let Some(call) = flash.next() {
+        carry_out(rt, call, medium)?;
+    }
+    flash.carried_out();
+    Ok(())
+}
+
 /// Whether a program of these bytes waits there.
 fn is_program(call: Option<&Call>, from: u32, what: &[u8]) -> bool {
     match call {
@@ -106,6 +119,33 @@ fn each_change_waits_as_one_call(rt: HostRuntime) -> Result<(), TestFail> {
     assert_eq!(&rt; buffer, [0xff, 0x0f, 0xf0, 0x3c]);
     read(&rt, &mut flash, 1021, &mut buffer)?;
     assert_eq!(&rt; buffer, [0xff, 0x03, 0xf0, 0xff]);
+    Ok(())
+}
+
+#[test]
+fn what_was_carried_out_is_handed_over_no_more(rt: HostRuntime) -> Result<(), TestFail> {
+    let alloc = rt.alloc();
+    let mut flash = HandedFlash::new(alloc, MemoryFlash::new(alloc, 6, 1024)?);
+    let mut medium = MemoryFlash::new(alloc, 6, 1024)?;
+    program(&rt, &mut flash, 1022, &[0x0f, 0xf0])?;
+    erase(&rt, &mut flash, 4)?;
+    assert!(&rt; is_program(flash.next(), 1022, &[0x0f, 0xf0]));
+    carry_out_next(&rt, &flash, &mut medium)?;
+    assert_eq!(&rt; flash.left(), 1);
+    assert!(&rt; is_erase(flash.next(), 4));
+    program(&rt, &mut flash, 5, &[0x3c])?;
+    assert_eq!(&rt; flash.left(), 2);
+    carry_out_next(&rt, &flash, &mut medium)?;
+    assert!(&rt; is_program(flash.next(), 5, &[0x3c]));
+    carry_out_next(&rt, &flash, &mut medium)?;
+    assert!(&rt; flash.next().is_none());
+    flash.carried_out();
+    assert_eq!(&rt; flash.left(), 0);
+    let mut buffer = [0; 2];
+    read(&rt, &mut medium, 1022, &mut buffer)?;
+    assert_eq!(&rt; buffer, [0x0f, 0xf0]);
+    read(&rt, &mut flash, 5, &mut buffer)?;
+    assert_eq!(&rt; buffer, [0x3c, 0xff]);
     Ok(())
 }
 

@@ -71,3 +71,11 @@ abbrev pub AsksAt : List ℕ → (List (List ℕ) → Wish) → Volume → Volum
 AsksAt bytes wish old new answer =
     IsUnasked old new answer
     ⊎ ((path : List (List ℕ)) × (path_of bytes ≡ Ok path) × IsAsked (wish path) old new answer)
+
+-- the core was asked a wish of the two paths that these bytes spell, or nothing was asked
+abbrev pub AsksBetween : List ℕ → List ℕ → (List (List ℕ) → List (List ℕ) → Wish) → Volume → Volume
+    → Code → Type 0
+AsksBetween from to wish old new answer =
+    IsUnasked old new answer
+    ⊎ ((source target : List (List ℕ)) × (path_of from ≡ Ok source) × (path_of to ≡ Ok target)
+    × IsAsked (wish source target) old new answer)

@@ -4,3 +4,6 @@ pub mod Blocked
 pub mod Exports
 pub mod Asked
 pub mod Heap
+pub mod Cleaned
+pub mod Seen
+pub mod Opened

@@ -1,6 +1,6 @@
 //! The calls of the device that the caller carries out.
 
-ghost use Rattle.std.specs.Prelude.{◌≡◌, IfErr};
+ghost use Rattle.std.specs.Prelude.{◌≡◌, ◌≢◌, ◌++◌, drop, length, IfErr};
 ghost use Rattle.jffs_c.specs.Blocked.{looks_blocked};
 
 use crate::code::Code;
@@ -96,13 +96,16 @@ impl Volume {
     }
 }
 
-/// Copies bytes to the start of a buffer. `BufferShort` where it can't take them.
-pub(crate) fn put(bytes: &[u8], buffer: &mut [u8]) -> Code {
-    match buffer.get_mut(0..bytes.len()) {
-        Some(start) => {
-            start.copy_from_slice(bytes);
-            Code::Done
-        }
-        None => Code::BufferShort,
+/// Copies bytes to the start of a buffer. `BufferShort` where it can't take them: nothing is
+/// copied.
+pub(crate) fn put(bytes: &[u8], buffer: &mut [u8]) -> Code
+    ensures done { result ≡ Code.Done
+        → buffer.new ≡ bytes.now ++ drop (length bytes.now) buffer.old }
+    ensures short { result ≢ Code.Done → (result ≡ Code.BufferShort) × (buffer.new ≡ buffer.old) }
+{
+    if bytes.len() > buffer.len() {
+        return Code::BufferShort;
     }
+    buffer[..bytes.len()].copy_from_slice(bytes);
+    Code::Done
 }

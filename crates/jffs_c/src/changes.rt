@@ -1,9 +1,11 @@
 //! Changes of a volume.
 
-ghost use Rattle.std.specs.Prelude.{◌≡◌, ◌≢◌, IfOk, IfErr, Ok, Err};
+ghost use Rattle.std.specs.Prelude.{◌≡◌, IfOk, IfErr, Ok, Err};
 ghost use Rattle.jffs_node.specs.Path.{path_of};
 ghost use Rattle.jffs_c.specs.Blocked.{blocked, IsHeldBack};
-ghost use Rattle.jffs_c.specs.Asked.{code_of, Asks, AsksAt};
+ghost use Rattle.jffs_c.specs.Asked.{code_of, Asks, AsksAt, AsksBetween};
+ghost use Rattle.jffs_c.specs.Cleaned.{CleansOldest, ErasesTheDead};
+ghost use Rattle.jffs_c.specs.Seen.{IsOfPaths};
 
 use crate::code::Code;
 use crate::volume::Volume;
@@ -90,6 +92,8 @@ impl Volume {
     /// Gives what stands at `from` another name.
     pub(crate) fn rename(&mut self, from: &[u8], to: &[u8]) -> Code
         ensures held_back { IsHeldBack self.old self.new result }
+        ensures asked { blocked self.old.phase ≡ Ok tt
+            → AsksBetween from.now to.now Wish.Rename self.old self.new result }
     {
         let from = match self.path_to_change(from) {
             Ok(path) => path,
@@ -114,6 +118,8 @@ impl Volume {
     /// one sector.
     pub(crate) fn clean(&mut self) -> Code
         ensures held_back { IsHeldBack self.old self.new result }
+        ensures cleaned { blocked self.old.phase ≡ Ok tt
+            → CleansOldest self.old self.new result }
     {
         if let Err(code) = self.may_change() {
             return code;
@@ -130,6 +136,8 @@ impl Volume {
     /// Erases the dead sectors, the oldest first, up to one that has a live record.
     pub(crate) fn erase_dead(&mut self) -> Code
         ensures held_back { IsHeldBack self.old self.new result }
+        ensures erased { blocked self.old.phase ≡ Ok tt
+            → ErasesTheDead self.old self.new result }
     {
         if let Err(code) = self.may_change() {
             return code;
@@ -165,7 +173,7 @@ impl Volume {
     fn path_to_change(&self, bytes: &[u8]) -> Result<Path, Code>
         ensures held_back { IfErr (blocked self.now.phase) (λ why. result ≡ Err why) }
         ensures path { IfOk result (λ path. path_of bytes.now ≡ Ok path) }
-        ensures refused { IfErr result (λ code. code ≢ Code.Done) }
+        ensures refused { IfErr result IsOfPaths }
     {
         self.may_change()?;
         self.path(bytes)
@@ -174,7 +182,7 @@ impl Volume {
     /// The path that bytes spell, or why they spell none.
     pub(crate) fn path(&self, bytes: &[u8]) -> Result<Path, Code>
         ensures path { IfOk result (λ path. path_of bytes.now ≡ Ok path) }
-        ensures refused { IfErr result (λ code. code ≢ Code.Done) }
+        ensures refused { IfErr result IsOfPaths }
     {
         let Ok(text) = std::str::from_utf8(bytes) else {
             return Err(Code::PathNameByte);

@@ -155,10 +155,9 @@ impl From<Cause> for Code {
 }
 
 impl From<PathFault> for Code {
-    ghost use Rattle.std.specs.Prelude.{◌≢◌};
-    ghost use Rattle.jffs_c.specs.declared.code.Code.TheVariants.{Done};
+    ghost use Rattle.jffs_c.specs.Seen.{IsOfPaths};
 
-    ghost from_gives = { λ _ code. code ≢ Done };
+    ghost from_gives = { λ _ code. IsOfPaths code };
 
     fn from(fault: PathFault) -> Code {
         match fault {

@@ -1,7 +1,13 @@
 //! The functions of the header.
 
-ghost use Rattle.std.specs.Prelude.{◌≡◌, IfErr, OnErr};
-ghost use Rattle.jffs_c.specs.Exports.{HoldsBack, HoldsBackLooks};
+ghost use Rattle.std.specs.Prelude.{◌≡◌, ◌≢◌, IfErr, Ok};
+ghost use Rattle.jffs_tree.specs.declared.wish.Wish.TheVariants as wish;
+ghost use Rattle.jffs_core.specs.Jobs.{wants_cleaning};
+ghost use Rattle.jffs_c.specs.Codes.{number_of};
+ghost use Rattle.jffs_c.specs.Exports.{HoldsBack, HoldsBackLooks, Changes};
+ghost use Rattle.jffs_c.specs.Asked.{Asks, AsksAt, AsksBetween};
+ghost use Rattle.jffs_c.specs.Cleaned.{CleansOldest, ErasesTheDead};
+ghost use Rattle.jffs_c.specs.Seen.{IsSeen, IsUsage, IsRead, IsEntry};
 
 use crate::calls::{NextCall, put};
 use crate::code::Code;
@@ -42,6 +48,7 @@ pub extern "C" fn pg_close(alloc: Global, volume: Handle) {
 #[unsafe(no_mangle)]
 pub extern "C" fn pg_create(volume: &mut Handle, path: &[u8]) -> u32
     ensures held_back { HoldsBack volume.old volume.new result }
+    ensures asked { Changes (AsksAt path.now wish.Create) volume.old volume.new result }
 {
     volume.volume().create(path).number()
 }
@@ -50,6 +57,7 @@ pub extern "C" fn pg_create(volume: &mut Handle, path: &[u8]) -> u32
 #[unsafe(no_mangle)]
 pub extern "C" fn pg_mkdir(volume: &mut Handle, path: &[u8]) -> u32
     ensures held_back { HoldsBack volume.old volume.new result }
+    ensures asked { Changes (AsksAt path.now wish.MakeDir) volume.old volume.new result }
 {
     volume.volume().make_dir(path).number()
 }
@@ -58,6 +66,7 @@ pub extern "C" fn pg_mkdir(volume: &mut Handle, path: &[u8]) -> u32
 #[unsafe(no_mangle)]
 pub extern "C" fn pg_remove(volume: &mut Handle, path: &[u8]) -> u32
     ensures held_back { HoldsBack volume.old volume.new result }
+    ensures asked { Changes (AsksAt path.now wish.Remove) volume.old volume.new result }
 {
     volume.volume().remove(path).number()
 }
@@ -66,6 +75,8 @@ pub extern "C" fn pg_remove(volume: &mut Handle, path: &[u8]) -> u32
 #[unsafe(no_mangle)]
 pub extern "C" fn pg_write(volume: &mut Handle, path: &[u8], offset: u32, bytes: &[u8]) -> u32
     ensures held_back { HoldsBack volume.old volume.new result }
+    ensures asked { Changes (AsksAt path.now (λ p. wish.Write p offset bytes.now))
+        volume.old volume.new result }
 {
     volume.volume().write(path, offset, bytes).number()
 }
@@ -74,6 +85,8 @@ pub extern "C" fn pg_write(volume: &mut Handle, path: &[u8], offset: u32, bytes:
 #[unsafe(no_mangle)]
 pub extern "C" fn pg_truncate(volume: &mut Handle, path: &[u8], size: u32) -> u32
     ensures held_back { HoldsBack volume.old volume.new result }
+    ensures asked { Changes (AsksAt path.now (λ p. wish.Truncate p size))
+        volume.old volume.new result }
 {
     volume.volume().truncate(path, size).number()
 }
@@ -82,6 +95,8 @@ pub extern "C" fn pg_truncate(volume: &mut Handle, path: &[u8], size: u32) -> u3
 #[unsafe(no_mangle)]
 pub extern "C" fn pg_rename(volume: &mut Handle, from: &[u8], to: &[u8]) -> u32
     ensures held_back { HoldsBack volume.old volume.new result }
+    ensures asked { Changes (AsksBetween from.now to.now wish.Rename)
+        volume.old volume.new result }
 {
     volume.volume().rename(from, to).number()
 }
@@ -90,6 +105,7 @@ pub extern "C" fn pg_rename(volume: &mut Handle, from: &[u8], to: &[u8]) -> u32
 #[unsafe(no_mangle)]
 pub extern "C" fn pg_unmount(volume: &mut Handle) -> u32
     ensures held_back { HoldsBack volume.old volume.new result }
+    ensures asked { Changes (Asks wish.Unmount) volume.old volume.new result }
 {
     volume.volume().unmount().number()
 }
@@ -98,6 +114,7 @@ pub extern "C" fn pg_unmount(volume: &mut Handle) -> u32
 #[unsafe(no_mangle)]
 pub extern "C" fn pg_clean(volume: &mut Handle) -> u32
     ensures held_back { HoldsBack volume.old volume.new result }
+    ensures cleaned { Changes CleansOldest volume.old volume.new result }
 {
     volume.volume().clean().number()
 }
@@ -106,6 +123,7 @@ pub extern "C" fn pg_clean(volume: &mut Handle) -> u32
 #[unsafe(no_mangle)]
 pub extern "C" fn pg_erase_dead(volume: &mut Handle) -> u32
     ensures held_back { HoldsBack volume.old volume.new result }
+    ensures erased { Changes ErasesTheDead volume.old volume.new result }
 {
     volume.volume().erase_dead().number()
 }
@@ -146,70 +164,50 @@ pub extern "C" fn pg_calls_left(volume: &mut Handle) -> u32 {
 #[unsafe(no_mangle)]
 pub extern "C" fn pg_look(volume: &mut Handle, path: &[u8], sight: &mut Sight) -> u32
     ensures held_back { HoldsBackLooks volume.old volume.new result }
+    ensures seen { result ≡ 0 → IsSeen path.now volume.old.value sight.new }
+    ensures refused { result ≢ 0 → sight.new ≡ sight.old }
 {
-    match volume.volume().look(path) {
-        Ok(found) => {
-            *sight = found;
-            Code::Done.number()
-        }
-        Err(code) => code.number(),
-    }
+    hand_out(volume.volume().look(path), sight)
 }
 
 /// `pg_longest_of`: how long things may be.
 #[unsafe(no_mangle)]
 pub extern "C" fn pg_longest_of(volume: &mut Handle, longest: &mut Longest) -> u32
     ensures held_back { HoldsBackLooks volume.old volume.new result }
+    ensures write { result ≡ 0 → longest.new.write ≡ volume.old.value.core.limits.data_max }
+    ensures refused { result ≢ 0 → longest.new ≡ longest.old }
 {
-    match volume.volume().longest() {
-        Ok(found) => {
-            *longest = found;
-            Code::Done.number()
-        }
-        Err(code) => code.number(),
-    }
+    hand_out(volume.volume().longest(), longest)
 }
 
 /// `pg_usage_of`: how full the volume is.
 #[unsafe(no_mangle)]
 pub extern "C" fn pg_usage_of(volume: &mut Handle, usage: &mut Usage) -> u32
     ensures held_back { HoldsBackLooks volume.old volume.new result }
+    ensures usage { result ≡ 0 → IsUsage volume.old.value usage.new }
+    ensures refused { result ≢ 0 → usage.new ≡ usage.old }
 {
-    match volume.volume().usage() {
-        Ok(found) => {
-            *usage = found;
-            Code::Done.number()
-        }
-        Err(code) => code.number(),
-    }
+    hand_out(volume.volume().usage(), usage)
 }
 
 /// `pg_wants_cleaning`: whether cleaning is worth it.
 #[unsafe(no_mangle)]
 pub extern "C" fn pg_wants_cleaning(volume: &mut Handle, wants: &mut bool) -> u32
     ensures held_back { HoldsBackLooks volume.old volume.new result }
+    ensures wants { result ≡ 0 → wants.new ≡ wants_cleaning volume.old.value.core }
+    ensures refused { result ≢ 0 → wants.new ≡ wants.old }
 {
-    match volume.volume().wants_cleaning() {
-        Ok(found) => {
-            *wants = found;
-            Code::Done.number()
-        }
-        Err(code) => code.number(),
-    }
+    hand_out(volume.volume().wants_cleaning(), wants)
 }
 
 /// `pg_is_clean`: whether it was unmounted last.
 #[unsafe(no_mangle)]
 pub extern "C" fn pg_is_clean(volume: &mut Handle, clean: &mut bool) -> u32
     ensures held_back { HoldsBackLooks volume.old volume.new result }
+    ensures clean { result ≡ 0 → clean.new ≡ volume.old.value.core.clean }
+    ensures refused { result ≢ 0 → clean.new ≡ clean.old }
 {
-    match volume.volume().clean_log() {
-        Ok(found) => {
-            *clean = found;
-            Code::Done.number()
-        }
-        Err(code) => code.number(),
-    }
+    hand_out(volume.volume().clean_log(), clean)
 }
 
 /// `pg_read`: the bytes of a file from an offset on.
@@ -222,6 +220,9 @@ pub extern "C" fn pg_read(
     count: &mut usize,
 ) -> u32
     ensures held_back { HoldsBackLooks volume.old volume.new result }
+    ensures read { result ≡ 0
+        → IsRead path.now volume.old.value offset count.new buffer.old buffer.new }
+    ensures refused { result ≢ 0 → (count.new ≡ count.old) × (buffer.new ≡ buffer.old) }
 {
     match volume.volume().read(path, offset, buffer) {
         Ok(found) => {
@@ -243,6 +244,10 @@ pub extern "C" fn pg_entry(
     sight: &mut Sight,
 ) -> u32
     ensures held_back { HoldsBackLooks volume.old volume.new result }
+    ensures entry { result ≡ 0
+        → IsEntry path.now volume.old.value number sight.new name_len.new name.old name.new }
+    ensures refused { result ≢ 0 → (sight.new ≡ sight.old) × (name_len.new ≡ name_len.old)
+        × (name.new ≡ name.old) }
 {
     match volume.volume().entry(path, number, name) {
         Ok((found, len)) => {
@@ -270,6 +275,22 @@ pub extern "C" fn pg_text(code: u32, buffer: &mut [u8]) -> usize {
     match Code::of_number(code) {
         Some(code) => put_text(text_of(code), buffer),
         None => 0,
+    }
+}
+
+/// Puts what a look found where the caller wants it; the number of its code.
+fn hand_out<T: Copy>(found: Result<T, Code>, place: &mut T) -> u32
+    requires { IfErr found (λ code. code ≢ Code.Done) }
+    ensures done { result ≡ 0 → found ≡ Ok place.new }
+    ensures told { IfErr found (λ code. result ≡ number_of code) }
+    ensures kept { result ≢ 0 → place.new ≡ place.old }
+{
+    match found {
+        Ok(found) => {
+            *place = found;
+            Code::Done.number()
+        }
+        Err(code) => code.number(),
     }
 }
 

@@ -1,7 +1,11 @@
 //! Looks at a volume. They change nothing, and see the changes whose calls are left as made.
 
-ghost use Rattle.std.specs.Prelude.{◌≡◌, ◌≤◌, length, IfErr, Err};
+ghost use Rattle.std.specs.Prelude.{◌≡◌, ◌≢◌, ◌-◌, ◌*◌, ◌/◌, IfOk, IfErr, Err};
+ghost use Rattle.jffs_node.specs.declared.layout.TheConstants.{HEADER_LEN};
+ghost use Rattle.jffs_core.specs.Jobs.{wants_cleaning};
 ghost use Rattle.jffs_c.specs.Blocked.{looks_blocked};
+ghost use Rattle.jffs_c.specs.Seen.{LeadsTo, LeadsNowhere, sight_in, IsSeen, IsRead, IsEntry};
+ghost use Rattle.jffs_c.specs.Seen.{IsUsage};
 
 use crate::calls::put;
 use crate::code::Code;
@@ -55,7 +59,10 @@ pub struct Usage {
 impl Volume {
     /// What stands at a path. `Failed`, the path's faults, `NotFound`.
     pub(crate) fn look(&self, path: &[u8]) -> Result<Sight, Code>
-        ensures { IfErr (looks_blocked self.now.phase) (λ why. result ≡ Err why) }
+        ensures held_back { IfErr (looks_blocked self.now.phase) (λ why. result ≡ Err why) }
+        ensures seen { IfOk result (λ sight. IsSeen path.now self.now sight) }
+        ensures none { result ≡ Err Code.NotFound → LeadsNowhere path.now self.now }
+        ensures refused { IfErr result (λ code. code ≢ Code.Done) }
     {
         self.may_look()?;
         let inode = self.inode_at(path)?;
@@ -65,7 +72,12 @@ impl Volume {
     /// Copies the bytes of a file from `offset` on, as many as there are and as `buffer` takes, and
     /// returns how many. `Failed`, the path's faults, `NotFound`, `IsDirectory`.
     pub(crate) fn read(&self, path: &[u8], offset: u32, buffer: &mut [u8]) -> Result<usize, Code>
-        ensures { IfErr (looks_blocked self.now.phase) (λ why. result ≡ Err why) }
+        ensures held_back { IfErr (looks_blocked self.now.phase) (λ why. result ≡ Err why) }
+        ensures read { IfOk result
+            (λ count. IsRead path.now self.now offset count buffer.old buffer.new) }
+        ensures none { result ≡ Err Code.NotFound → LeadsNowhere path.now self.now }
+        ensures refused { IfErr result
+            (λ code. (code ≢ Code.Done) × (buffer.new ≡ buffer.old)) }
     {
         self.may_look()?;
         let inode = self.inode_at(path)?;
@@ -87,7 +99,12 @@ impl Volume {
         number: u32,
         buffer: &mut [u8],
     ) -> Result<(Sight, usize), Code>
-        ensures { IfErr (looks_blocked self.now.phase) (λ why. result ≡ Err why) }
+        ensures held_back { IfErr (looks_blocked self.now.phase) (λ why. result ≡ Err why) }
+        ensures entry { IfOk result
+            (λ e. IsEntry path.now self.now number e.0 e.1 buffer.old buffer.new) }
+        ensures none { result ≡ Err Code.NotFound → LeadsNowhere path.now self.now }
+        ensures refused { IfErr result
+            (λ code. (code ≢ Code.Done) × (buffer.new ≡ buffer.old)) }
     {
         self.may_look()?;
         let inode = self.inode_at(path)?;
@@ -98,15 +115,18 @@ impl Volume {
         let Some((name, found)) = names.get(number as usize) else {
             return Err(Code::Nothing);
         };
-        match put(name.bytes(), buffer) {
-            Code::Done => Ok((sight_of(tree, *found), name.bytes().len())),
+        let bytes = name.bytes();
+        match put(bytes, buffer) {
+            Code::Done => Ok((sight_of(tree, *found), bytes.len())),
             code => Err(code),
         }
     }
 
     /// How long things may be. `Failed`.
     pub(crate) fn longest(&self) -> Result<Longest, Code>
-        ensures { IfErr (looks_blocked self.now.phase) (λ why. result ≡ Err why) }
+        ensures held_back { IfErr (looks_blocked self.now.phase) (λ why. result ≡ Err why) }
+        ensures write { IfOk result (λ longest. longest.write ≡ self.now.core.limits.data_max) }
+        ensures refused { IfErr result (λ code. code ≢ Code.Done) }
     {
         self.may_look()?;
         Ok(Longest {
@@ -120,7 +140,9 @@ impl Volume {
 
     /// How full it is. `Failed`.
     pub(crate) fn usage(&self) -> Result<Usage, Code>
-        ensures { IfErr (looks_blocked self.now.phase) (λ why. result ≡ Err why) }
+        ensures held_back { IfErr (looks_blocked self.now.phase) (λ why. result ≡ Err why) }
+        ensures usage { IfOk result (λ usage. IsUsage self.now usage) }
+        ensures refused { IfErr result (λ code. code ≢ Code.Done) }
     {
         self.may_look()?;
         let log = self.core.log();
@@ -137,7 +159,9 @@ impl Volume {
     /// Whether cleaning is worth it: the oldest sector isn't the tail, and at most half of the
     /// sectors are erased. `Failed`.
     pub(crate) fn wants_cleaning(&self) -> Result<bool, Code>
-        ensures { IfErr (looks_blocked self.now.phase) (λ why. result ≡ Err why) }
+        ensures held_back { IfErr (looks_blocked self.now.phase) (λ why. result ≡ Err why) }
+        ensures wants { IfOk result (λ wants. wants ≡ wants_cleaning self.now.core) }
+        ensures refused { IfErr result (λ code. code ≢ Code.Done) }
     {
         self.may_look()?;
         Ok(self.core.wants_cleaning())
@@ -145,20 +169,30 @@ impl Volume {
 
     /// Whether the log ends with an unmount node, and nothing was programmed after it. `Failed`.
     pub(crate) fn clean_log(&self) -> Result<bool, Code>
-        ensures { IfErr (looks_blocked self.now.phase) (λ why. result ≡ Err why) }
+        ensures held_back { IfErr (looks_blocked self.now.phase) (λ why. result ≡ Err why) }
+        ensures clean { IfOk result (λ clean. clean ≡ self.now.core.clean) }
+        ensures refused { IfErr result (λ code. code ≢ Code.Done) }
     {
         self.may_look()?;
         Ok(self.core.clean())
     }
 
-    fn sure_weight(&self) -> u64 {
+    fn sure_weight(&self) -> u64
+        ensures { result
+            ≡ (self.now.core.index.sectors - 4)
+            * (self.now.core.index.sector_size * 3 / 4 - HEADER_LEN) }
+    {
         let log = self.core.log();
         let of_each = (u64::from(log.sector_size()) * 3 / 4).saturating_sub(HEADER_LEN as u64);
         u64::from(log.sectors().saturating_sub(4)) * of_each
     }
 
     /// The inode at a path. The path's faults, `NotFound`.
-    fn inode_at(&self, path: &[u8]) -> Result<u32, Code> {
+    fn inode_at(&self, path: &[u8]) -> Result<u32, Code>
+        ensures found { IfOk result (λ inode. LeadsTo path.now self.now inode) }
+        ensures none { result ≡ Err Code.NotFound → LeadsNowhere path.now self.now }
+        ensures refused { IfErr result (λ code. code ≢ Code.Done) }
+    {
         let path = self.path(path)?;
         match self.core.tree().resolve(&path) {
             Some(inode) => Ok(inode),
@@ -167,7 +201,9 @@ impl Volume {
     }
 }
 
-fn sight_of(tree: &Tree, inode: u32) -> Sight {
+fn sight_of(tree: &Tree, inode: u32) -> Sight
+    ensures { result ≡ sight_in tree.now inode }
+{
     Sight {
         directory: tree.is_directory(inode),
         size: tree.size(inode).unwrap_or(0),

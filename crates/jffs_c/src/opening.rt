@@ -1,9 +1,10 @@
 //! A volume from the bytes of its medium.
 
 ghost use Rattle.std.specs.Prelude.{◌≡◌, ◌*◌, IfOk, IfSome, length};
+ghost use Rattle.jffs_c.specs.Opened.{IsOpened};
 
 use crate::code::Code;
-use crate::volume::{Phase, Volume};
+use crate::volume::Volume;
 use jffs_core::Core;
 use jffs_flash::{MemoryFlash, is_geometry};
 use jffs_log::ScanWhy;
@@ -34,7 +35,7 @@ pub(crate) struct Refused {
 ///
 /// `Geometry` where no volume has these sizes, then the causes of a scan; `Memory`.
 pub(crate) fn open(alloc: Global, bytes: &[u8], sector_size: u32) -> Result<Box<Volume>, Refused>
-    ensures { IfOk result (λ volume. volume.value.phase ≡ Phase.Ready) }
+    ensures { IfOk result (λ volume. IsOpened bytes.now sector_size volume.value) }
 {
     let Some(sectors) = sectors_of(bytes, sector_size) else {
         return Err(plain(Code::Geometry));

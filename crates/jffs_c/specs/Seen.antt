@@ -1,0 +1,86 @@
+-- What looks see.
+use Rattle.std.specs.Prelude.{◌≡◌, ◌≢◌, ◌-◌, ◌*◌, ◌/◌, ◌++◌, ℕ, false, List, length}
+use Rattle.std.specs.Prelude.{map, sum, take, drop, min, slice_get, unwrap_or, Some, None, Ok}
+use Rattle.std.specs.List.{filter}
+use Rattle.std.specs.List.Sorted.{IsPermutation, IsSorted}
+use Rattle.jffs_node.specs.Path.{path_of}
+use Rattle.jffs_node.specs.declared.layout.TheConstants.{HEADER_LEN}
+use Rattle.jffs_tree.specs.State.{resolve, is_directory_in}
+use Rattle.jffs_tree.specs.Origin.{Tree, state_in}
+use Rattle.jffs_tree.specs.Look.{bytes_in, size_of, names_in, name_cmp, holds_version}
+use Rattle.jffs_c.specs.declared.code.Code.{Code}
+use Rattle.jffs_c.specs.declared.code.Code.TheVariants as code
+use Rattle.jffs_c.specs.declared.looks.Sight.{Sight}
+use Rattle.jffs_c.specs.declared.looks.Usage.{Usage}
+use Rattle.jffs_c.specs.declared.volume.Volume.{Volume}
+
+-- it says that bytes spell no path, and nothing of what stands there
+abbrev pub IsOfPaths : Code → Type 0
+IsOfPaths answer = (answer ≢ code.Done) × (answer ≢ code.NotFound)
+
+-- these bytes spell a path, at which the volume has this inode
+pub record LeadsTo (bytes : List ℕ) (volume : Volume) (inode : ℕ) : Type 0 where
+  pub path : List (List ℕ)
+  pub spelled : path_of bytes ≡ Ok path
+  pub found : resolve (state_in volume.core.tree) path ≡ Some inode
+
+-- these bytes spell a path, at which the volume has nothing
+pub record LeadsNowhere (bytes : List ℕ) (volume : Volume) : Type 0 where
+  pub path : List (List ℕ)
+  pub spelled : path_of bytes ≡ Ok path
+  pub none : resolve (state_in volume.core.tree) path ≡ None
+
+-- the kind and the size of an inode
+abbrev pub sight_in : Tree → ℕ → Sight
+sight_in tree inode = record {
+  directory = is_directory_in (state_in tree) inode;
+  size = unwrap_or (size_of tree inode) 0;
+}
+
+-- what was seen is what stands at the path
+pub record IsSeen (bytes : List ℕ) (volume : Volume) (sight : Sight) : Type 0 where
+  pub inode : ℕ
+  pub leads : LeadsTo bytes volume inode
+  pub seen : sight ≡ sight_in volume.core.tree inode
+
+-- The bytes of the file at the path from an offset on were copied into a buffer, as many as there
+-- are and as it takes.
+pub record IsRead (bytes : List ℕ) (volume : Volume) (offset count : ℕ) (old new : List ℕ) :
+    Type 0 where
+  pub inode : ℕ
+  pub leads : LeadsTo bytes volume inode
+  pub file : is_directory_in (state_in volume.core.tree) inode ≡ false
+  pub counted : count ≡ min (length old) (length (bytes_in volume.core.tree inode) - offset)
+  pub copied : new
+      ≡ take count (drop offset (bytes_in volume.core.tree inode)) ++ drop count old
+
+-- The name with this number, in the order of their bytes, of the directory at the path was copied
+-- into a buffer, and what stands there was seen.
+pub record IsEntry (bytes : List ℕ) (volume : Volume) (number : ℕ) (sight : Sight) (len : ℕ)
+    (old new : List ℕ) : Type 0 where
+  pub inode : ℕ
+  pub leads : LeadsTo bytes volume inode
+  pub names : List (List ℕ × ℕ)
+  pub all : IsPermutation (names_in volume.core.tree inode) names
+  pub ordered : IsSorted name_cmp names
+  pub name : List ℕ
+  pub found : ℕ
+  pub numbered : slice_get names number ≡ Some (name, found)
+  pub seen : sight ≡ sight_in volume.core.tree found
+  pub counted : len ≡ length name
+  pub copied : new ≡ name ++ drop len old
+
+-- How full the log is: its sectors, those that are erased, its records, the lengths of those that
+-- live, and the weight that is sure to have room.
+pub record IsUsage (volume : Volume) (usage : Usage) : Type 0 where
+  pub sectors : usage.sectors ≡ volume.core.index.sectors
+  pub sector_size : usage.sector_size ≡ volume.core.index.sector_size
+  pub erased : usage.erased ≡ volume.core.index.sectors - volume.core.index.held
+  pub records : usage.records ≡ length volume.core.index.records.items
+  pub weight : usage.weight
+      ≡ sum (map (λ k. k.length)
+      (filter (λ k. holds_version volume.core.tree k.inode k.version)
+      volume.core.index.records.items))
+  pub sure : usage.sure
+      ≡ (volume.core.index.sectors - 4)
+      * (volume.core.index.sector_size * 3 / 4 - HEADER_LEN)

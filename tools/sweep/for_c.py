@@ -1,5 +1,5 @@
-"""The library for C: each function of its header under sanitizers and valgrind, each allocation refused in turn, and
-lists of requests whose carrying out stops at each call of the device."""
+"""The library for C: each function of its header under sanitizers and valgrind, each allocation refused in turn, what a
+call costs, and lists of requests whose carrying out stops at each call of the device."""
 import copy
 import hashlib
 import os
@@ -8,6 +8,7 @@ import shutil
 import subprocess
 import sys
 
+from c_costs import compare
 from cases import TOP, commands_of
 from model import Tree
 from runner import HERE
@@ -50,11 +51,13 @@ def for_c(runner):
     if built.missing:
         print(f"  left out: {built.missing}")
         return
-    called, driver = program(runner, built, "called"), program(runner, built, "c_driver")
+    called, driver, cost = (program(runner, built, name) for name in ("called", "c_driver", "c_cost"))
     symbols(runner, built)
-    if called is None or driver is None:
+    if None in (called, driver, cost):
         return
     call_each(runner, built, called)
+    if shutil.which("valgrind"):
+        compare(runner, cost)
     step = runner.options.thin
     runner.each(range(0, LISTS, step), lambda seed: Listed(runner, driver, seed).play())
     runner.tally.tell("calls were stopped at", "lists")

@@ -1,13 +1,13 @@
 -- What looks see.
-use Rattle.std.specs.Prelude.{◌≡◌, ◌≢◌, ◌-◌, ◌*◌, ◌/◌, ◌++◌, ℕ, false, List, length}
+use Rattle.std.specs.Prelude.{◌≡◌, ◌≢◌, ◌-◌, ◌++◌, ℕ, false, List, length}
 use Rattle.std.specs.Prelude.{map, sum, take, drop, min, slice_get, unwrap_or, Some, None, Ok}
 use Rattle.std.specs.List.{filter}
 use Rattle.std.specs.List.Sorted.{IsPermutation, IsSorted}
 use Rattle.jffs_node.specs.Path.{path_of}
-use Rattle.jffs_node.specs.declared.layout.TheConstants.{HEADER_LEN}
 use Rattle.jffs_tree.specs.State.{resolve, is_directory_in}
 use Rattle.jffs_tree.specs.Origin.{Tree, state_in}
 use Rattle.jffs_tree.specs.Look.{bytes_in, size_of, names_in, name_cmp, holds_version}
+use Rattle.jffs_log.specs.Room.{heavy}
 use Rattle.jffs_c.specs.declared.code.Code.{Code}
 use Rattle.jffs_c.specs.declared.code.Code.TheVariants as code
 use Rattle.jffs_c.specs.declared.looks.Sight.{Sight}
@@ -81,6 +81,4 @@ pub record IsUsage (volume : Volume) (usage : Usage) : Type 0 where
       ≡ sum (map (λ k. k.length)
       (filter (λ k. holds_version volume.core.tree k.inode k.version)
       volume.core.index.records.items))
-  pub sure : usage.sure
-      ≡ (volume.core.index.sectors - 4)
-      * (volume.core.index.sector_size * 3 / 4 - HEADER_LEN)
+  pub sure : usage.sure ≡ heavy volume.core.index.sectors volume.core.index.sector_size

@@ -1,7 +1,7 @@
 //! Looks at a volume. They change nothing, and see the changes whose calls are left as made.
 
-ghost use Rattle.std.specs.Prelude.{◌≡◌, ◌≢◌, ◌-◌, ◌*◌, ◌/◌, IfOk, IfErr, Err};
-ghost use Rattle.jffs_node.specs.declared.layout.TheConstants.{HEADER_LEN};
+ghost use Rattle.std.specs.Prelude.{◌≡◌, ◌≢◌, IfOk, IfErr, Err};
+ghost use Rattle.jffs_log.specs.Room.{heavy};
 ghost use Rattle.jffs_core.specs.Jobs.{wants_cleaning};
 ghost use Rattle.jffs_c.specs.Blocked.{looks_blocked};
 ghost use Rattle.jffs_c.specs.Seen.{LeadsTo, LeadsNowhere, sight_in, IsSeen, IsRead, IsEntry};
@@ -178,9 +178,7 @@ impl Volume {
     }
 
     fn sure_weight(&self) -> u64
-        ensures { result
-            ≡ (self.now.core.index.sectors - 4)
-            * (self.now.core.index.sector_size * 3 / 4 - HEADER_LEN) }
+        ensures { result ≡ heavy self.now.core.index.sectors self.now.core.index.sector_size }
     {
         let log = self.core.log();
         let of_each = (u64::from(log.sector_size()) * 3 / 4).saturating_sub(HEADER_LEN as u64);

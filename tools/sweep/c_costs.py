@@ -2,14 +2,13 @@
 Twice as many calls take so much more than once as many: that is what the calls cost, and what they begin with isn't in
 it. A change has in it that its calls of the device are carried out."""
 import os
-import re
+
+from cost_cases import Run
+from costs import Failed, numbers_of
 
 MOST = 1.2
 COUNTS = {"create": 100, "write": 100, "truncate": 100, "rename": 100, "remove": 100, "refused": 100, "clean": 5,
           "look": 100, "read": 100, "entry": 20, "usage": 20}
-COLLECTED = re.compile(r"Collected : (\d+)")
-# The C library picks its copies of bytes by the processor; both programs are given the same ones.
-PLAIN = "GLIBC_TUNABLES=glibc.cpu.hwcaps=-AVX512F,-AVX512VL,-AVX2,-AVX,-ERMS,-FSRM,-RTM,-BMI2,-MOVBE"
 
 
 def compare(runner, in_c):
@@ -18,26 +17,22 @@ def compare(runner, in_c):
     if not os.access(in_rattle, os.X_OK):
         print("  left out: what calls cost, since jffs_c_cost isn't built")
         return
-    runner.each(COUNTS, lambda call: tell(runner, call, cost(runner, in_c, call), cost(runner, in_rattle, call)))
+    runner.each(COUNTS, lambda call: runner.tally.add(f"what {call} costs", why_dear(call, in_c, in_rattle)))
 
 
-def cost(runner, program, call):
-    """The instructions of so many calls; None where the program failed."""
-    once, twice = (instructions(runner, program, call, times * COUNTS[call]) for times in (1, 2))
-    return None if None in (once, twice) else twice - once
+def why_dear(call, in_c, in_rattle):
+    """Why a call costs too much; None where it doesn't."""
+    try:
+        costs = [cost(program, call) for program in (in_c, in_rattle)]
+    except Failed as why:
+        return str(why)
+    ratio = costs[0] / costs[1]
+    print("  {}: {} instructions in C, {} in Rattle, {:.2f}".format(call, *(all // COUNTS[call] for all in costs), ratio))
+    return None if ratio <= MOST else f"{ratio:.2f} times the call in Rattle"
 
 
-def instructions(runner, program, call, count):
-    words = ["env", PLAIN, "valgrind", "--tool=callgrind", "--callgrind-out-file=/dev/null", program, call, str(count)]
-    ran = runner.run(words, limit=300)
-    found = COLLECTED.search(ran.errors)
-    return int(found[1]) if ran.status == 0 and found else None
-
-
-def tell(runner, call, in_c, in_rattle):
-    if None in (in_c, in_rattle):
-        runner.tally.add(f"what {call} costs", "a program failed")
-        return
-    ratio = in_c / in_rattle
-    print(f"  {call}: {in_c // COUNTS[call]} instructions in C, {in_rattle // COUNTS[call]} in Rattle, {ratio:.2f}")
-    runner.tally.add(f"what {call} costs", None if ratio <= MOST else f"{ratio:.2f} times the call in Rattle")
+def cost(program, call):
+    """The instructions of so many calls."""
+    once, twice = (numbers_of("callgrind", program, Run(program.name, (call, str(times * COUNTS[call]))))[0]
+                   for times in (1, 2))
+    return twice - once

@@ -33,9 +33,9 @@ pub(crate) enum Fault {
 pub(crate) struct Volume {
     pub(crate) alloc: Global,
     pub(crate) core: Core<HandedFlash>,
-    pub(crate) paths: Vec<String>,
-    pub(crate) others: Vec<String>,
-    pub(crate) buffer: Vec<u8>,
+    paths: Vec<String>,
+    others: Vec<String>,
+    buffer: Vec<u8>,
     seq: u32,
 }
 

@@ -8,7 +8,7 @@ from script_judge import Wrong, ensure
 TOTALS = re.compile(r" ; erased (\d+) erases \d+ weight (\d+) next \S+ \S+\Z")
 MOUNTED = re.compile(r"mounted (clean|unclean) next \S+ \S+")
 # What stands on standard error where memory is refused: to a line, or already to the words that it was called with.
-STOPPED = re.compile(r"jffs_replay: line \d+: .*\n|Error: Kind\(OutOfMemory\)\n|")
+STOPPED = re.compile(r"(jffs_replay: (line \d+: .*|out of memory)\n)?")
 COPY_CAUSES = {"NotFound", "NotNeeded", "Stale", "DataLong", "FileLong"}
 
 

@@ -8,7 +8,7 @@ use jffs_log::ScanWhy;
 use jffs_run::RunWhy;
 use jffs_text::{DumpFault, ScriptMistake};
 use std::io;
-use std::io::Write;
+use std::io::{ErrorKind, Write};
 use thiserror::Error;
 
 /// The status of a program that printed all its lines.
@@ -172,8 +172,11 @@ impl<'a> From<Why> for Fault<'a> {
 
 /// An error of standard output.
 impl From<io::Error> for Why {
-    fn from(_: io::Error) -> Why {
-        Why::Write
+    fn from(error: io::Error) -> Why {
+        match error.kind() {
+            ErrorKind::OutOfMemory => Why::Memory,
+            _ => Why::Write,
+        }
     }
 }
 

@@ -28,8 +28,11 @@ pub(crate) fn read_whole<R: Read>(alloc: Global, input: &mut R) -> Result<Vec<u8
             Ok(count) => text
                 .extend_from_slice(&chunk[..count])
                 .map_err(|_| InputFault::Memory)?,
-            Err(fault) if fault.kind() == ErrorKind::Interrupted => {}
-            Err(_) => return Err(InputFault::Read),
+            Err(fault) => match fault.kind() {
+                ErrorKind::Interrupted => {}
+                ErrorKind::OutOfMemory => return Err(InputFault::Memory),
+                _ => return Err(InputFault::Read),
+            },
         }
     }
     Err(InputFault::Read)

@@ -168,18 +168,20 @@ fn a_file_without_volume_is_told_of(rt: HostRuntime) -> Result<(), Fail> {
 }
 
 /// A stream whose every call fails.
-#[derive(Drop)]
-struct Broken;
+#[derive(Clone, Copy, Drop)]
+struct Broken {
+    kind: ErrorKind,
+}
 
 impl Read for Broken {
     fn read(&mut self, _buf: &mut [u8]) -> io::Result<usize> {
-        Err(io::Error::from(ErrorKind::BrokenPipe))
+        Err(io::Error::from(self.kind))
     }
 }
 
 impl Write for Broken {
     fn write(&mut self, _buf: &[u8]) -> io::Result<usize> {
-        Err(io::Error::from(ErrorKind::BrokenPipe))
+        Err(io::Error::from(self.kind))
     }
 
     fn flush(&mut self) -> io::Result<()> {
@@ -187,34 +189,51 @@ impl Write for Broken {
     }
 }
 
+/// A call that ends with status 1, and what people are told.
+fn fails<Rt, R: Read, W: Write>(
+    rt: &Rt,
+    words: &[&str],
+    input: &mut R,
+    out: &mut W,
+    told: &str,
+) -> Result<(), Fail>
+where
+    Rt: Abort + AllocGlobal + Files<File: Send> + Threads + Wait + Sync,
+{
+    let mut owned = Vec::new(rt.alloc());
+    for word in words {
+        owned.push(String::from_str(rt.alloc(), word)?)?;
+    }
+    let mut errors = Vec::new(rt.alloc());
+    assert_eq!(rt; run_called(rt, &owned, input, out, &mut errors), 1);
+    assert_eq!(rt; errors.as_slice(), told.as_bytes());
+    Ok(())
+}
+
 #[test]
 fn a_fault_of_a_stream_is_told_of(rt: HostRuntime) -> Result<(), Fail> {
-    let alloc = rt.alloc();
-    let mut words = vec![in alloc; String::from_str(alloc, "jffs")?]?;
-    let mut errors = Vec::new(alloc);
-    let mut out = Vec::new(alloc);
-    assert_eq!(rt;
-        run_called(&rt, &words, &mut Broken, &mut out, &mut errors),
-        1
-    );
-    assert_eq!(rt; out.as_slice(), b"fault: Read\n".as_slice());
-    let mut input = SCRIPT.as_bytes();
-    assert_eq!(rt;
-        run_called(&rt, &words, &mut input, &mut Broken, &mut errors),
-        1
-    );
-    words.push(String::from_str(alloc, "--help")?)?;
-    assert_eq!(rt;
-        run_called(&rt, &words, &mut input, &mut Broken, &mut errors),
-        1
-    );
-    assert_eq!(rt;
-        errors.as_slice(),
-        b"jffs: standard input can't be read\n\
-        jffs: standard output can't be written\n\
-        jffs: standard output can't be written\n"
-            .as_slice()
-    );
+    for (kind, line, of_input, of_output) in [
+        (
+            ErrorKind::BrokenPipe,
+            "fault: Read\n",
+            "jffs: standard input can't be read\n",
+            "jffs: standard output can't be written\n",
+        ),
+        (
+            ErrorKind::OutOfMemory,
+            "fault: Memory\n",
+            "jffs: out of memory\n",
+            "jffs: out of memory\n",
+        ),
+    ] {
+        let mut broken = Broken { kind };
+        let mut out = Vec::new(rt.alloc());
+        fails(&rt, &["jffs"], &mut broken, &mut out, of_input)?;
+        assert_eq!(rt; out.as_slice(), line.as_bytes());
+        let mut input = SCRIPT.as_bytes();
+        fails(&rt, &["jffs"], &mut input, &mut broken, of_output)?;
+        fails(&rt, &["jffs", "--help"], &mut input, &mut broken, of_output)?;
+    }
     Ok(())
 }
 
@@ -272,8 +291,6 @@ impl Write for Ending {
 
 #[test]
 fn a_stream_that_ends_in_the_tree_is_told_of(rt: HostRuntime) -> Result<(), Fail> {
-    let alloc = rt.alloc();
-    let words = vec![in alloc; String::from_str(alloc, "jffs")?]?;
     for (kind, told) in [
         (
             ErrorKind::BrokenPipe,
@@ -283,10 +300,8 @@ fn a_stream_that_ends_in_the_tree_is_told_of(rt: HostRuntime) -> Result<(), Fail
     ] {
         let room = PRINTED.len().saturating_sub(1);
         let mut out = Ending { room, kind };
-        let mut errors = Vec::new(alloc);
-        let ended = run_called(&rt, &words, &mut SCRIPT.as_bytes(), &mut out, &mut errors);
-        assert_eq!(rt; errors.as_slice(), told.as_bytes());
-        assert_eq!(rt; (ended, out.room), (1, 0));
+        fails(&rt, &["jffs"], &mut SCRIPT.as_bytes(), &mut out, told)?;
+        assert_eq!(rt; out.room, 0);
     }
     Ok(())
 }

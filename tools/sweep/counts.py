@@ -1,16 +1,15 @@
-"""The counts that `jffs_bench check` prints, each worked out another way: the sectors that are erased and the records
-that are mounted by the second writer, tools/write_volume.py, which is written from docs/FORMAT.md alone; how many
-requests, steps and bytes there are from what each part of the benchmark says that it does, a hundredth of its full run."""
+"""The counts that `jffs_bench check` prints, each worked out another way: what the script on its standard input leaves by
+the second writer, tools/write_volume.py, which is written from docs/FORMAT.md alone; how many requests and steps there are
+from what each part of the benchmark says that it does, a hundredth of its full run."""
 import sys
 
 from cases import TOP
 
 sys.path.insert(0, str(TOP / "tools"))
+from read_volume import ROOT, dump  # noqa: E402
 from write_volume import Refused, Volume  # noqa: E402
 
-LARGEST, SMALLEST = (64, 16384), (6, 1024)
-# Writers, and whether a cleaner or readers take part, which change no count.
-CASTS = [(1, ""), (2, "s"), (8, "s"), (8, "s and a cleaner"), (8, "s and 16 readers")]
+BENCH = TOP / "crates/jffs_bench"
 
 
 class Counting(Volume):
@@ -22,55 +21,26 @@ class Counting(Volume):
         super().erase_oldest()
 
 
-def begun(sizes):
-    volume = Counting(*sizes)
-    volume.request(1, 1, "create", "/f")
-    return volume
-
-
-def written(volume, offset):
-    volume.request(1, 1, "fill", "/f", str(offset), "192", "61")
-
-
-def records_after(writes):
-    """The records of the largest volume after so many appended writes."""
-    volume = begun(LARGEST)
-    for number in range(writes):
-        written(volume, number * 192)
-    return sum(len(nodes) for nodes in volume.nodes.values())
-
-
-def erased_by(sizes, writes, cleanings):
-    """How many sectors are erased in so many writes with a cleaning each, after so many writes over the same bytes."""
-    volume = begun(sizes)
-    for _ in range(writes):
-        written(volume, 0)
-    before = volume.erases
-    for _ in range(cleanings):
-        written(volume, 0)
-        volume.clean_oldest()
-    return volume.erases - before
-
-
-def has_room_for(sizes, appended):
-    """Whether so many creates fit, and so many appended writes, of which none is refused."""
-    files, volume = Counting(*sizes), begun(sizes)
-    try:
-        for number in range(appended):
-            files.request(1, 1, "create", f"/f{number}")
-            written(volume, number * 192)
-        return True
-    except Refused:
-        return False
+def played(text):
+    """The counts of a script of one writer, whose dead sectors are erased after each answer but the unmount's."""
+    volume_line, *lines = [line.split() for line in text.splitlines()]
+    commands = lines[lines.index(["writer"]) + 1:]
+    volume, refused = Counting(int(volume_line[1]), int(volume_line[2])), 0
+    for number, (verb, *words) in enumerate(commands, 1):
+        try:
+            volume.request(1, number, verb, *words)
+        except Refused:
+            refused += 1
+        volume.erase_dead()
+    erases = volume.erases
+    volume.request(10, 1, "unmount")
+    told = "".join(f"{line}\n" for line in dump(volume.tree, ROOT, ""))
+    records = sum(len(nodes) for nodes in volume.nodes.values())
+    return {"erases": erases, "refused": refused, "answers": len(commands) + 1, "records": records, "dump_bytes": len(told)}
 
 
 def wanted():
-    lines = [f"bytes copied: {LARGEST[0] * LARGEST[1]}", f"records mounted of a full volume: {records_after(4000 // 100)}"]
-    for sizes, room in ((LARGEST, 3000), (SMALLEST, 9)):
-        fits = room if has_room_for(sizes, room) else "refused"
-        lines += ["{} x {}".format(*sizes), f"creates: {fits}", f"appended writes: {fits}", f"overwrites: {20000 // 100}",
-                  f"writes with a cleaning each: {2000 // 100}",
-                  f"sectors that these erased: {erased_by(sizes, 20000 // 100, 2000 // 100)}"]
+    lines = []
     for writers in (1, 2, 8):
         taken = 40000 // 100 // writers * writers
         lines += [f"{writers} writer{'s' * (writers > 1)}"]
@@ -79,16 +49,12 @@ def wanted():
     for readers in ("1 reader", "4 readers"):
         lines += [readers, f"steps published one by one: {steps}"]
     lines += ["1 reader, of a tree", f"steps on a file of 192 bytes: {steps}", f"steps on a file of 1 MiB: {steps}"]
-    for writers, beside in CASTS:
-        requests = writers * (1 + 4000 // 100 // writers)
-        lines += [f"a script of {writers} writer{beside}"]
-        lines += [f"requests {where}: {requests}" for where in ("on a core alone", "over a shared line", "over rings")]
-    return lines
+    return lines + [f"{what}: {count}" for what, count in played((BENCH / "stdin").read_text()).items()]
 
 
 def counts(runner):
     """Compares the stored lines with those that are worked out here. No program is run."""
-    stored = (TOP / "crates/jffs_bench/stdout").read_text().splitlines()
+    stored = (BENCH / "stdout").read_text().splitlines()
     lines = wanted()
     for number in range(max(len(stored), len(lines))):
         found, line = stored[number:number + 1], lines[number:number + 1]

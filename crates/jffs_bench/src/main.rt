@@ -1,22 +1,22 @@
-//! The program `jffs_bench`: how long mounts, requests, lines, looks and whole scripts take.
+//! The program `jffs_bench`: how long the parts of a script's run, lines and looks take.
 //!
-//! Without arguments it measures all. With the word `check` each part runs in small, and no times
-//! are printed.
+//! With a number it reads a script from standard input, and runs it so often. Without a word it
+//! measures lines and looks. With the word `check` it does all of it in small, the script once, and
+//! prints no times.
 #![tactic(auto)]
 
 mod fault;
 mod lines;
 mod looks;
 mod measure;
-mod mounts;
-mod requests;
-mod scripts;
+mod parts;
 mod volume;
 
 use crate::fault::Fault;
 use crate::measure::{Measure, Scale};
+use crate::parts::measure_parts;
 use std::alloc::Global;
-use std::io::BufWriter;
+use std::io::{BufWriter, Read};
 use std::process::ExitCode;
 use std::rt::Runtime;
 use std::sync::Wait;
@@ -24,29 +24,67 @@ use std::thread::Threads;
 use std::{env, io};
 
 fn main(rt: HostRuntime) -> ExitCode {
-    match measure_all(&rt) {
+    let mut input = rt.reader();
+    match measure_all(&rt, &mut input) {
         Ok(()) => ExitCode::SUCCESS,
         Err(_) => ExitCode::FAILURE,
     }
 }
 
-fn measure_all<R: Runtime<A = Global> + Threads + Wait + Sync>(rt: &R) -> Result<(), Fault> {
-    let scale = if has_word(rt)? {
+/// What is measured.
+#[derive(Clone, Copy, Debug, PartialEq, Eq)]
+enum Work {
+    LinesAndLooks,
+    /// A script, so often.
+    Script(u32),
+    /// All in small.
+    Check,
+}
+
+fn measure_all<R: Runtime<A = Global> + Threads + Wait + Sync, I: Read>(
+    rt: &R,
+    input: &mut I,
+) -> Result<(), Fault> {
+    let work = work(rt)?;
+    let scale = if work == Work::Check {
         Scale::Check
     } else {
         Scale::Full
     };
     let out = BufWriter::new(rt.alloc(), io::writer(rt))?;
     let mut measure = Measure::new(out, scale);
-    mounts::measure_mounts(rt, rt.alloc(), &mut measure)?;
-    requests::measure_requests(rt, rt.alloc(), &mut measure)?;
-    lines::measure_lines(rt, rt.alloc(), &mut measure)?;
-    looks::measure_looks(rt, rt.alloc(), &mut measure)?;
-    scripts::measure_scripts(rt, rt.alloc(), &mut measure)?;
+    if work == Work::LinesAndLooks || work == Work::Check {
+        lines::measure_lines(rt, rt.alloc(), &mut measure)?;
+        looks::measure_looks(rt, rt.alloc(), &mut measure)?;
+    }
+    let times = match work {
+        Work::LinesAndLooks => 0,
+        Work::Script(times) => times,
+        Work::Check => 1,
+    };
+    if times > 0 {
+        let text = read_whole(rt.alloc(), input)?;
+        for _ in 0..times {
+            measure_parts(rt, rt.alloc(), text.as_slice(), &mut measure)?;
+        }
+    }
     measure.finish()
 }
 
-/// Whether the program was called with a word.
-fn has_word(rt: &impl Runtime<A = Global>) -> Result<bool, Fault> {
-    Ok(env::args(rt)?.nth(1).is_some())
+/// What the program's word asks for.
+fn work(rt: &impl Runtime<A = Global>) -> Result<Work, Fault> {
+    match env::args(rt)?.nth(1) {
+        None => Ok(Work::LinesAndLooks),
+        Some(word) => match word.parse::<u32>() {
+            Ok(times) => Ok(Work::Script(times)),
+            Err(_) => Ok(Work::Check),
+        },
+    }
+}
+
+/// All bytes of standard input.
+fn read_whole<R: Read>(alloc: Global, input: &mut R) -> Result<Vec<u8>, Fault> {
+    let mut text = Vec::new(alloc);
+    input.read_to_end(&mut text)?;
+    Ok(text)
 }

@@ -50,6 +50,21 @@ impl<W: Write + Drop> Measure<W> {
         Ok(())
     }
 
+    /// One line: a part, and the microseconds since `start`.
+    pub(crate) fn part<R: Clock>(
+        &mut self,
+        rt: &R,
+        what: &str,
+        start: Instant,
+    ) -> Result<(), Fault> {
+        let nanos = start.elapsed(rt)?.as_nanos();
+        match self.scale {
+            Scale::Full => writeln!(self.out, "{what}: {}.{}", nanos / 1000, nanos % 1000 / 100)?,
+            Scale::Check => {}
+        }
+        Ok(())
+    }
+
     /// One line without a time.
     pub(crate) fn count(&mut self, what: &str, count: u64) -> Result<(), Fault> {
         writeln!(self.out, "{what}: {count}")?;

@@ -1,94 +1,58 @@
-//! A mounted volume, and wishes of its writer 1.
+//! A mounted volume that answers a script's requests, and wishes to write.
 
 use crate::fault::Fault;
 use jffs_core::Core;
 use jffs_flash::MemoryFlash;
 use jffs_line::Request;
 use jffs_node::{Path, copied};
+use jffs_run::Script;
 use jffs_tree::{Outcome, Wish};
 use std::alloc::Global;
 
 /// The bytes of each write.
 pub(crate) const WRITE_LEN: u32 = 192;
 
-/// The sizes of a volume.
-#[derive(Clone, Copy, Debug)]
-pub(crate) struct Sizes {
-    pub(crate) name: &'static str,
-    pub(crate) sectors: u32,
-    pub(crate) sector_size: u32,
-}
-
-/// The largest volume that is allowed.
-pub(crate) const LARGEST: Sizes = Sizes {
-    name: "64 x 16384",
-    sectors: 64,
-    sector_size: 16384,
-};
-
-/// The smallest one.
-pub(crate) const SMALLEST: Sizes = Sizes {
-    name: "6 x 1024",
-    sectors: 6,
-    sector_size: 1024,
-};
-
-/// A volume with the number of the last request.
+/// A volume whose dead sectors are erased after each answer.
 #[derive(Drop)]
 pub(crate) struct Volume {
     pub(crate) core: Core<MemoryFlash>,
     pub(crate) alloc: Global,
-    seq: u32,
 }
 
 impl Volume {
-    /// An erased volume, mounted.
-    pub(crate) fn erased(alloc: Global, sizes: Sizes) -> Result<Volume, Fault> {
-        let flash = MemoryFlash::new(alloc, sizes.sectors, sizes.sector_size)?;
+    pub(crate) fn mounted(alloc: Global, flash: MemoryFlash) -> Result<Volume, Fault> {
         Ok(Volume {
             core: Core::mount(alloc, flash)?,
             alloc,
-            seq: 0,
         })
     }
 
-    /// Answers a wish.
-    pub(crate) fn ask(&mut self, wish: Wish) -> Result<Outcome, Fault> {
-        if self.core.closed() {
-            return Err(Fault::Refused);
-        }
+    /// Answers a request.
+    pub(crate) fn ask(&mut self, writer: u16, seq: u32, wish: Wish) -> Result<Outcome, Fault> {
         self.core.reserve_answer()?;
-        self.seq = self.seq.saturating_add(1);
-        Ok(
-            self.core.answer(Request {
-                writer: 1,
-                seq: self.seq,
-                wish,
-            }),
-        )
-    }
-
-    /// Answers a wish that is granted.
-    pub(crate) fn grant(&mut self, wish: Wish) -> Result<(), Fault> {
-        match self.ask(wish)? {
-            Outcome::Refused(_) => Err(Fault::Refused),
-            _ => Ok(()),
+        let outcome = self.core.answer(Request { writer, seq, wish });
+        if !self.core.closed() {
+            self.core.erase_dead()?;
         }
+        Ok(outcome)
     }
 
-    /// Writes to `/f` at an offset, and says whether there was room.
-    pub(crate) fn write(&mut self, offset: u32) -> Result<bool, Fault> {
-        let outcome = self.ask(write(self.alloc, offset)?)?;
-        Ok(!matches!(outcome, Outcome::Refused(_)))
-    }
-
-    pub(crate) fn into_flash(self) -> MemoryFlash {
-        let Volume {
-            core,
-            alloc: _,
-            seq: _,
-        } = self;
-        core.into_flash()
+    /// Answers the requests of each writer in turn; how many were refused.
+    pub(crate) fn answer_all(&mut self, script: &Script<'_>) -> Result<u64, Fault> {
+        let mut refused = 0u64;
+        let mut number = 0u16;
+        for writer in script.writers.iter() {
+            number = number.saturating_add(1);
+            let mut seq = 0u32;
+            for command in writer.commands.iter() {
+                seq = seq.saturating_add(1);
+                let wish = command.wish(self.alloc)?;
+                if let Outcome::Refused(_) = self.ask(number, seq, wish)? {
+                    refused = refused.saturating_add(1);
+                }
+            }
+        }
+        Ok(refused)
     }
 }
 

@@ -1,7 +1,9 @@
 -- Copies that are handed in.
-use Rattle.std.proofs.Common.{◌≡◌, ℕ, suc, ◌+◌, ◌≤◌, List, [], ◌∷◌, ◌++◌, length, map, drop, inl, inr, refl, sym, ap, subst, ◌∙◌, append_assoc, append-nil, length-append, arith, Option, Some, None}
+use Rattle.std.proofs.Common.{◌≡◌, ℕ, suc, ◌+◌, ◌≤◌, ◌<◌, List, [], ◌∷◌, ◌++◌, length, map, take, drop, get_or, inl, inr, refl, sym, ap, subst, ◌∙◌, append_assoc, append-nil, length-append, arith, Option, Some, None}
 use Rattle.std.specs.List.{cons_option}
+use Rattle.std.proofs.Math.Seq.{take-suc}
 use Rattle.std.proofs.lemmas.List.{map-append}
+use Rattle.std.proofs.lemmas.List.Elements.{filter_map-append}
 use Rattle.jffs_node.specs.declared.node.Node.{Node}
 use Rattle.jffs_node.specs.declared.read.Read.{Read}
 use Rattle.jffs_node.specs.declared.read.Read.TheVariants.{Closed, Free, Torn, Bad}
@@ -11,7 +13,7 @@ use Rattle.jffs_tree.specs.declared.wish.Wish.{Wish}
 use Rattle.jffs_tree.specs.Origin.{Tree}
 use Rattle.jffs_line.specs.declared.request.Request.{Request}
 use Rattle.jffs_serve.specs.declared.copies.Copying.{Copying}
-use Rattle.jffs_serve.specs.Copies.{IsCopy, HandsInCopies, AreSome}
+use Rattle.jffs_serve.specs.Copies.{IsCopy, HandsInCopies, AreSome, AddsSome}
 use Rattle.jffs_serve.specs.Copying.{copy_in, copies_of, wish_of, KeepsCopy}
 
 -- two stretches are one
@@ -106,25 +108,66 @@ record_read more max rest n len is = subst (λ (r : Read). (elim r as (λ _. Rea
   | Bad reason ↦ record { nodes = []; ending = Bad reason }
 ]).nodes ≡ n ∷ (reading_of more max (drop len rest)).nodes) is refl
 
+-- the copies of some nodes are some of the copies of all
+pub copies_of_some : (tree : Tree) (xs ys : List Node) → AreSome xs ys → AreSome (copies_of tree xs) (copies_of tree ys)
+copies_of_some tree [] ys some = tt
+copies_of_some tree (x ∷ xs) [] some = absurd some
+copies_of_some tree (x ∷ xs) (y ∷ ys) some = elim some [
+  | inl here ↦ subst (λ (n : Node). AreSome (copies_of tree (x ∷ xs)) (copies_of tree (n ∷ ys))) here.0 (with_one (copy_in tree x) (copies_of tree xs) (copies_of tree ys) (copies_of_some tree xs ys here.1))
+  | inr later ↦ node_passed tree y ys (copies_of tree (x ∷ xs)) (copies_of_some tree (x ∷ xs) ys later)
+]
+  where
+    with_one : (copy : Option Copying) (these all : List Copying) → AreSome these all → AreSome (cons_option copy these) (cons_option copy all)
+    with_one None these all are = are
+    with_one (Some c) these all are = inl (refl, are)
+
 -- where some of what is left to come are some of all after those that there are, so it is after one
 -- record more
 pub image_goes_on :
-    (tree : Tree) (all : List Copying) (count left max : ℕ) (rest rest' : List ℕ) (n : Node) (len : ℕ) (old new : List Copying)
-    → Closed n len ≡ found max rest → rest' ≡ drop len rest → count ≡ suc left → KeepsCopy tree n old new
-    → ((more : List Copying) → AreSome more (copies_of tree (reading_of count max rest).nodes) → AreSome (old ++ more) all)
-    → (more : List Copying) → AreSome more (copies_of tree (reading_of left max rest').nodes) → AreSome (new ++ more) all
-image_goes_on tree all count left max rest rest' n len old new is dropped counted keeps goes more some =
+    (all : List Node) (count left max : ℕ) (rest rest' : List ℕ) (n : Node) (len : ℕ) (old : List Node)
+    → Closed n len ≡ found max rest → rest' ≡ drop len rest → count ≡ suc left
+    → ((more : List Node) → AreSome more (reading_of count max rest).nodes → AreSome (old ++ more) all)
+    → (more : List Node) → AreSome more (reading_of left max rest').nodes → AreSome ((old ++ n ∷ []) ++ more) all
+image_goes_on all count left max rest rest' n len old is dropped counted goes more some =
     let nodes : List Node = (reading_of left max (drop len rest)).nodes in
-    let here : AreSome more (copies_of tree nodes) = subst (λ (r : List ℕ). AreSome more (copies_of tree (reading_of left max r).nodes)) dropped some in
+    let here : AreSome more nodes = subst (λ (r : List ℕ). AreSome more (reading_of left max r).nodes) dropped some in
     let reads : (reading_of count max rest).nodes ≡ n ∷ nodes = ap (λ (k : ℕ). (reading_of k max rest).nodes) counted ∙ record_read left max rest n len is in
-    let back : (copies : List Copying) → AreSome copies (copies_of tree (n ∷ nodes)) → AreSome (old ++ copies) all =
-    λ copies h. goes copies (subst (λ (ns : List Node). AreSome copies (copies_of tree ns)) (sym reads) h) in
-    elim keeps [
-      | inl same ↦ subst (λ (xs : List Copying). AreSome (xs ++ more) all) (sym same) (back more (node_passed tree n nodes more here))
-      | inr kept ↦ subst (λ (xs : List Copying). AreSome (xs ++ more) all) (sym kept.2)
-          (subst (λ (xs : List Copying). AreSome xs all) (sym (append_assoc old (kept.0 ∷ []) more)) (back (kept.0 ∷ more) (node_taken tree n nodes kept.0 more (sym kept.1) here)))
-    ]
+    subst (λ (xs : List Node). AreSome xs all) (sym (append_assoc old (n ∷ []) more))
+    (goes (n ∷ more) (subst (λ (ns : List Node). AreSome (n ∷ more) ns) (sym reads) (inl (refl, here))))
 
 -- nothing is left to come
-pub image_ends : (xs all : List Copying) → AreSome (xs ++ []) all → AreSome xs all
-image_ends xs all some = subst (λ (ys : List Copying). AreSome ys all) (append-nil xs) some
+pub image_ends : {A : Type 0} (xs all : List A) → AreSome (xs ++ []) all → AreSome xs all
+image_ends xs all some = subst (λ ys. AreSome ys all) (append-nil xs) some
+
+-- copies of one node more
+copies_added : (tree : Tree) (n : Node) (nodes : List Node) (before old new : List Copying) → KeepsCopy tree n old new → AddsSome before old (copies_of tree nodes) → AddsSome before new (copies_of tree (nodes ++ n ∷ []))
+copies_added tree n nodes before old new keeps added =
+    let all : copies_of tree (nodes ++ n ∷ []) ≡ copies_of tree nodes ++ copies_of tree (n ∷ []) = filter_map-append (copy_in tree) nodes (n ∷ []) in
+    elim keeps [
+      | inl same ↦ (
+        added.0,
+        same ∙ added.1,
+        subst (AreSome added.0) (sym all) (image_ends added.0 _ (some_along added.0 (copies_of tree nodes) [] (copies_of tree (n ∷ [])) added.2 tt)),
+      )
+      | inr kept ↦ (
+        added.0 ++ kept.0 ∷ [],
+        kept.2 ∙ (ap (λ (xs : List Copying). xs ++ kept.0 ∷ []) added.1 ∙ append_assoc before added.0 (kept.0 ∷ [])),
+        subst (AreSome (added.0 ++ kept.0 ∷ [])) (sym all)
+            (some_along added.0 (copies_of tree nodes) (kept.0 ∷ []) (copies_of tree (n ∷ [])) added.2 (node_taken tree n [] kept.0 [] (sym kept.1) tt)),
+      )
+    ]
+
+-- of a list's next node
+pub copies_go_on :
+    (tree : Tree) (nodes : List Node) (k : ℕ) (n : Node) (before old new : List Copying)
+    → k < length nodes → n ≡ get_or nodes k n → KeepsCopy tree n old new
+    → AddsSome before old (copies_of tree (take k nodes)) → AddsSome before new (copies_of tree (take (k + 1) nodes))
+copies_go_on tree nodes k n before old new below is keeps added =
+    let one_more : k + 1 ≡ suc k = omega arith in
+    let taken : take (k + 1) nodes ≡ take k nodes ++ n ∷ [] = ap (λ j. take j nodes) one_more ∙ take-suc nodes k n below ∙ ap (λ m. take k nodes ++ m ∷ []) (sym is) in
+    subst (λ (ns : List Node). AddsSome before new (copies_of tree ns)) (sym taken) (copies_added tree n (take k nodes) before old new keeps added)
+
+-- some copies of some of an image's nodes are some of the copies of all
+pub copies_looked : (tree : Tree) (some all : List Node) (copies : List Copying) → AreSome some all → AddsSome [] copies (copies_of tree some) → AreSome copies (copies_of tree all)
+copies_looked tree some all copies are added =
+    some_of_some copies (copies_of tree some) (copies_of tree all) (subst (λ (cs : List Copying). AreSome cs (copies_of tree some)) (sym added.1) added.2) (copies_of_some tree some all are)

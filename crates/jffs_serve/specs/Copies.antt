@@ -22,6 +22,10 @@ AreSome [] ys = Unit {0}
 AreSome (x ∷ xs) [] = ⊥
 AreSome (x ∷ xs) (y ∷ ys) = ((x ≡ y) × AreSome xs ys) ⊎ AreSome (x ∷ xs) ys
 
+-- some of these were added
+abbrev pub AddsSome : {A : Type 0} → List A → List A → List A → Type 0
+AddsSome {A} before now all = (more : List A) × (now ≡ before ++ more) × AreSome more all
+
 -- some of these wishes were accepted since
 abbrev pub HandsIn : List Wish → List Request → List Request → Type 0
 HandsIn wishes before now = (more : List Request) × (now ≡ before ++ more)

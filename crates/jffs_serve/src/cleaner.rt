@@ -5,15 +5,16 @@ ghost use Rattle.jffs_line.specs.declared.request.Request.{Request};
 ghost use Rattle.jffs_line.specs.Requests.{request};
 ghost use Rattle.jffs_index.specs.Histories.{BeginsWith, view_of};
 ghost use Rattle.jffs_index.specs.Ends.{known, index_of};
-ghost use Rattle.jffs_serve.specs.Copies.{HandsInCopies, HandsIn, AreSome};
+ghost use Rattle.jffs_serve.specs.Copies.{HandsInCopies, HandsIn, AreSome, AddsSome};
 ghost use Rattle.jffs_serve.specs.Copying.{copies_of, nodes_in, wish_of};
 ghost use Rattle.jffs_serve.specs.Cleaning.{Cleans, bytes_of};
 
-use crate::copies::{Copying, copies_in};
+use crate::copies::{Copying, add_copies, nodes_of};
 use crate::jobs::JobEnd;
 use crate::pauses::{Ended, Pauses};
 use jffs_index::{Reader, View};
 use jffs_line::{Hand, NotTaken, Why};
+use jffs_node::Node;
 use std::alloc::Global;
 use std::sync::Wait;
 
@@ -101,7 +102,8 @@ pub fn clean_until<R: Wait, H: Hand>(
     end
 }
 
-/// Looks once. None: nothing is published any more.
+/// Looks once. None: nothing is published any more. Whoever publishes waits for looks, so what
+/// takes long is done before: the image is read, and there is room for its copies.
 fn look(alloc: Global, reader: &mut Reader, image: &Option<Vec<u8>>) -> Option<Found>
     ensures index { index_of reader.new ≡ index_of reader.old }
     ensures grows { BeginsWith (known reader.new) (known reader.old) }
@@ -109,15 +111,30 @@ fn look(alloc: Global, reader: &mut Reader, image: &Option<Vec<u8>>) -> Option<F
         (λ found. AreSome found.copies.items
         (copies_of (view_of (known reader.new)).tree (nodes_in (bytes_of image.now)))) }
 {
-    let bytes = bytes_in(image);
+    let nodes = nodes_of(alloc, bytes_in(image));
+    let mut copies = Vec::new(alloc);
+    // Where it is refused, room is asked for with each copy.
+    let _ = copies.reserve(nodes.len());
+    find(reader, &nodes, copies)
+}
+
+/// Looks once, and adds the copies of these nodes that live then. None: nothing is published any
+/// more.
+fn find(reader: &mut Reader, nodes: &[Node], copies: Vec<Copying>) -> Option<Found>
+    ensures index { index_of reader.new ≡ index_of reader.old }
+    ensures grows { BeginsWith (known reader.new) (known reader.old) }
+    ensures found { IfSome result
+        (λ found. AddsSome copies.items found.copies.items
+        (copies_of (view_of (known reader.new)).tree nodes.now)) }
+{
     reader.look(
         |view: &View| -> Found
-            ensures { AreSome result.copies.items
-                (copies_of view.now.tree (nodes_in bytes.entry.now)) }
+            ensures { AddsSome copies.items result.copies.items
+                (copies_of view.now.tree nodes.entry.now) }
         {
             Found {
                 closed: view.closed(),
-                copies: copies_in(alloc, view, bytes),
+                copies: add_copies(view, nodes, copies),
             }
         },
     )

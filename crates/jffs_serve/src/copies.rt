@@ -1,7 +1,7 @@
 //! The copies that a cleaner asks for: what an image of a sector says that still lives in a view.
 
 ghost use Rattle.std.specs.Prelude.{◌≡◌, drop, IfOk};
-ghost use Rattle.jffs_serve.specs.Copies.{IsCopy, AreSome};
+ghost use Rattle.jffs_serve.specs.Copies.{IsCopy, AreSome, AddsSome};
 ghost use Rattle.jffs_serve.specs.Copying.{copy_in, copies_of, nodes_in, wish_of, KeepsCopy};
 
 use jffs_index::View;
@@ -43,22 +43,24 @@ impl Copying {
     }
 }
 
-/// The copies of the records of an image that live in the view, in order. Where memory is refused
-/// for one, it is left out; for the record itself, what is after it is left out too.
-pub(crate) fn copies_in(alloc: Global, view: &View, image: &[u8]) -> Vec<Copying>
-    ensures { AreSome result.items (copies_of view.now.tree (nodes_in image.now)) }
+/// The nodes of an image's records, in order. Where memory is refused for one, it is left out, and
+/// what is after it.
+pub(crate) fn nodes_of(alloc: Global, image: &[u8]) -> Vec<Node>
+    ensures { AreSome result.items (nodes_in image.now) }
 {
-    let mut copies = Vec::new(alloc);
+    let mut nodes = Vec::new(alloc);
     let record_max = u32::try_from(image.len() / RECORDS_PER_SECTOR as usize).unwrap_or(u32::MAX);
     let mut rest = image;
     for _done in 0..image.len() / HEADER_LEN {
         let Ok(Read::Closed(node, len)) = decode(alloc, rest, record_max) else {
             break;
         };
-        keep_copy(view, &node, &mut copies);
+        if nodes.push(node).is_err() {
+            break;
+        }
         rest = after(rest, len);
     }
-    copies
+    nodes
 }
 
 /// What stands after the first `len` bytes.
@@ -70,6 +72,18 @@ fn after(rest: &[u8], len: u32) -> &[u8]
     } else {
         &[]
     }
+}
+
+/// The copies of the nodes that live in the view, in order, after those that there are. Where
+/// memory is refused for one, it is left out.
+pub(crate) fn add_copies(view: &View, nodes: &[Node], copies: Vec<Copying>) -> Vec<Copying>
+    ensures { AddsSome copies.items result.items (copies_of view.now.tree nodes.now) }
+{
+    let mut copies = copies;
+    for node in nodes {
+        keep_copy(view, node, &mut copies);
+    }
+    copies
 }
 
 /// Adds the copy of a node that lives in the view. Without memory it is left out.

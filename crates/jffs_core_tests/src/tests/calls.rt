@@ -3,139 +3,182 @@
 //! and its data, and after it 64 bytes have to be free, so three of the largest data stand in a
 //! sector of 1,024 bytes.
 
-use crate::tests::session::SECTOR_SIZE;
-use jffs_core::{Answered, Cleaned, Core};
+use crate::tests::session::{SECTOR_SIZE, mount_or_why};
+use crate::tests::wishes::wish_of;
+use jffs_core::{Answer, Answered, Cleaned, Core};
 use jffs_flash::MemoryFlash;
 use jffs_line::Request;
-use jffs_node::{Kind, Node, Path, copied};
-use jffs_tree::{Cause, Limits, Outcome, Wish};
+use jffs_node::{Kind, Node, ROOT_INODE};
+use jffs_tree::{Cause, Limits, Outcome};
 use std::alloc::Global;
 use std::process::Abort;
 use std::test::Fail;
 
 fn mounted(alloc: Global) -> Result<Core<MemoryFlash>, Fail> {
     let flash = MemoryFlash::new(alloc, 6, SECTOR_SIZE)?;
-    Ok(Core::mount(alloc, flash).map_err(|fault| fault.why)?)
+    Ok(mount_or_why(alloc, flash)?)
 }
 
-/// The answer to a wish of writer 1.
-fn answered(core: &mut Core<MemoryFlash>, seq: u32, wish: Wish) -> Result<Answered, Fail> {
+/// The answer to a request.
+fn answer(core: &mut Core<MemoryFlash>, request: &Request) -> Result<Answered, Cause> {
     core.reserve_answer()?;
-    Ok(core.answer_with_node(&Request {
+    Ok(core.answer_with_node(request))
+}
+
+/// The answer to a line's wish, of writer 1.
+fn answered(
+    alloc: Global,
+    core: &mut Core<MemoryFlash>,
+    seq: u32,
+    line: &str,
+) -> Result<Answered, Fail> {
+    let request = Request {
         writer: 1,
         seq,
-        wish,
-    }))
+        wish: wish_of(alloc, line)?,
+    };
+    Ok(answer(core, &request)?)
 }
 
-fn create(alloc: Global, path: &str) -> Result<Wish, Fail> {
-    Ok(Wish::Create(Path::parse(alloc, path)?))
+/// What became of a line's wish.
+fn outcome_of(
+    alloc: Global,
+    core: &mut Core<MemoryFlash>,
+    seq: u32,
+    line: &str,
+) -> Result<Outcome, Fail> {
+    Ok(answered(alloc, core, seq, line)?.outcome)
 }
 
-fn write(alloc: Global, path: &str, offset: u32, bytes: &[u8]) -> Result<Wish, Fail> {
-    Ok(Wish::Write {
-        path: Path::parse(alloc, path)?,
-        offset,
-        bytes: copied(alloc, bytes)?,
-    })
+/// Whether a node has these numbers: its inode, its parent and its version, of a request's sender
+/// its number and the request's.
+fn has_numbers(node: &Node, numbers: [u32; 5]) -> bool {
+    numbers
+        == [
+            node.inode,
+            node.parent,
+            node.version,
+            u32::from(node.writer),
+            node.seq,
+        ]
 }
 
-fn rename(alloc: Global, from: &str, to: &str) -> Result<Wish, Fail> {
-    Ok(Wish::Rename {
-        from: Path::parse(alloc, from)?,
-        to: Path::parse(alloc, to)?,
-    })
-}
-
-/// A file `f` in the root, its number and its version.
-fn is_new_file(rt: &impl Abort, node: &Node, inode: u32, version: u32) -> Result<(), Fail> {
-    assert_eq!(rt;
-        (node.kind, node.deleted, node.copy),
-        (Kind::File, false, false)
-    );
-    assert_eq!(rt;
-        (node.inode, node.parent, node.version),
-        (inode, 1, version)
-    );
-    assert_eq!(rt; (node.writer, node.seq, node.size), (1, 1, Some(0)));
-    let name = node.name.ok_or("a name")?;
-    assert_eq!(rt; name.bytes(), b"f".as_slice());
-    Ok(())
+/// Whether a node is about an empty file `f`.
+fn is_new_file(node: &Node) -> bool {
+    let named = match &node.name {
+        Some(name) => name.bytes() == b"f".as_slice(),
+        None => false,
+    };
+    named && node.kind == Kind::File && !node.deleted && !node.copy && node.size == Some(0)
 }
 
 #[test]
 fn an_answer_comes_with_its_node(rt: HostRuntime) -> Result<(), Fail> {
-    let alloc = rt.alloc();
-    let mut core = mounted(alloc)?;
-    let made = answered(&mut core, 1, create(alloc, "/f")?)?;
+    let mut core = mounted(rt.alloc())?;
+    comes_with_its_node(&rt, rt.alloc(), &mut core)?;
+    comes_without_node(&rt, rt.alloc(), &mut core)
+}
+
+/// A file `f` in the root, by the first request.
+fn comes_with_its_node(
+    rt: &impl Abort,
+    alloc: Global,
+    core: &mut Core<MemoryFlash>,
+) -> Result<(), Fail> {
+    let Answered { outcome, node } = answered(alloc, core, 1, "create /f")?;
     let wanted = Outcome::Appended {
         inode: 2,
         version: 1,
     };
-    assert_eq!(rt; made.outcome, wanted);
-    is_new_file(&rt, &made.node.ok_or("a node")?, 2, 1)?;
-    let refused = answered(&mut core, 2, create(alloc, "/f")?)?;
-    assert_eq!(rt; refused.outcome, Outcome::Refused(Cause::NameTaken));
-    assert!(rt; refused.node.is_none());
+    assert!(rt; outcome == wanted);
+    let node = node.ok_or("a node")?;
+    assert!(rt; has_numbers(&node, [2, 1, 1, 1, 1]));
+    assert!(rt; is_new_file(&node));
+    Ok(())
+}
+
+/// The same by the second.
+fn comes_without_node(
+    rt: &impl Abort,
+    alloc: Global,
+    core: &mut Core<MemoryFlash>,
+) -> Result<(), Fail> {
+    let Answered { outcome, node } = answered(alloc, core, 2, "create /f")?;
+    assert!(rt; outcome == Outcome::Refused(Cause::NameTaken));
+    assert!(rt; node.is_none());
     Ok(())
 }
 
 #[test]
 fn an_unmount_comes_with_its_node(rt: HostRuntime) -> Result<(), Fail> {
-    let mut core = mounted(rt.alloc())?;
-    let closed = answered(&mut core, 1, Wish::Unmount)?;
-    assert_eq!(rt; closed.outcome, Outcome::Closed);
-    let node = closed.node.ok_or("a node")?;
-    assert_eq!(rt; (node.kind, node.version), (Kind::Unmount, 1));
+    let Answered { outcome, node } = answered(rt.alloc(), &mut mounted(rt.alloc())?, 1, "unmount")?;
+    assert!(rt; outcome == Outcome::Closed);
+    let node = node.ok_or("a node")?;
+    assert!(rt; node.kind == Kind::Unmount);
+    assert!(rt; node.version == 1);
     Ok(())
 }
 
+/// What stands after a file was created.
+const CREATED: Limits = Limits {
+    data_max: 192,
+    next_inode: Some(3),
+    next_version: Some(2),
+};
+
 #[test]
 fn a_core_gives_back_its_device_and_its_answers(rt: HostRuntime) -> Result<(), Fail> {
-    let alloc = rt.alloc();
-    let mut core = mounted(alloc)?;
-    answered(&mut core, 1, create(alloc, "/f")?)?;
-    answered(&mut core, 2, create(alloc, "/f")?)?;
-    let limits = Limits {
-        data_max: 192,
-        next_inode: Some(3),
-        next_version: Some(2),
-    };
-    assert_eq!(rt; core.limits(), limits);
-    let (flash, answers) = core.into_parts();
-    assert_eq!(rt; answers.len(), 2);
-    assert!(rt;
-        answers
-            .iter()
-            .zip(1..)
-            .all(|(answer, seq)| answer.seq == seq)
-    );
-    let core = Core::mount(alloc, flash).map_err(|fault| fault.why)?;
-    assert_eq!(rt; core.limits(), limits);
+    let mut core = mounted(rt.alloc())?;
+    outcome_of(rt.alloc(), &mut core, 1, "create /f")?;
+    outcome_of(rt.alloc(), &mut core, 2, "create /f")?;
+    assert!(rt; core.limits() == CREATED);
+    let core = mounted_again(&rt, rt.alloc(), core)?;
+    assert!(rt; core.limits() == CREATED);
     assert!(rt; core.answers().is_empty());
     Ok(())
+}
+
+/// Takes apart a core that answered two requests, and mounts its device again.
+fn mounted_again(
+    rt: &impl Abort,
+    alloc: Global,
+    core: Core<MemoryFlash>,
+) -> Result<Core<MemoryFlash>, Fail> {
+    let (flash, answers) = core.into_parts();
+    assert!(rt; are_two(&answers));
+    Ok(mount_or_why(alloc, flash)?)
+}
+
+/// Whether these are the answers to requests 1 and 2.
+fn are_two(answers: &[Answer]) -> bool {
+    match answers {
+        [first, second] => first.seq == 1 && second.seq == 2,
+        _ => false,
+    }
 }
 
 /// Grows a file by 192 bytes, of which three records fit beside the file's own in the first sector
 /// and three with 64 bytes for an unmount node in each of the others.
 fn grown(alloc: Global, core: &mut Core<MemoryFlash>, turn: u32) -> Result<(), Fail> {
-    let wish = write(alloc, "/f", turn.saturating_mul(192), &[0x61; 192])?;
-    match answered(core, turn.saturating_add(2), wish)?.outcome {
+    let offset = turn.saturating_mul(192);
+    let line = format!(in alloc; "write /f {offset} 192*a")?;
+    match outcome_of(alloc, core, turn.saturating_add(2), line.as_str())? {
         Outcome::Appended { .. } => Ok(()),
         _ => Err("it has room".into()),
     }
 }
 
-#[test]
-fn a_cleaner_is_wanted_once_half_of_the_sectors_are_in_use(rt: HostRuntime) -> Result<(), Fail> {
-    let alloc = rt.alloc();
-    let mut core = mounted(alloc)?;
-    assert!(rt; !core.wants_cleaning());
-    answered(&mut core, 1, create(alloc, "/f")?)?;
+/// Grows a file nine times. From the seventh on a cleaner is wanted.
+fn grows(rt: &impl Abort, alloc: Global, core: &mut Core<MemoryFlash>) -> Result<(), Fail> {
     for turn in 0..9u32 {
-        grown(alloc, &mut core, turn)?;
+        grown(alloc, core, turn)?;
         assert_eq!(rt; core.wants_cleaning(), turn >= 6, "after {turn}");
     }
+    Ok(())
+}
+
+/// The image of the oldest sector is what the device begins with.
+fn begins_with_the_oldest(rt: &impl Abort, core: &mut Core<MemoryFlash>) -> Result<(), Fail> {
     if core.failed() || core.log().held() < 1 {
         return Err("three sectors hold the log".into());
     }
@@ -145,37 +188,60 @@ fn a_cleaner_is_wanted_once_half_of_the_sectors_are_in_use(rt: HostRuntime) -> R
     Ok(())
 }
 
+#[test]
+fn a_cleaner_is_wanted_once_half_of_the_sectors_are_in_use(rt: HostRuntime) -> Result<(), Fail> {
+    let mut core = mounted(rt.alloc())?;
+    assert!(rt; !core.wants_cleaning());
+    outcome_of(rt.alloc(), &mut core, 1, "create /f")?;
+    grows(&rt, rt.alloc(), &mut core)?;
+    begins_with_the_oldest(&rt, &mut core)
+}
+
 /// Two files of which one was renamed, and the other was written three times; all in one sector
 /// but for the last record.
-fn renamed(alloc: Global) -> Result<Core<MemoryFlash>, Fail> {
-    let mut core = mounted(alloc)?;
-    let mut wishes = vec![in alloc; create(alloc, "/a")?, write(alloc, "/a", 0, b"hello")?]?;
-    wishes.push(rename(alloc, "/a", "/b")?)?;
-    wishes.push(create(alloc, "/z")?)?;
-    for _ in 0..3 {
-        wishes.push(write(alloc, "/z", 0, &[0x61; 192])?)?;
+const RENAMED: &str = "create /a
+     write /a 0 hello
+     rename /a /b
+     create /z
+     write /z 0 192*a
+     write /z 0 192*a
+     write /z 0 192*a";
+
+/// Answers a line's wish, which has the version that its request's number is.
+fn appends(alloc: Global, core: &mut Core<MemoryFlash>, seq: u32, line: &str) -> Result<(), Fail> {
+    match outcome_of(alloc, core, seq, line)? {
+        Outcome::Appended { version, .. } if version == seq => Ok(()),
+        _ => Err("it is appended".into()),
     }
+}
+
+fn appends_all(alloc: Global, core: &mut Core<MemoryFlash>, run: &str) -> Result<(), Fail> {
     let mut seq = 0u32;
-    for wish in wishes {
+    for line in run.lines() {
         seq = seq.saturating_add(1);
-        match answered(&mut core, seq, wish)?.outcome {
-            Outcome::Appended { version, .. } if version == seq => {}
-            _ => return Err("it is appended".into()),
-        }
+        appends(alloc, core, seq, line)?;
     }
-    Ok(core)
+    Ok(())
+}
+
+fn clean_oldest(core: &mut Core<MemoryFlash>) -> Result<Cleaned, Cause> {
+    core.clean_oldest()
+}
+
+fn names_of_root(core: &Core<MemoryFlash>) -> Result<usize, Fail> {
+    Ok(core.tree().names(ROOT_INODE)?.len())
 }
 
 /// The write of `hello` is copied with the new name; the record of the rename is dead then.
 #[test]
 fn a_cleaning_is_done_at_the_first_call(rt: HostRuntime) -> Result<(), Fail> {
-    let mut core = renamed(rt.alloc())?;
+    let mut core = mounted(rt.alloc())?;
+    appends_all(rt.alloc(), &mut core, RENAMED)?;
     let wanted = Cleaned::Erased {
         sector: 0,
         copies: 1,
     };
-    assert_eq!(rt; core.clean_oldest(), Ok(wanted));
-    let names = core.tree().names(1)?;
-    assert_eq!(rt; names.len(), 2);
+    assert!(rt; clean_oldest(&mut core) == Ok(wanted));
+    assert!(rt; names_of_root(&core)? == 2);
     Ok(())
 }

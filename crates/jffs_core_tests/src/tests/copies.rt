@@ -1,7 +1,8 @@
 //! Copies that a sender hands in.
 //! Causes are those of docs/SCRIPT.md, and where records stand is counted from docs/FORMAT.md.
 
-use crate::tests::session::{Session, holds, is_blank, part};
+use crate::tests::session::Session;
+use crate::tests::unchanged::changes_nothing;
 use jffs_flash::MemoryFlash;
 use std::process::Abort;
 use std::test::Fail;
@@ -21,40 +22,45 @@ fn stale_and_needless_copies(rt: HostRuntime) -> Result<(), Fail> {
          remove /f : appended 2 5
          copy 4 f 0 Jello : refused NotNeeded",
     )?;
-    let image = session.image()?;
-    assert!(rt; is_blank(part(&image, 352, 8192)));
+    assert!(rt; session.is_blank(352, 8192));
     Ok(())
 }
 
 #[test]
 fn copies_never_clean(rt: HostRuntime) -> Result<(), Fail> {
     let mut session = Session::erased(rt.alloc(), 6)?;
-    session.play(&rt, "create /f : appended 2 1")?;
-    for source in 1..45 {
-        copies_again(&rt, &mut session, source)?;
-    }
-    for sector in 0..3 {
-        assert_eq!(rt; session.records_in(sector), 15);
-    }
-    let full = session.image_now()?;
-    session.play(&rt, "copy 45 f 0 - : refused NoSpace")?;
-    assert!(rt; session.image_now()? == full);
+    copies_to_the_full(&rt, &mut session)?;
+    changes_nothing(&rt, &mut session, "copy 45 f 0 - : refused NoSpace")?;
     session.play(
         &rt,
-        "copy 45 f 0 193*\0 : refused DataLong
+        "count records-in 0 : 15
+         count records-in 1 : 15
+         count records-in 2 : 15
+         copy 45 f 0 193*\0 : refused DataLong
          copy 0 f 0 - : refused NotNeeded
          copy 44 f 0 - : refused NotNeeded
          copy 45 f 1 - : refused Stale
          write /f 0 x : appended 2 46",
     )?;
-    let image = session.image()?;
-    assert!(rt; is_blank(part(&image, 0, 1024)));
-    holds(&rt, &image, 3088, &[0, 0, 0, 46]);
+    assert!(rt; session.is_blank(0, 1024));
+    session.holds(&rt, 3088, &[0, 0, 0, 46]);
+    Ok(())
+}
+
+/// The last node of a file is copied until a further copy has no room.
+pub(super) fn copies_to_the_full(
+    rt: &impl Abort,
+    session: &mut Session<MemoryFlash>,
+) -> Result<(), Fail> {
+    session.play(rt, "create /f : appended 2 1")?;
+    for source in 1..45 {
+        copies_again(rt, session, source)?;
+    }
     Ok(())
 }
 
 /// The node of this version is copied, with the next one.
-pub(super) fn copies_again(
+fn copies_again(
     rt: &impl Abort,
     session: &mut Session<MemoryFlash>,
     source: u32,

@@ -3,13 +3,10 @@
 
 use crate::tests::session::Session;
 use jffs_flash::MemoryFlash;
-use jffs_node::Path;
 use jffs_tree::Outcome;
-use std::alloc::Global;
+use std::alloc::{AllocError, Global};
 use std::process::Abort;
 use std::test::Fail;
-
-const NAMES: [&str; 4] = ["/a", "/b", "/c", "/d"];
 
 /// What is asked for of a file.
 #[derive(Clone, Copy)]
@@ -37,93 +34,162 @@ fn ask_of(turn: usize) -> Ask {
     }
 }
 
-fn line_of(alloc: Global, ask: Ask, name: &str) -> Result<String, Fail> {
-    Ok(match ask {
-        Ask::Create => format!(in alloc; "create {name}")?,
-        Ask::Write { offset, len } => format!(in alloc; "write {name} {offset} {len}*x")?,
-        Ask::Cut { size } => format!(in alloc; "truncate {name} {size}")?,
-        Ask::Remove => format!(in alloc; "remove {name}")?,
-    })
-}
-
-/// Does what is asked for to a file that the test keeps, and says whether it could be done.
-fn done(alloc: Global, file: &mut Option<Vec<u8>>, ask: Ask) -> Result<bool, Fail> {
-    let there = file.is_some();
-    match (ask, file.as_mut()) {
-        (Ask::Create, None) => *file = Some(Vec::new(alloc)),
-        (Ask::Create, Some(_)) => return Ok(false),
-        (Ask::Write { offset, len }, Some(bytes)) => put(bytes, offset, len)?,
-        (Ask::Cut { size }, Some(bytes)) => {
-            grow(bytes, size)?;
-            bytes.truncate(size);
-        }
-        (Ask::Remove, _) => *file = None,
-        (_, None) => (),
+fn line_of(alloc: Global, ask: Ask, name: char) -> Result<String, AllocError> {
+    match ask {
+        Ask::Create => format!(in alloc; "create /{name}"),
+        Ask::Write { offset, len } => format!(in alloc; "write /{name} {offset} {len}*x"),
+        Ask::Cut { size } => format!(in alloc; "truncate /{name} {size}"),
+        Ask::Remove => format!(in alloc; "remove /{name}"),
     }
-    Ok(there || matches!(ask, Ask::Create))
 }
 
-fn grow(bytes: &mut Vec<u8>, size: usize) -> Result<(), Fail> {
+/// A file that the test keeps, whether it is there or not.
+#[derive(Drop)]
+struct Kept {
+    name: char,
+    there: bool,
+    bytes: Vec<u8>,
+}
+
+impl Kept {
+    fn new(alloc: Global, name: char) -> Kept {
+        Kept {
+            name,
+            there: false,
+            bytes: Vec::new(alloc),
+        }
+    }
+
+    /// Does what is asked for, and says whether it could be done.
+    fn take(&mut self, ask: Ask) -> Result<bool, AllocError> {
+        match ask {
+            Ask::Create => Ok(self.create()),
+            Ask::Write { offset, len } => self.write(offset, len),
+            Ask::Cut { size } => self.cut(size),
+            Ask::Remove => Ok(self.remove()),
+        }
+    }
+
+    fn create(&mut self) -> bool {
+        let granted = !self.there;
+        self.there = true;
+        granted
+    }
+
+    fn write(&mut self, offset: usize, len: usize) -> Result<bool, AllocError> {
+        if self.there {
+            put(&mut self.bytes, offset, len)?;
+        }
+        Ok(self.there)
+    }
+
+    fn cut(&mut self, size: usize) -> Result<bool, AllocError> {
+        if self.there {
+            grow(&mut self.bytes, size)?;
+            self.bytes.truncate(size);
+        }
+        Ok(self.there)
+    }
+
+    fn remove(&mut self) -> bool {
+        let granted = self.there;
+        self.there = false;
+        self.bytes.clear();
+        granted
+    }
+}
+
+fn grow(bytes: &mut Vec<u8>, size: usize) -> Result<(), AllocError> {
     for _ in bytes.len()..size {
         bytes.push(0)?;
     }
     Ok(())
 }
 
-fn put(bytes: &mut Vec<u8>, offset: usize, len: usize) -> Result<(), Fail> {
-    grow(bytes, offset.saturating_add(len))?;
-    for byte in bytes.iter_mut().skip(offset).take(len) {
-        *byte = b'x';
+fn put(bytes: &mut Vec<u8>, offset: usize, len: usize) -> Result<(), AllocError> {
+    let end = offset.saturating_add(len);
+    grow(bytes, end)?;
+    for place in offset..end {
+        if let Some(byte) = bytes.get_mut(place) {
+            *byte = b'x';
+        }
     }
     Ok(())
 }
 
+/// The four files; none is there.
+fn none_kept(alloc: Global) -> Result<Vec<Kept>, AllocError> {
+    let mut files = Vec::new(alloc);
+    for name in ['a', 'b', 'c', 'd'] {
+        files.push(Kept::new(alloc, name))?;
+    }
+    Ok(files)
+}
+
 /// After another mount of what the device has now, each file is as the test keeps it.
-fn found(
-    rt: &impl Abort,
-    session: &Session<MemoryFlash>,
-    files: &[Option<Vec<u8>>],
-) -> Result<(), Fail> {
-    let after = Session::mounted(session.alloc, 6, session.image_now()?)?;
-    for (name, file) in NAMES.iter().zip(files.iter()) {
-        assert!(rt; is_kept(&after, name, file)?, "at {name}");
+fn found(rt: &impl Abort, session: &Session<MemoryFlash>, files: &[Kept]) -> Result<(), Fail> {
+    let image = session.image()?;
+    are_kept(rt, &Session::mounted(session.alloc, 6, image)?, files)
+}
+
+/// Each file is as the test keeps it.
+fn are_kept(rt: &impl Abort, session: &Session<MemoryFlash>, files: &[Kept]) -> Result<(), Fail> {
+    for file in files {
+        assert!(rt; is_kept(session, file)?, "at {}", file.name);
     }
     Ok(())
 }
 
 /// Whether a file is as the test keeps it.
-fn is_kept(
-    session: &Session<MemoryFlash>,
-    name: &str,
-    file: &Option<Vec<u8>>,
-) -> Result<bool, Fail> {
-    match (inode_at(session, name)?, file) {
-        (Some(inode), Some(bytes)) => Ok(session.whole(inode)? == *bytes),
-        (inode, file) => Ok(inode.is_none() && file.is_none()),
+fn is_kept(session: &Session<MemoryFlash>, file: &Kept) -> Result<bool, Fail> {
+    match inode_of(session, file.name)? {
+        Some(inode) => Ok(file.there && has_whole(session, inode, &file.bytes)?),
+        None => Ok(!file.there),
     }
 }
 
-fn inode_at(session: &Session<MemoryFlash>, name: &str) -> Result<Option<u32>, Fail> {
-    let path = Path::parse(session.alloc, name)?;
-    Ok(session.core.tree().resolve(&path))
+fn inode_of(session: &Session<MemoryFlash>, name: char) -> Result<Option<u32>, Fail> {
+    let path = format!(in session.alloc; "/{name}")?;
+    session.inode_at(path.as_str())
+}
+
+/// Whether a file has these bytes and no more.
+fn has_whole(session: &Session<MemoryFlash>, inode: u32, bytes: &[u8]) -> Result<bool, AllocError> {
+    let whole = session.whole(inode)?;
+    Ok(whole.as_slice() == bytes)
+}
+
+/// Asks for what is wanted of a file. It is granted where it can be done to the kept one.
+fn asked(
+    rt: &impl Abort,
+    session: &mut Session<MemoryFlash>,
+    file: &mut Kept,
+    ask: Ask,
+) -> Result<(), Fail> {
+    let line = line_of(session.alloc, ask, file.name)?;
+    let granted = matches!(session.ask(line.as_str())?, Outcome::Appended { .. });
+    assert!(rt; granted == file.take(ask)?, "at {line}");
+    Ok(())
 }
 
 #[test]
 fn what_is_answered_outlives_a_loss_of_power(rt: HostRuntime) -> Result<(), Fail> {
-    let alloc = rt.alloc();
-    let mut session = Session::erased(alloc, 6)?;
-    let mut files = [None, None, None, None];
+    let mut session = Session::erased(rt.alloc(), 6)?;
+    outlive(&rt, &mut session, &mut none_kept(rt.alloc())?)?;
+    assert!(rt; session.erases() > 6);
+    Ok(())
+}
+
+/// Files are asked for one after another. After each answer a mount finds what was answered.
+fn outlive(
+    rt: &impl Abort,
+    session: &mut Session<MemoryFlash>,
+    files: &mut [Kept],
+) -> Result<(), Fail> {
     for turn in 0..300 {
-        let ask = ask_of(turn);
-        let line = line_of(alloc, ask, NAMES[turn % 4])?;
-        let granted = matches!(session.ask(line.as_str())?, Outcome::Appended { .. });
-        assert_eq!(rt;
-            granted,
-            done(alloc, &mut files[turn % 4], ask)?,
-            "at {line}"
-        );
-        found(&rt, &session, files.as_slice())?;
+        let file = files.get_mut(turn % 4).ok_or("no such file")?;
+        asked(rt, session, file, ask_of(turn))?;
+        found(rt, session, files)?;
     }
-    assert!(rt; session.core.log().erases() > 6);
     Ok(())
 }

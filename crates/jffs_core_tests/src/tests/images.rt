@@ -44,54 +44,53 @@ pub(super) const WRITTEN_NOTHING: [u8; 64] = [
     0, 0, 0, 0, 0, 0, 0,
 ];
 
-/// An erased volume with these bytes at these offsets.
-fn image_of(
-    alloc: Global,
-    sectors: usize,
-    written: &[(usize, &[u8])],
-) -> Result<Vec<u8>, AllocError> {
-    let mut image = Vec::new(alloc);
-    for offset in 0..sectors.saturating_mul(1024) {
-        let byte = written
-            .iter()
-            .find_map(|(at, bytes)| bytes.get(offset.checked_sub(*at)?).copied());
-        image.push(byte.unwrap_or(ERASED_BYTE))?;
+/// Puts bytes into an image at an offset.
+fn put(image: &mut [u8], at: usize, bytes: &[u8]) {
+    let mut place = at;
+    for byte in bytes {
+        if let Some(found) = image.get_mut(place) {
+            *found = *byte;
+        }
+        place = place.saturating_add(1);
     }
-    Ok(image)
+}
+
+/// Puts the first bytes of a record there, and zeros after them, 64 bytes in all.
+fn put_record(image: &mut [u8], at: usize, bytes: &[u8]) {
+    for place in at..at.saturating_add(64) {
+        if let Some(found) = image.get_mut(place) {
+            *found = 0;
+        }
+    }
+    put(image, at, bytes);
+}
+
+/// An erased volume of so many sectors of 1024 bytes.
+fn blank(alloc: Global, sectors: usize) -> Result<Vec<u8>, AllocError> {
+    vec![in alloc; ERASED_BYTE; sectors.saturating_mul(1024)]
 }
 
 /// A volume of 8 sectors of 1024 bytes, as one was left before files had sizes in their records.
 pub(super) fn image_of_old_form(alloc: Global) -> Result<Vec<u8>, AllocError> {
-    image_of(
-        alloc,
-        8,
-        &[
-            (0, CREATED.as_slice()),
-            (45, [0; 19].as_slice()),
-            (64, WRITTEN.as_slice()),
-            (109, [0; 19].as_slice()),
-            (128, b"hello".as_slice()),
-            (136, UNMOUNTED.as_slice()),
-            (181, [0; 19].as_slice()),
-        ],
-    )
+    let mut image = blank(alloc, 8)?;
+    put_record(&mut image, 0, CREATED.as_slice());
+    put_record(&mut image, 64, WRITTEN.as_slice());
+    put(&mut image, 128, b"hello".as_slice());
+    put_record(&mut image, 136, UNMOUNTED.as_slice());
+    Ok(image)
 }
 
 /// A volume of 6 sectors of 1024 bytes in which no version is left.
 pub(super) fn image_of_last_version(alloc: Global) -> Result<Vec<u8>, AllocError> {
-    image_of(alloc, 6, &[(0, LAST.as_slice()), (45, [0; 19].as_slice())])
+    let mut image = blank(alloc, 6)?;
+    put_record(&mut image, 0, LAST.as_slice());
+    Ok(image)
 }
 
 /// A volume of 6 sectors of 1024 bytes with a directory of the last inode, and of version 1.
 pub(super) fn image_of_last_inode(alloc: Global) -> Result<Vec<u8>, AllocError> {
-    image_of(
-        alloc,
-        6,
-        &[
-            (8, [0xFF; 4].as_slice()),
-            (16, [0, 0, 0, 1].as_slice()),
-            (0, LAST.as_slice()),
-            (45, [0; 19].as_slice()),
-        ],
-    )
+    let mut image = image_of_last_version(alloc)?;
+    put(&mut image, 8, [0xFF; 4].as_slice());
+    put(&mut image, 16, [0, 0, 0, 1].as_slice());
+    Ok(image)
 }

@@ -1,6 +1,6 @@
 //! Memory flash that counts what it is called for.
 
-use crate::tests::session::{SECTOR_SIZE, Session};
+use crate::tests::session::{SECTOR_SIZE, Session, erased_flash};
 use jffs_flash::{Flash, FlashFault, MemoryFlash};
 use std::alloc::Global;
 use std::test::Fail;
@@ -58,9 +58,7 @@ impl Flash for Metered {
     }
 
     fn read(&mut self, at: u32, buffer: &mut [u8]) -> Result<(), FlashFault> {
-        for count in self.reads.iter_mut().skip(at as usize).take(buffer.len()) {
-            *count = count.saturating_add(1);
-        }
+        count_reads(&mut self.reads, at as usize, buffer.len());
         self.inner.read(at, buffer)
     }
 
@@ -79,26 +77,32 @@ impl Flash for Metered {
     }
 }
 
+/// Counts a read of so many bytes from a place on.
+fn count_reads(reads: &mut [u8], at: usize, len: usize) {
+    for place in at..at.saturating_add(len) {
+        if let Some(count) = reads.get_mut(place) {
+            *count = count.saturating_add(1);
+        }
+    }
+}
+
+/// Such a device, erased.
+fn erased_metered(alloc: Global) -> Result<Metered, Fail> {
+    let reads = vec![in alloc; 0u8; SECTORS * SECTOR_SIZE as usize]?;
+    Ok(Metered {
+        inner: erased_flash(alloc, SECTORS as u32)?,
+        calls: Calls {
+            bytes: 0,
+            programs: 0,
+            erased: [0; SECTORS],
+        },
+        reads,
+    })
+}
+
 /// A session on an erased device.
 pub(super) fn over_metered(alloc: Global) -> Result<Session<Metered>, Fail> {
-    let inner = match MemoryFlash::new(alloc, SECTORS as u32, SECTOR_SIZE) {
-        Ok(flash) => flash,
-        Err(_) => MemoryFlash::new(alloc, SECTORS as u32, SECTOR_SIZE)?,
-    };
-    let calls = Calls {
-        bytes: 0,
-        programs: 0,
-        erased: [0; SECTORS],
-    };
-    let reads = vec![in alloc; 0u8; SECTORS * SECTOR_SIZE as usize]?;
-    Session::over(
-        alloc,
-        Metered {
-            inner,
-            calls,
-            reads,
-        },
-    )
+    Session::over(alloc, erased_metered(alloc)?)
 }
 
 /// What the device of a session was called for.

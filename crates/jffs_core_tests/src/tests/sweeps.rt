@@ -1,10 +1,10 @@
 //! Devices that fail at each call in turn.
 //! What a mount has to find is a working run's tree, before the request in hand or after it.
 
-use crate::tests::session::{SECTOR_SIZE, Session};
-use jffs_core::Core;
+use crate::tests::looks::whole;
+use crate::tests::session::{Session, erased_flash, mount};
 use jffs_flash::{Fail as FuseFail, Flash, FuseFlash, Fused, MemoryFlash};
-use jffs_log::ScanWhy;
+use jffs_log::{ScanFault, ScanWhy};
 use jffs_node::{Kind, Name, ROOT_INODE};
 use jffs_tree::Tree;
 use std::alloc::Global;
@@ -38,6 +38,14 @@ pub(super) const RENAMING: &str = "mkdir /d
      write /z 0 192*a
      write /z 0 192*a";
 
+/// The mark of an inode: a space for a file.
+fn mark_of(tree: &Tree, inode: u32) -> u8 {
+    match tree.kind(inode) {
+        Some(Kind::File) => b' ',
+        _ => b'/',
+    }
+}
+
 /// What stands at a name: the name, and of a file the bytes.
 fn show(
     alloc: Global,
@@ -47,78 +55,138 @@ fn show(
     out: &mut Vec<u8>,
 ) -> Result<(), Fail> {
     out.extend_from_slice(name.bytes())?;
-    out.push(if tree.kind(inode) == Some(Kind::File) {
-        b' '
-    } else {
-        b'/'
-    })?;
-    let size = tree.size(inode).unwrap_or(0) as usize;
-    let mut bytes = vec![in alloc; 0u8; size]?;
-    tree.read(inode, 0, &mut bytes);
-    out.extend_from_slice(&bytes)?;
+    out.push(mark_of(tree, inode))?;
+    out.extend_from_slice(&whole(alloc, tree, inode)?)?;
     out.push(b'\n')?;
     Ok(())
 }
 
-/// All names and bytes of a tree whose directories stand in the root.
-fn shown(alloc: Global, tree: &Tree) -> Result<Vec<u8>, Fail> {
-    let mut out = Vec::new(alloc);
-    for (name, inode) in tree.names(ROOT_INODE)?.iter() {
-        show(alloc, tree, name, *inode, &mut out)?;
-        for (below, found) in tree.names(*inode)?.iter() {
-            show(alloc, tree, below, *found, &mut out)?;
-        }
+/// What stands in a directory.
+fn show_below(alloc: Global, tree: &Tree, directory: u32, out: &mut Vec<u8>) -> Result<(), Fail> {
+    for (name, inode) in tree.names(directory)?.iter() {
+        show(alloc, tree, name, *inode, out)?;
     }
+    Ok(())
+}
+
+/// What stands in the root, and below each name there.
+fn show_root(alloc: Global, tree: &Tree, out: &mut Vec<u8>) -> Result<(), Fail> {
+    for (name, inode) in tree.names(ROOT_INODE)?.iter() {
+        show(alloc, tree, name, *inode, out)?;
+        show_below(alloc, tree, *inode, out)?;
+    }
+    Ok(())
+}
+
+/// All names and bytes of a tree whose directories stand in the root.
+fn shown<F: Flash + Drop>(session: &Session<F>) -> Result<Vec<u8>, Fail> {
+    let mut out = Vec::new(session.alloc);
+    show_root(session.alloc, session.core.tree(), &mut out)?;
     Ok(out)
+}
+
+/// Answers the wishes until the device fails, and keeps the tree before the first request and after
+/// each that was answered by a device that works.
+fn keep_trees<F: Flash + Drop>(
+    session: &mut Session<F>,
+    run: &str,
+    trees: &mut Vec<Vec<u8>>,
+) -> Result<(), Fail> {
+    trees.push(shown(session)?)?;
+    for line in run.lines() {
+        session.ask(line)?;
+        if session.failed() {
+            return Ok(());
+        }
+        trees.push(shown(session)?)?;
+    }
+    Ok(())
+}
+
+/// Erases what is dead and cleans twice.
+fn tidy<F: Flash + Drop>(session: &mut Session<F>) {
+    let _ = session.erase_dead();
+    let _ = session.clean_oldest();
+    let _ = session.clean_oldest();
 }
 
 /// Answers the wishes, erases what is dead and cleans twice, until the device fails; gives the tree
 /// before the first request and after each that was answered by a device that works.
 fn trees_of<F: Flash + Drop>(session: &mut Session<F>, run: &str) -> Result<Vec<Vec<u8>>, Fail> {
-    let alloc = session.alloc;
-    let mut trees = Vec::new(alloc);
-    trees.push(shown(alloc, session.core.tree())?)?;
-    for line in run.lines() {
-        session.ask(line)?;
-        if session.core.failed() {
-            return Ok(trees);
-        }
-        trees.push(shown(alloc, session.core.tree())?)?;
+    let mut trees = Vec::new(session.alloc);
+    keep_trees(session, run, &mut trees)?;
+    if !session.failed() {
+        tidy(session);
     }
-    let _ = session.erase_dead();
-    let _ = session.clean_oldest();
-    let _ = session.clean_oldest();
     Ok(trees)
 }
 
 /// What a device holds whose fuse blew after some calls, and how many requests were answered
-/// before; None where the fuse never blew.
+/// before.
 #[derive(Drop)]
 struct Blown {
     answered: usize,
     left: MemoryFlash,
 }
 
+/// What is left of a device; None where the fuse never blew.
 fn blow(alloc: Global, run: &str, fuse: FuseFlash) -> Result<Option<Blown>, Fail> {
-    let core = match Core::mount(alloc, fuse) {
-        Ok(core) => core,
-        Err(fault) if fault.why == ScanWhy::Device => {
-            return Ok(Some(Blown {
-                answered: 0,
-                left: fault.flash.into_inner(),
-            }));
-        }
-        Err(_) => return Err("another refusal than the device's".into()),
-    };
-    let mut session = Session::of(alloc, core);
-    let trees = trees_of(&mut session, run)?;
-    if !session.core.failed() {
+    match mount(alloc, fuse) {
+        Ok(core) => blow_later(Session::of(alloc, core), run),
+        Err(fault) => blown_at_once(fault),
+    }
+}
+
+/// What is left of a device that wasn't mounted.
+fn blown_at_once(fault: ScanFault<FuseFlash>) -> Result<Option<Blown>, Fail> {
+    if fault.why != ScanWhy::Device {
+        return Err("another refusal than the device's".into());
+    }
+    Ok(Some(Blown {
+        answered: 0,
+        left: fault.flash.into_inner(),
+    }))
+}
+
+/// What is left of a device that was mounted.
+fn blow_later(mut session: Session<FuseFlash>, run: &str) -> Result<Option<Blown>, Fail> {
+    let answered = trees_of(&mut session, run)?.len().saturating_sub(1);
+    if !session.failed() {
         return Ok(None);
     }
     Ok(Some(Blown {
-        answered: trees.len().saturating_sub(1),
+        answered,
         left: session.into_flash().into_inner(),
     }))
+}
+
+/// A device whose fuse blows after some calls.
+fn fuse_of(alloc: Global, calls: u64, fused: Fused, fail: FuseFail) -> Result<FuseFlash, Fail> {
+    let flash = erased_flash(alloc, 6)?;
+    Ok(FuseFlash::new(flash, calls, fused, fail))
+}
+
+/// Whether a tree stands at a place.
+fn is_at(trees: &[Vec<u8>], place: usize, found: &[u8]) -> bool {
+    match trees.get(place) {
+        Some(tree) => tree.as_slice() == found,
+        None => false,
+    }
+}
+
+/// Whether a mount finds the tree before or after the request in hand; None where the fuse never
+/// blew.
+fn survives(
+    alloc: Global,
+    run: &str,
+    trees: &[Vec<u8>],
+    fuse: FuseFlash,
+) -> Result<Option<bool>, Fail> {
+    let Some(Blown { answered, left }) = blow(alloc, run, fuse)? else {
+        return Ok(None);
+    };
+    let found = shown(&Session::over(alloc, left)?)?;
+    Ok(Some(is_at(trees, answered, &found) || is_at(trees, answered.saturating_add(1), &found)))
 }
 
 /// Whatever call fails, a mount finds the tree before or after the request in hand.
@@ -131,13 +199,11 @@ fn sweep(
 ) -> Result<(), Fail> {
     let trees = trees_of(&mut Session::erased(alloc, 6)?, run)?;
     for calls in 0..MOST_CALLS {
-        let fuse = FuseFlash::new(MemoryFlash::new(alloc, 6, SECTOR_SIZE)?, calls, fused, fail);
-        let Some(Blown { answered, left }) = blow(alloc, run, fuse)? else {
-            return Ok(());
-        };
-        let found = shown(alloc, Session::over(alloc, left)?.core.tree())?;
-        let mut around = trees.iter().skip(answered).take(2);
-        assert!(rt; around.any(|tree| *tree == found), "{calls} calls");
+        let fuse = fuse_of(alloc, calls, fused, fail)?;
+        match survives(alloc, run, &trees, fuse)? {
+            None => return Ok(()),
+            Some(survives) => assert!(rt; survives, "{calls} calls"),
+        }
     }
     Err("the fuse always blew".into())
 }

@@ -1,7 +1,7 @@
 //! What a refused request leaves.
 //! Causes are those of docs/SCRIPT.md; what has to stand is what stood before.
 
-use crate::tests::copies::copies_again;
+use crate::tests::copies::copies_to_the_full;
 use crate::tests::images::{image_of_last_inode, image_of_last_version};
 use crate::tests::session::Session;
 use jffs_flash::{Flash, MemoryFlash};
@@ -22,29 +22,29 @@ struct Counts {
 }
 
 fn counts_of(session: &Session<MemoryFlash>) -> Counts {
-    let log = session.core.log();
+    let core = &session.core;
     Counts {
-        faults: log.flash().faults(),
-        erases: log.erases(),
-        held: log.held(),
-        records: log.records().len(),
-        limits: session.core.limits(),
-        clean: session.core.clean(),
+        faults: core.log().flash().faults(),
+        erases: core.log().erases(),
+        held: core.log().held(),
+        records: core.log().records().len(),
+        limits: core.limits(),
+        clean: core.clean(),
     }
 }
 
 /// Each line's wish is answered as it says, and no byte and no count is changed.
-fn changes_nothing(
+pub(super) fn changes_nothing(
     rt: &impl Abort,
     session: &mut Session<MemoryFlash>,
     script: &str,
 ) -> Result<(), Fail> {
-    let image = session.image_now()?;
+    let image = session.image()?;
     let counts = counts_of(session);
     for line in script.lines() {
         session.play(rt, line)?;
-        assert!(rt; session.image_now()? == image, "at {line}");
-        assert_eq!(rt; counts_of(session), counts, "at {line}");
+        assert!(rt; session.bytes() == image.as_slice(), "at {line}");
+        assert!(rt; counts_of(session) == counts, "at {line}");
     }
     Ok(())
 }
@@ -60,20 +60,17 @@ fn over_dead_records(rt: &impl Abort, alloc: Global) -> Result<Session<MemoryFla
          write /f 0 192*a : appended 2 4
          write /f 0 192*a : appended 2 5
          mkdir /d : appended 3 6
-         create /d/a : appended 4 7",
+         create /d/a : appended 4 7
+         is oldest-dead : true",
     )?;
-    assert_eq!(rt; session.oldest_dead(), Some(true));
     Ok(session)
 }
 
-/// The last node of a file is copied until a further copy has no room, over two dead sectors.
+/// A file whose last node was copied until a further copy has no room, over two dead sectors.
 fn full_of_copies(rt: &impl Abort, alloc: Global) -> Result<Session<MemoryFlash>, Fail> {
     let mut session = Session::erased(alloc, 6)?;
-    session.play(rt, "create /f : appended 2 1")?;
-    for source in 1..45 {
-        copies_again(rt, &mut session, source)?;
-    }
-    assert_eq!(rt; session.oldest_dead(), Some(true));
+    copies_to_the_full(rt, &mut session)?;
+    session.play(rt, "is oldest-dead : true")?;
     Ok(session)
 }
 

@@ -2,11 +2,9 @@
 //! How many copies there are is counted from the lengths of records in docs/FORMAT.md.
 
 use crate::tests::session::{SECTOR_SIZE, Session};
-use jffs_core::Cleaned;
 use jffs_flash::MemoryFlash;
-use jffs_tree::{Cause, Outcome};
+use jffs_tree::Outcome;
 use std::alloc::Global;
-use std::process::Abort;
 use std::test::Fail;
 
 /// How many bytes a record without data takes.
@@ -21,68 +19,80 @@ const IN_A_SECTOR: u32 = 15;
 /// Three of six sectors full: as many as fresh records take.
 const DIRECTORIES: u32 = 3 * IN_A_SECTOR;
 
-/// Three sectors full of directories, all live, after the newest of which `left` versions are left.
-fn with_versions_left(alloc: Global, left: u32) -> Result<Session<MemoryFlash>, Fail> {
+/// Three sectors full of directories, all live.
+fn filled(alloc: Global) -> Result<Session<MemoryFlash>, Fail> {
     let mut session = Session::erased(alloc, 6)?;
     for number in 0..DIRECTORIES {
         let line = format!(in alloc; "mkdir /d{number}")?;
-        let Outcome::Appended { .. } = session.ask(line.as_str())? else {
+        if !is_made(&mut session, line.as_str())? {
             return Err("a directory isn't made".into());
-        };
-    }
-    let mut image = session.image()?;
-    for number in 0..DIRECTORIES {
-        let sector = (number / IN_A_SECTOR * SECTOR_SIZE) as usize;
-        let at = sector + (number % IN_A_SECTOR) as usize * RECORD + VERSION_AT;
-        let version = (u32::MAX - DIRECTORIES + 1 + number).saturating_sub(left);
-        for (byte, place) in version.to_be_bytes().into_iter().zip(at..) {
-            *image.get_mut(place).ok_or("no such record")? = byte;
         }
     }
-    Session::mounted(alloc, 6, image)
+    Ok(session)
 }
 
-/// The directories of the volume, mounted once more, are those that it had.
-fn has_its_directories(rt: &impl Abort, session: Session<MemoryFlash>) -> Result<(), Fail> {
-    let session = session.remounted()?;
-    let names = session.core.tree().names(1)?;
-    assert_eq!(rt; names.len(), DIRECTORIES as usize);
+fn is_made(session: &mut Session<MemoryFlash>, line: &str) -> Result<bool, Fail> {
+    Ok(matches!(session.ask(line)?, Outcome::Appended { .. }))
+}
+
+/// Gives the record that begins at an offset another version.
+fn renumber(image: &mut [u8], at: usize, version: u32) -> Result<(), Fail> {
+    let mut place = at.saturating_add(VERSION_AT);
+    for byte in version.to_be_bytes() {
+        *image.get_mut(place).ok_or("no such record")? = byte;
+        place = place.saturating_add(1);
+    }
     Ok(())
+}
+
+/// After the newest of the directories `left` versions are left.
+fn renumber_all(image: &mut [u8], left: u32) -> Result<(), Fail> {
+    for number in 0..DIRECTORIES {
+        let sector = (number / IN_A_SECTOR * SECTOR_SIZE) as usize;
+        let at = sector + (number % IN_A_SECTOR) as usize * RECORD;
+        let version = (u32::MAX - DIRECTORIES + 1 + number).saturating_sub(left);
+        renumber(image, at, version)?;
+    }
+    Ok(())
+}
+
+/// Three sectors full of directories, all live, after the newest of which `left` versions are left.
+fn with_versions_left(alloc: Global, left: u32) -> Result<Session<MemoryFlash>, Fail> {
+    let mut image = filled(alloc)?.image()?;
+    renumber_all(&mut image, left)?;
+    Session::mounted(alloc, 6, image)
 }
 
 #[test]
 fn the_last_version_is_used_while_room_is_made(rt: HostRuntime) -> Result<(), Fail> {
-    let mut session = with_versions_left(rt.alloc(), 3)?;
-    session.play(
+    let session = with_versions_left(rt.alloc(), 3)?.remounted_after(
         &rt,
         "mkdir /more : refused VersionsSpent
          mkdir /d0 : refused NameTaken
-         unmount : refused VersionsSpent",
+         unmount : refused VersionsSpent
+         count records-in 3 : 3
+         count erases : 0",
     )?;
-    assert_eq!(rt; session.records_in(3), 3);
-    assert_eq!(rt; session.core.log().erases(), 0);
-    has_its_directories(&rt, session)
+    session.played(&rt, "show names : 45")
 }
 
 #[test]
 fn a_cleaning_stops_where_no_version_is_left_for_a_copy(rt: HostRuntime) -> Result<(), Fail> {
-    let mut session = with_versions_left(rt.alloc(), 14)?;
-    assert_eq!(rt; session.clean_oldest(), Err(Cause::VersionsSpent));
-    assert_eq!(rt; session.records_in(3), 14);
-    assert_eq!(rt; session.records_in(0), 15);
-    has_its_directories(&rt, session)
+    let session = with_versions_left(rt.alloc(), 14)?.remounted_after(
+        &rt,
+        "clean-oldest : refused VersionsSpent
+         count records-in 3 : 14
+         count records-in 0 : 15",
+    )?;
+    session.played(&rt, "show names : 45")
 }
 
 #[test]
 fn a_cleaning_may_use_the_last_version(rt: HostRuntime) -> Result<(), Fail> {
-    let mut session = with_versions_left(rt.alloc(), 15)?;
-    assert_eq!(rt;
-        session.clean_oldest(),
-        Ok(Cleaned::Erased {
-            sector: 0,
-            copies: 15
-        })
-    );
-    session.play(&rt, "mkdir /more : refused VersionsSpent")?;
-    has_its_directories(&rt, session)
+    let session = with_versions_left(rt.alloc(), 15)?.remounted_after(
+        &rt,
+        "clean-oldest : erased 0 copied 15
+         mkdir /more : refused VersionsSpent",
+    )?;
+    session.played(&rt, "show names : 45")
 }

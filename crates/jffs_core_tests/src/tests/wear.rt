@@ -1,8 +1,8 @@
 //! How often each sector is erased: counted by the device, and from its bytes.
 //! The bounds are counted on paper: three overwrites fill a sector, and six sectors take turns.
 
-use crate::tests::metered::{SECTORS, calls_of, over_metered};
-use crate::tests::session::{SECTOR_SIZE, Session, is_blank, part};
+use crate::tests::metered::{Metered, SECTORS, calls_of, over_metered};
+use crate::tests::session::{SECTOR_SIZE, Session};
 use jffs_flash::MemoryFlash;
 use std::process::Abort;
 use std::test::Fail;
@@ -24,17 +24,15 @@ impl Wear {
     }
 
     /// Counts the sectors that are blank and weren't at the last look.
-    fn look(&mut self, session: &Session<MemoryFlash>) -> Result<(), Fail> {
-        let image = session.image_now()?;
+    fn look(&mut self, session: &Session<MemoryFlash>) {
         for sector in 0..SECTORS {
             let at = sector * SECTOR_SIZE as usize;
-            let blank = is_blank(part(&image, at, at + SECTOR_SIZE as usize));
+            let blank = session.is_blank(at, at + SECTOR_SIZE as usize);
             if blank && !self.blank[sector] {
                 self.counts[sector] = self.counts[sector].saturating_add(1);
             }
             self.blank[sector] = blank;
         }
-        Ok(())
     }
 }
 
@@ -60,9 +58,18 @@ fn overwrite(
 ) -> Result<(), Fail> {
     for _ in 0..times {
         session.ask("write /f 0 192*a")?;
-        wear.look(session)?;
+        wear.look(session);
         session.erase_dead()?;
-        wear.look(session)?;
+        wear.look(session);
+    }
+    Ok(())
+}
+
+/// The file is written over so often by itself, and what is dead is erased each time.
+fn overwrite_metered(session: &mut Session<Metered>, times: usize) -> Result<(), Fail> {
+    for _ in 0..times {
+        session.ask("write /f 0 192*a")?;
+        session.erase_dead()?;
     }
     Ok(())
 }
@@ -71,11 +78,20 @@ fn overwrite(
 fn sectors_wear_evenly(rt: HostRuntime) -> Result<(), Fail> {
     let mut session = over_metered(rt.alloc())?;
     session.play(&rt, "create /f : appended 2 1")?;
-    for _ in 0..10_000 {
-        session.ask("write /f 0 192*a")?;
-        session.erase_dead()?;
-    }
+    overwrite_metered(&mut session, 10_000)?;
     are_even(&rt, calls_of(&session).erased, 550);
+    Ok(())
+}
+
+/// A session in which the file is written over ten times, and which is closed.
+fn session_of_ten(
+    rt: &impl Abort,
+    session: &mut Session<MemoryFlash>,
+    wear: &mut Wear,
+) -> Result<(), Fail> {
+    overwrite(session, wear, 10)?;
+    session.play(rt, "unmount : closed")?;
+    wear.look(session);
     Ok(())
 }
 
@@ -85,9 +101,7 @@ fn sectors_wear_evenly_over_sessions(rt: HostRuntime) -> Result<(), Fail> {
     session.play(&rt, "create /f : appended 2 1")?;
     let mut wear = Wear::new();
     for _ in 0..40 {
-        overwrite(&mut session, &mut wear, 10)?;
-        session.play(&rt, "unmount : closed")?;
-        wear.look(&session)?;
+        session_of_ten(&rt, &mut session, &mut wear)?;
         session = session.remounted()?;
         are_even(&rt, wear.counts, 0);
     }

@@ -2,7 +2,7 @@
 
 use jffs_node::{Bytes, Name, Path, PathFault, copied};
 use jffs_tree::Wish;
-use std::alloc::Global;
+use std::alloc::{AllocError, Global};
 use std::test::Fail;
 
 /// The words of a line that are still to come.
@@ -126,6 +126,17 @@ fn bytes(alloc: Global, bytes: &[u8]) -> Result<Bytes, Fail> {
 
 /// The same byte `times` times, at most 256.
 fn many(alloc: Global, times: usize, byte: &[u8]) -> Result<Bytes, Fail> {
-    let many = [*byte.first().ok_or("no byte")?; 256];
-    bytes(alloc, many.get(..times).ok_or("too many bytes")?)
+    let byte = *byte.first().ok_or("no byte")?;
+    if times > 256 {
+        return Err("too many bytes".into());
+    }
+    bytes(alloc, &repeated(alloc, byte, times)?)
+}
+
+/// If allocation fails they are repeated again.
+fn repeated(alloc: Global, byte: u8, times: usize) -> Result<Vec<u8>, AllocError> {
+    match vec![in alloc; byte; times] {
+        Ok(bytes) => Ok(bytes),
+        Err(_) => vec![in alloc; byte; times],
+    }
 }

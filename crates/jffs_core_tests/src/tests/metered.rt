@@ -9,7 +9,7 @@ use std::test::Fail;
 pub(super) const SECTORS: usize = 6;
 
 /// What a device was called for.
-#[derive(Clone, Copy, PartialEq, Eq, Debug)]
+#[derive(Clone, Copy, PartialEq, Eq)]
 pub(super) struct Calls {
     /// How many bytes were programmed, and in how many calls.
     pub(super) bytes: u64,

@@ -11,7 +11,7 @@ use std::process::Abort;
 use std::test::Fail;
 
 /// What is counted of a session, by the device and in memory.
-#[derive(Clone, Copy, PartialEq, Eq, Debug)]
+#[derive(Clone, Copy, PartialEq, Eq)]
 struct Counts {
     faults: u64,
     erases: u64,

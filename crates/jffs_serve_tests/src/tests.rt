@@ -1,24 +1,33 @@
 //! Sessions that are served, and a cleaner beside them.
 //! Which copies there are, and what is answered, is worked out from docs/FORMAT.md on paper.
 
+mod cleaning;
 mod copying;
 mod ending;
 mod growths;
+mod images;
 mod leaving;
+mod lines;
 mod order;
 mod rounds;
 mod standing;
 mod tidying;
 mod volumes;
 
-use crate::tests::rounds::{asked, cleaned_by, index, outcomes_of, served};
-use crate::tests::volumes::{filled, moved};
-use jffs_core::Core;
+use crate::tests::cleaning::{
+    asked, cleaned_by, cleaner_side, handed_in_until, moved_copies, moved_job,
+};
+use crate::tests::images::{ring, ring_fault, sent_back, takes};
+use crate::tests::rounds::{Left, last_two, served};
+use crate::tests::standing::erased_dead;
+use crate::tests::volumes::{CUT_AND_UNMOUNT, answered, filled, moved};
+use jffs_core::{Answer, Core};
 use jffs_flash::MemoryFlash;
-use jffs_line::{Ends, LineFault, Request, shared_line};
-use jffs_serve::{Ended, JobEnd, Jobs, clean_until, job_ring};
-use jffs_tree::{Cause, Outcome};
+use jffs_line::{LineFault, Request};
+use jffs_serve::{Ended, JobEnd, Jobs, Served};
+use jffs_tree::{Cause, Outcome, Tree};
 use std::alloc::Global;
+use std::process::Abort;
 use std::sync::Wait;
 use std::test::Fail;
 
@@ -26,36 +35,43 @@ use std::test::Fail;
 fn constructors_refuse(rt: HostRuntime) {
     let alloc = rt.alloc();
     for capacity in [0, 65] {
-        assert_eq!(rt; job_ring(alloc, capacity).err(), Some(LineFault::Capacity));
+        assert_eq!(rt; ring_fault(alloc, capacity), Some(LineFault::Capacity));
     }
     for capacity in [1, 4, 64] {
-        assert!(rt; job_ring(alloc, capacity).is_ok());
+        assert_eq!(rt; ring_fault(alloc, capacity), None);
     }
 }
 
 /// What comes back of the second of two images that are sent.
 fn second_sent(alloc: Global, jobs: &mut Jobs) -> Result<Option<Vec<u8>>, Fail> {
-    jobs.send(vec![in alloc; 1u8, 2]?)
-        .map_err(|_| "a ring with a place")?;
-    Ok(jobs.send(vec![in alloc; 3u8]?).err())
+    let first = vec![in alloc; 1u8, 2]?;
+    if sent_back(jobs, first).is_some() {
+        return Err("a ring with a place".into());
+    }
+    let second = vec![in alloc; 3u8]?;
+    Ok(sent_back(jobs, second))
+}
+
+/// Whether the second of two images comes back.
+fn gives_back(alloc: Global, jobs: &mut Jobs) -> Result<bool, Fail> {
+    match second_sent(alloc, jobs)? {
+        Some(back) => Ok(back.as_slice() == [3].as_slice()),
+        None => Ok(false),
+    }
 }
 
 #[test]
 fn a_full_ring_gives_the_image_back(rt: HostRuntime) -> Result<(), Fail> {
-    let (mut jobs, mut end) = job_ring(rt.alloc(), 1)?;
-    let back = second_sent(rt.alloc(), &mut jobs)?.ok_or("the ring is full")?;
-    assert_eq!(rt; back.as_slice(), [3].as_slice());
-    let taken = end.take().ok_or("one image waits")?;
-    assert_eq!(rt; taken.as_slice(), [1, 2].as_slice());
+    let (mut jobs, mut end) = ring(rt.alloc(), 1)?;
+    let gives_back = gives_back(rt.alloc(), &mut jobs)?;
+    assert!(rt; gives_back);
+    assert!(rt; takes(&mut end, &[1, 2]));
     Ok(())
 }
 
-#[test]
-fn jobs_reach_the_cleaner(rt: HostRuntime) -> Result<(), Fail> {
-    let alloc = rt.alloc();
-    let core = filled(alloc)?;
-    let tree = core.tree().copy_tree()?;
-    let (last, end) = served(&rt, alloc, core)?;
+/// That a session was closed, after this was appended.
+fn is_closed(rt: &impl Abort, served: Served, answers: &[Answer]) {
+    assert_eq!(rt; served, Served::Closed);
     let outcomes = [
         Outcome::Appended {
             inode: 2,
@@ -63,38 +79,59 @@ fn jobs_reach_the_cleaner(rt: HostRuntime) -> Result<(), Fail> {
         },
         Outcome::Closed,
     ];
-    assert_eq!(rt; last, outcomes);
-    let copies = cleaned_by(&rt, alloc, 4, tree, end)?;
-    assert_eq!(rt; asked(&copies)?, [(1, 2), (2, 3), (3, 4)]);
+    assert_eq!(rt; last_two(answers), Some(outcomes));
+}
+
+/// Serves a truncate and an Unmount on a volume whose oldest sector has live records: its tree
+/// before that, and the cleaner's end of the jobs.
+fn cut_and_closed<R: Wait + Abort>(rt: &R, alloc: Global) -> Result<(Tree, JobEnd), Fail> {
+    let core = filled(alloc)?;
+    let tree = core.tree().copy_tree()?;
+    let left = served(rt, alloc, core, &CUT_AND_UNMOUNT)?;
+    is_closed(rt, left.served, left.session.core().answers());
+    let Left { end, .. } = left;
+    Ok((tree, end))
+}
+
+#[test]
+fn jobs_reach_the_cleaner(rt: HostRuntime) -> Result<(), Fail> {
+    let alloc = rt.alloc();
+    let (tree, mut end) = cut_and_closed(&rt, alloc)?;
+    let copies = cleaned_by(&rt, alloc, 4, tree, &mut end)?;
+    assert_eq!(rt; asked(&copies), Some([(1, 2), (2, 3), (3, 4)]));
     Ok(())
 }
 
-/// A ring with the image of the oldest sector.
-fn with_job(alloc: Global, core: &mut Core<MemoryFlash>) -> Result<JobEnd, Fail> {
-    let (mut jobs, end) = job_ring(alloc, 4)?;
-    if core.log().held() < 1 {
-        return Err("a log with a sector".into());
+/// What the core answers to three requests.
+fn outcomes_of(
+    core: &mut Core<MemoryFlash>,
+    requests: Vec<Request>,
+) -> Result<Option<[Outcome; 3]>, Fail> {
+    for request in requests {
+        answered(core, request)?;
     }
-    jobs.send(core.oldest_image()?)
-        .map_err(|_| "a ring with a place")?;
-    Ok(end)
+    match core.answers() {
+        [.., a, b, c] => Ok(Some([a.outcome, b.outcome, c.outcome])),
+        _ => Ok(None),
+    }
 }
 
-/// A ring with the image of the oldest sector of a volume that was mounted again.
-fn moved_job(alloc: Global) -> Result<JobEnd, Fail> {
-    let flash = moved(alloc)?.into_flash();
-    let mut core = Core::mount(alloc, flash).map_err(|fault| fault.why)?;
-    with_job(alloc, &mut core)
-}
-
-/// What a cleaner hands in over the tree of such a volume.
-fn moved_copies<R: Wait>(
-    rt: &R,
-    alloc: Global,
-    core: &Core<MemoryFlash>,
-) -> Result<Vec<Request>, Fail> {
-    let end = moved_job(alloc)?;
-    cleaned_by(rt, alloc, 8, core.tree().copy_tree()?, end)
+/// That two of three copies are granted, after which one sector is dead.
+fn are_answered(
+    rt: &impl Abort,
+    core: &mut Core<MemoryFlash>,
+    copies: Vec<Request>,
+) -> Result<(), Fail> {
+    assert_eq!(rt; asked(&copies), Some([(1, 1), (2, 3), (3, 4)]));
+    let outcomes = outcomes_of(core, copies)?;
+    let wanted = [
+        Outcome::Copied { version: 9 },
+        Outcome::Copied { version: 10 },
+        Outcome::Refused(Cause::NotNeeded),
+    ];
+    assert_eq!(rt; outcomes, Some(wanted));
+    assert_eq!(rt; erased_dead(core), Ok(1));
+    Ok(())
 }
 
 #[test]
@@ -102,44 +139,39 @@ fn cleaner_hands_in_copies(rt: HostRuntime) -> Result<(), Fail> {
     let alloc = rt.alloc();
     let mut core = moved(alloc)?;
     let copies = moved_copies(&rt, alloc, &core)?;
-    assert_eq!(rt; asked(&copies)?, [(1, 1), (2, 3), (3, 4)]);
-    let outcomes = outcomes_of(&mut core, copies)?;
-    let wanted = [
-        Outcome::Copied { version: 9 },
-        Outcome::Copied { version: 10 },
-        Outcome::Refused(Cause::NotNeeded),
-    ];
-    assert_eq!(rt; outcomes, wanted);
-    assert_eq!(rt; core.erase_dead(), Ok(1));
-    Ok(())
+    are_answered(&rt, &mut core, copies)
+}
+
+/// How many copies a cleaner hands in until it is told of an end, in so many rounds.
+fn handed_in_over<R: Wait>(
+    rt: &R,
+    alloc: Global,
+    tree: Tree,
+    jobs: &mut JobEnd,
+    rounds: u32,
+    ended: &Ended,
+) -> Result<u32, Fail> {
+    let mut side = cleaner_side(rt, alloc, tree, 8)?;
+    Ok(handed_in_until(
+        rt,
+        alloc,
+        jobs,
+        &mut side.reader,
+        &mut side.hand,
+        rounds,
+        ended,
+    ))
 }
 
 /// Though it has many more rounds, and an image waits.
 #[test]
 fn a_cleaner_ends_with_the_log_thread(rt: HostRuntime) -> Result<(), Fail> {
     let alloc = rt.alloc();
-    let core = filled(alloc)?;
-    let tree = core.tree().copy_tree()?;
-    let (_last, mut jobs) = served(&rt, alloc, core)?;
-    let (_publisher, mut reader) = index(&rt, alloc, tree)?;
-    let Ends {
-        hands,
-        taker: _taker,
-    } = shared_line(&rt, alloc, 8, 0)?;
-    let mut hand = hands.cleaner;
+    let (tree, mut jobs) = cut_and_closed(&rt, alloc)?;
     let ended = Ended::new();
     ended.tell();
-    let rounds = 1_000;
-    let end = clean_until(
-        &rt,
-        alloc,
-        &mut jobs,
-        &mut reader,
-        &mut hand,
-        rounds,
-        &ended,
-    );
-    assert_eq!(rt; end.handed_in, 0);
+    let count = handed_in_over(&rt, alloc, tree, &mut jobs, 1_000, &ended)?;
+    assert_eq!(rt; count, 0);
     assert!(rt; jobs.take().is_some());
     Ok(())
 }
@@ -149,15 +181,7 @@ fn a_cleaner_ends_with_the_log_thread(rt: HostRuntime) -> Result<(), Fail> {
 fn handed_in_untold<R: Wait>(rt: &R, alloc: Global) -> Result<u32, Fail> {
     let tree = moved(alloc)?.tree().copy_tree()?;
     let mut jobs = moved_job(alloc)?;
-    let (_publisher, mut reader) = index(rt, alloc, tree)?;
-    let Ends {
-        hands,
-        taker: _taker,
-    } = shared_line(rt, alloc, 8, 0)?;
-    let mut hand = hands.cleaner;
-    let ended = Ended::new();
-    let end = clean_until(rt, alloc, &mut jobs, &mut reader, &mut hand, 1, &ended);
-    Ok(end.handed_in)
+    handed_in_over(rt, alloc, tree, &mut jobs, 1, &Ended::new())
 }
 
 #[test]

@@ -1,13 +1,16 @@
 //! How serving ends, and how a cleaner does.
 //! What is served follows from the last answer, and counts from how many rounds were asked for.
 
-use crate::tests::rounds::{Left, cut_and_unmount, index, served_from, served_seen};
-use crate::tests::volumes::{create, filled};
-use jffs_core::{Answer, Core};
+use crate::tests::cleaning::{Side, cleaner_side, handed_in, handed_in_until};
+use crate::tests::images::ring;
+use crate::tests::lines::cleaner_line;
+use crate::tests::rounds::{Left, served, served_seen};
+use crate::tests::volumes::{Ask, CUT_AND_UNMOUNT, filled, mounted};
+use jffs_core::Answer;
 use jffs_flash::{FuseFlash, Fused, MemoryFlash};
 use jffs_index::Reader;
-use jffs_line::{CONTROL, Ends, SharedTaker, shared_line};
-use jffs_serve::{CleanerEnd, Ended, JobEnd, Served, clean_loop, clean_until, job_ring};
+use jffs_line::{CONTROL, Hand};
+use jffs_serve::{Ended, JobEnd, Served};
 use jffs_tree::{Cause, Outcome, Tree};
 use std::alloc::Global;
 use std::cell::Cell;
@@ -18,39 +21,34 @@ use std::thread;
 use std::thread::Threads;
 use std::time::{Clock, Duration};
 
-/// What a cleaner with a free line does in four rounds.
+/// How many copies a cleaner with a free line hands in in four rounds.
 fn cleaned_freely<R: Wait>(
     rt: &R,
     alloc: Global,
-    mut reader: Reader,
-    mut jobs: JobEnd,
-) -> Result<CleanerEnd, Fail> {
-    let Ends {
-        hands,
-        taker: _taker,
-    } = shared_line(rt, alloc, 8, 0)?;
-    let mut hand = hands.cleaner;
-    Ok(clean_loop(rt, alloc, &mut jobs, &mut reader, &mut hand, 4))
+    slot: &Cell<Option<Reader>>,
+    jobs: &mut JobEnd,
+) -> Result<u32, Fail> {
+    let (mut hand, _taker) = cleaner_line(rt, alloc, 8)?;
+    match slot.replace(None) {
+        Some(mut reader) => Ok(handed_in(rt, alloc, jobs, &mut reader, &mut hand, 4)),
+        None => Err("one reader".into()),
+    }
 }
 
 /// Serves until the session is closed, which sends an image on the way, and then cleans.
-fn cleaned_once_closed<R: Wait>(rt: &R, alloc: Global) -> Result<CleanerEnd, Fail> {
-    let (jobs, end) = job_ring(alloc, 4)?;
-    let taker = cut_and_unmount(rt, alloc)?;
+fn cleaned_once_closed<R: Wait>(rt: &R, alloc: Global) -> Result<u32, Fail> {
     let slot = Cell::new(None);
-    let left = served_seen(rt, alloc, filled(alloc)?, taker, jobs, &slot)?;
+    let mut left = served_seen(rt, alloc, filled(alloc)?, &CUT_AND_UNMOUNT, &slot, 1)?;
     if left.served != Served::Closed {
         return Err("it closes".into());
     }
-    let reader = slot.replace(None).ok_or("one reader")?;
-    cleaned_freely(rt, alloc, reader, end)
+    cleaned_freely(rt, alloc, &slot, &mut left.end)
 }
 
 /// Though the image of the oldest sector waits, where records live.
 #[test]
 fn a_cleaner_ends_with_the_session(rt: HostRuntime) -> Result<(), Fail> {
-    let end = cleaned_once_closed(&rt, rt.alloc())?;
-    assert_eq!(rt; end.handed_in, 0);
+    assert_eq!(rt; cleaned_once_closed(&rt, rt.alloc())?, 0);
     Ok(())
 }
 
@@ -69,15 +67,33 @@ fn is_done<R: Clock>(rt: &R, done: &AtomicBool, ended: &Ended) -> bool {
     false
 }
 
+/// Three rounds of a cleaner; its ends are gone then.
+fn clean_idly<R: Wait, H: Hand>(
+    rt: &R,
+    alloc: Global,
+    reader: Reader,
+    hand: H,
+    jobs: JobEnd,
+    ended: &Ended,
+) {
+    let mut reader = reader;
+    let mut hand = hand;
+    let mut jobs = jobs;
+    handed_in_until(rt, alloc, &mut jobs, &mut reader, &mut hand, 3, ended);
+}
+
 /// Whether a cleaner that is never sent an image ends with its three rounds.
-fn ends_by_itself<R: Threads + Wait + Sync + Clock>(rt: &R, alloc: Global) -> Result<bool, Fail> {
-    let (_publisher, mut reader) = index(rt, alloc, Tree::new(alloc))?;
-    let (_jobs, mut jobs) = job_ring(alloc, 1)?;
-    let Ends {
-        hands,
+fn ends_by_itself<R: Threads + Wait + Sync + Clock>(
+    rt: &R,
+    alloc: Global,
+    jobs: JobEnd,
+) -> Result<bool, Fail> {
+    let Side {
+        reader,
+        hand,
         taker: _taker,
-    } = shared_line(rt, alloc, 1, 0)?;
-    let mut hand = hands.cleaner;
+        publisher: _publisher,
+    } = cleaner_side(rt, alloc, Tree::new(alloc), 1)?;
     let ended = Ended::new();
     let done = AtomicBool::new(false);
     let ended = &ended;
@@ -86,7 +102,7 @@ fn ends_by_itself<R: Threads + Wait + Sync + Clock>(rt: &R, alloc: Global) -> Re
         rt,
         move || is_done(rt, done, ended),
         move || {
-            clean_until(rt, alloc, &mut jobs, &mut reader, &mut hand, 3, ended);
+            clean_idly(rt, alloc, reader, hand, jobs, ended);
             done.store(true, Ordering::SeqCst);
         },
     );
@@ -95,30 +111,18 @@ fn ends_by_itself<R: Threads + Wait + Sync + Clock>(rt: &R, alloc: Global) -> Re
 
 #[test]
 fn rounds_without_an_image_are_counted(rt: HostRuntime) -> Result<(), Fail> {
-    assert!(rt; ends_by_itself(&rt, rt.alloc())?);
+    let alloc = rt.alloc();
+    let (_jobs, end) = ring(alloc, 1)?;
+    assert!(rt; ends_by_itself(&rt, alloc, end)?);
     Ok(())
 }
 
-/// The taker of a line on which the control wants to unmount, and then a writer wants `/f`.
-fn unmount_and_create<R: Wait>(rt: &R, alloc: Global) -> Result<SharedTaker, Fail> {
-    let Ends { mut hands, taker } = shared_line(rt, alloc, 4, 1)?;
-    let mut writer = hands.writers.pop().ok_or("one writer")?;
-    let first = hands.control.unmount(rt).is_ok();
-    if first && writer.hand_in(rt, create(alloc, "/f")?).is_ok() {
-        Ok(taker)
-    } else {
-        Err("both have a place".into())
-    }
-}
-
-/// Serves that on an erased device whose first program fails.
+/// Serves an Unmount, and then a wish for `/f`, on an erased device whose first program fails.
 fn served_on_fuse<'r, R: Wait>(rt: &'r R, alloc: Global) -> Result<Left<'r, R, FuseFlash>, Fail> {
     let flash = MemoryFlash::new(alloc, 6, 1024)?;
     let flash = FuseFlash::new(flash, 0, Fused::Writes, jffs_flash::Fail::Nothing);
-    let core = Core::mount(alloc, flash).ok().ok_or("it mounts")?;
-    let (jobs, _end) = job_ring(alloc, 1)?;
-    let taker = unmount_and_create(rt, alloc)?;
-    served_from(rt, alloc, core, taker, jobs)
+    let core = mounted(alloc, flash)?;
+    served(rt, alloc, core, &[Ask::Unmount, Ask::File("/f")])
 }
 
 #[test]

@@ -1,54 +1,23 @@
 //! A session in which any allocation may fail.
 //! The answers are worked out on paper, but for one that Memory may take the place of.
 
-ghost use Rattle.jffs_serve.specs.Showing.{CanServe};
-
-use crate::tests::rounds::{index, served_from};
-use crate::tests::volumes::{create, erased, write};
-use jffs_core::{Answer, Core};
+use crate::tests::rounds::{Left, answered_seen, served, served_seen};
+use crate::tests::standing::{names_in, resolved};
+use crate::tests::volumes::{Ask, erased, mounted};
+use jffs_core::Answer;
 use jffs_flash::MemoryFlash;
-use jffs_index::{Publisher, Reader};
-use jffs_line::{Ends, SharedTaker, shared_line};
-use jffs_node::{Path, ROOT_INODE};
-use jffs_serve::{Jobs, Served, Session, job_ring, serve};
-use jffs_tree::{Cause, Outcome};
+use jffs_index::Reader;
+use jffs_node::ROOT_INODE;
+use jffs_serve::{Served, Session};
+use jffs_tree::{Cause, Outcome, Tree};
 use std::alloc::Global;
+use std::cell::Cell;
 use std::process::Abort;
 use std::sync::Wait;
 use std::test::Fail;
 
-/// The taker of a line on which a writer wants `/f` with five bytes, and then the control to
-/// unmount.
-fn write_and_unmount<R: Wait>(rt: &R, alloc: Global) -> Result<SharedTaker, Fail> {
-    let Ends { mut hands, taker } = shared_line(rt, alloc, 4, 1)?;
-    let mut writer = hands.writers.pop().ok_or("one writer")?;
-    let first = writer.hand_in(rt, create(alloc, "/f")?).is_ok();
-    let second = writer.hand_in(rt, write(alloc, "/f", 0, b"hello")?).is_ok();
-    if first && second && hands.control.unmount(rt).is_ok() {
-        Ok(taker)
-    } else {
-        Err("all have a place".into())
-    }
-}
-
-/// Serves until it ends otherwise than by Memory.
-fn serve_on<R: Wait, W: Wait + Drop>(
-    rt: &R,
-    session: &mut Session<MemoryFlash>,
-    taker: &mut SharedTaker,
-    publisher: &mut Publisher<W>,
-    jobs: &mut Jobs,
-) -> Served
-    requires { CanServe session.old publisher.old }
-{
-    for _ in 0..100 {
-        let served = serve(rt, session, taker, publisher, jobs);
-        if served != Served::Memory {
-            return served;
-        }
-    }
-    Served::Memory
-}
+/// A writer wants `/f` with five bytes, and then the control to unmount.
+const ASKED: [Ask; 3] = [Ask::File("/f"), Ask::Text("/f", "hello"), Ask::Unmount];
 
 /// The answers where no allocation fails.
 fn wanted() -> [Answer; 3] {
@@ -98,30 +67,44 @@ fn are_expected(answers: &[Answer]) -> bool {
 }
 
 fn refusals(answers: &[Answer]) -> usize {
-    answers
-        .iter()
-        .filter(|answer| answer.outcome == Outcome::Refused(Cause::Memory))
-        .count()
+    let mut count = 0usize;
+    for answer in answers {
+        if answer.outcome == Outcome::Refused(Cause::Memory) {
+            count = count.saturating_add(1);
+        }
+    }
+    count
+}
+
+/// The outcome that a look shows for an answer.
+fn outcome_seen(reader: &mut Reader, answer: &Answer) -> Option<Option<Outcome>> {
+    reader.look(|view| view.answer(answer.writer, answer.seq))
 }
 
 /// Whether a look shows these answers and no more.
 fn shows(reader: &mut Reader, answers: &[Answer]) -> bool {
     let mut count = 0u64;
     for answer in answers {
-        let shown = reader.look(|view| view.answer(answer.writer, answer.seq));
-        if shown != Some(Some(answer.outcome)) {
+        if outcome_seen(reader, answer) != Some(Some(answer.outcome)) {
             return false;
         }
         count = count.saturating_add(1);
     }
-    reader.look(|view| view.answered()) == Some(count)
+    answered_seen(reader) == Some(count)
 }
 
-fn check(rt: &impl Abort, session: &Session<MemoryFlash>, reader: &mut Reader) {
-    let answers = session.core().answers();
+/// Whether the reader in a slot sees these answers and no more.
+fn are_seen(slot: &Cell<Option<Reader>>, answers: &[Answer]) -> bool {
+    match slot.replace(None) {
+        Some(mut reader) => shows(&mut reader, answers),
+        None => false,
+    }
+}
+
+fn check(rt: &impl Abort, answers: &[Answer], slot: &Cell<Option<Reader>>) {
     assert!(rt; are_expected(answers));
     assert!(rt; refusals(answers) <= 1);
-    assert!(rt; shows(reader, answers));
+    assert!(rt; are_seen(slot, answers));
 }
 
 /// How many bytes `/f` has by these answers, where it is there.
@@ -135,40 +118,42 @@ fn size_after(answers: &[Answer]) -> Option<u32> {
     }
 }
 
-/// A scan finds `/f` of that size alone, with the bytes that were written.
+/// Whether a file has so many of the bytes that were written.
+fn has_hello(tree: &Tree, inode: u32) -> bool {
+    let mut bytes = [0u8; 5];
+    let count = tree.read(inode, 0, &mut bytes);
+    bytes[..count] == b"hello"[..count]
+}
+
+/// A tree has `/f` of that size alone, with the bytes that were written.
+fn check_tree(rt: &impl Abort, alloc: Global, tree: &Tree, size: Option<u32>) -> Result<(), Fail> {
+    assert!(rt; names_in(tree, ROOT_INODE)? == usize::from(size.is_some()));
+    let found = resolved(alloc, tree, "/f")?;
+    assert!(rt; found.and_then(|inode| tree.size(inode)) == size);
+    if let Some(inode) = found {
+        assert!(rt; has_hello(tree, inode));
+    }
+    Ok(())
+}
+
+/// A scan finds that tree.
 fn check_scan(
     rt: &impl Abort,
     alloc: Global,
     flash: MemoryFlash,
     size: Option<u32>,
 ) -> Result<(), Fail> {
-    let core = Core::mount(alloc, flash).map_err(|fault| fault.why)?;
-    let tree = core.tree();
-    let names = tree.names(ROOT_INODE)?;
-    assert!(rt; names.len() == usize::from(size.is_some()));
-    let found = tree.resolve(&Path::parse(alloc, "/f")?);
-    assert!(rt; found.and_then(|inode| tree.size(inode)) == size);
-    if let Some(inode) = found {
-        let mut bytes = [0u8; 5];
-        let count = tree.read(inode, 0, &mut bytes);
-        assert!(rt; bytes[..count] == b"hello"[..count]);
-    }
-    Ok(())
+    let core = mounted(alloc, flash)?;
+    check_tree(rt, alloc, core.tree(), size)
 }
 
-/// The session after all that waits on a line was served, and was seen.
-fn session_after<R: Wait + Abort>(
-    rt: &R,
-    alloc: Global,
-    core: Core<MemoryFlash>,
-    mut taker: SharedTaker,
-    mut jobs: Jobs,
-) -> Result<Session<MemoryFlash>, Fail> {
-    let (mut publisher, mut reader) = index(rt, alloc, core.tree().copy_tree()?)?;
-    let mut session = Session::new(core);
-    let served = serve_on(rt, &mut session, &mut taker, &mut publisher, &mut jobs);
-    assert!(rt; served != Served::Memory);
-    check(rt, &session, &mut reader);
+/// The session after all that was asked for was served, and was seen.
+fn session_after<R: Wait + Abort>(rt: &R, alloc: Global) -> Result<Session<MemoryFlash>, Fail> {
+    let slot = Cell::new(None);
+    let left = served_seen(rt, alloc, erased(alloc, 8)?, &ASKED, &slot, 100)?;
+    assert!(rt; left.served != Served::Memory);
+    check(rt, left.session.core().answers(), &slot);
+    let Left { session, .. } = left;
     Ok(session)
 }
 
@@ -176,9 +161,7 @@ fn session_after<R: Wait + Abort>(
 #[test]
 fn each_growth_refused_in_turn(rt: HostRuntime) -> Result<(), Fail> {
     let alloc = rt.alloc();
-    let taker = write_and_unmount(&rt, alloc)?;
-    let (jobs, _end) = job_ring(alloc, 4)?;
-    let session = session_after(&rt, alloc, erased(alloc, 8)?, taker, jobs)?;
+    let session = session_after(&rt, alloc)?;
     let size = size_after(session.core().answers());
     check_scan(&rt, alloc, session.into_core().into_flash(), size)
 }
@@ -187,9 +170,7 @@ fn each_growth_refused_in_turn(rt: HostRuntime) -> Result<(), Fail> {
 #[test]
 fn three_requests_are_served_by_one_call(rt: HostRuntime) -> Result<(), Fail> {
     let alloc = rt.alloc();
-    let taker = write_and_unmount(&rt, alloc)?;
-    let (jobs, _end) = job_ring(alloc, 4)?;
-    let left = served_from(&rt, alloc, erased(alloc, 8)?, taker, jobs)?;
+    let left = served(&rt, alloc, erased(alloc, 8)?, &ASKED)?;
     assert_eq!(rt; left.served, Served::Closed);
     assert_eq!(rt; left.session.core().answers(), wanted().as_slice());
     Ok(())

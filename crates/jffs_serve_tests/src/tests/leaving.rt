@@ -1,14 +1,14 @@
 //! A cleaner's round, and the answers to it, where any one allocation may fail. Which copies there
 //! are, and what they are answered, is worked out from the rule of cleaning in docs/FORMAT.md.
 
-use crate::tests::moved_copies;
-use crate::tests::rounds::source_of;
-use crate::tests::standing::{answered, has_its_files};
-use crate::tests::volumes::{create, moved};
+use crate::tests::cleaning::{moved_copies, source_of};
+use crate::tests::images::{ring, ring_fault, sends, takes};
+use crate::tests::standing::{count_records, has_its_files};
+use crate::tests::volumes::{Ask, answered, moved, wish_of};
 use jffs_core::Core;
 use jffs_flash::MemoryFlash;
 use jffs_line::{LineFault, Request};
-use jffs_serve::job_ring;
+use jffs_serve::{JobEnd, Jobs};
 use jffs_tree::{Cause, Outcome};
 use std::alloc::Global;
 use std::process::Abort;
@@ -86,7 +86,7 @@ fn all_told(
         now = tell_one(rt, core, copy, now)?;
     }
     assert!(rt; now.refused <= 1);
-    let records = u32::try_from(core.log().records().len()).ok();
+    let records = u32::try_from(count_records(core)).ok();
     assert_eq!(rt; records, Some(RECORDS.saturating_add(now.copied)));
     Ok(now)
 }
@@ -101,7 +101,7 @@ fn grants_the_next(
         let made = Request {
             writer: 1,
             seq,
-            wish: create(rt.alloc(), "/n")?,
+            wish: wish_of(rt.alloc(), Ask::File("/n"))?,
         };
         let outcome = answered(core, made)?;
         if outcome != Outcome::Refused(Cause::Memory) {
@@ -112,34 +112,47 @@ fn grants_the_next(
     Err("memory was refused twice".into())
 }
 
+/// That the copies are some of those that were to be expected, and are answered so; and that the
+/// next change is granted.
+fn are_told(
+    rt: &(impl Abort + AllocGlobal),
+    core: &mut Core<MemoryFlash>,
+    copies: Vec<Request>,
+) -> Result<(), Fail> {
+    assert!(rt; are_some(&copies));
+    let now = all_told(rt, core, copies)?;
+    has_its_files(rt, rt.alloc(), core.tree())?;
+    let version = RECORDS.saturating_add(now.copied).saturating_add(1);
+    grants_the_next(rt, core, version)
+}
+
 // Run it with each allocation failing in turn.
 #[test]
 fn a_round_that_finds_no_memory_leaves_copies_out(rt: HostRuntime) -> Result<(), Fail> {
     let alloc = rt.alloc();
     let mut core = moved(alloc)?;
     let copies = moved_copies(&rt, alloc, &core)?;
-    assert!(rt; are_some(&copies));
-    let now = all_told(&rt, &mut core, copies)?;
-    has_its_files(&rt, alloc, &core)?;
-    let version = RECORDS.saturating_add(now.copied).saturating_add(1);
-    grants_the_next(&rt, &mut core, version)
+    are_told(&rt, &mut core, copies)
+}
+
+/// A ring for one image, by the second call where the first finds no memory.
+fn ring_at_last(rt: &impl Abort, alloc: Global) -> Result<(Jobs, JobEnd), Fail> {
+    match ring(alloc, 1) {
+        Ok(ends) => Ok(ends),
+        Err(fault) => {
+            assert_eq!(rt; fault, LineFault::Memory);
+            Ok(ring(alloc, 1)?)
+        }
+    }
 }
 
 // Run it with each allocation failing in turn.
 #[test]
 fn a_ring_that_finds_no_memory_is_made_by_the_next_call(rt: HostRuntime) -> Result<(), Fail> {
     let alloc = rt.alloc();
-    let (mut jobs, mut end) = match job_ring(alloc, 1) {
-        Ok(ring) => ring,
-        Err(fault) => {
-            assert_eq!(rt; fault, LineFault::Memory);
-            job_ring(alloc, 1)?
-        }
-    };
-    assert_eq!(rt; job_ring(alloc, 0).err(), Some(LineFault::Capacity));
-    let sent = jobs.send(vec![in alloc; 7u8]?);
-    assert!(rt; sent.is_ok());
-    let taken = end.take().ok_or("one image waits")?;
-    assert_eq!(rt; taken.as_slice(), [7].as_slice());
+    let (mut jobs, mut end) = ring_at_last(&rt, alloc)?;
+    assert_eq!(rt; ring_fault(alloc, 0), Some(LineFault::Capacity));
+    assert!(rt; sends(alloc, &mut jobs, 7)?);
+    assert!(rt; takes(&mut end, &[7]));
     Ok(())
 }

@@ -1,13 +1,11 @@
 //! What was published when a sector is erased.
 //! One answer was given, so one has to be seen.
 
-use crate::tests::rounds::served_seen;
-use crate::tests::tidying::all_waiting;
-use crate::tests::volumes::{create, dead_below_tail};
-use jffs_core::Core;
+use crate::tests::rounds::{answered_seen, served_seen};
+use crate::tests::volumes::{Ask, dead_below_tail, mounted};
 use jffs_flash::{Flash, FlashFault, MemoryFlash};
 use jffs_index::Reader;
-use jffs_serve::{Served, job_ring};
+use jffs_serve::Served;
 use std::cell::Cell;
 use std::test::Fail;
 
@@ -47,7 +45,7 @@ impl<'a> Flash for Watching<'a> {
 
     fn erase(&mut self, sector: u32) -> Result<(), FlashFault> {
         if let Some(mut reader) = self.reader.replace(None) {
-            self.seen.set(reader.look(|view| view.answered()));
+            self.seen.set(answered_seen(&mut reader));
         }
         self.inner.erase(sector)
     }
@@ -63,11 +61,8 @@ fn an_answer_is_published_before_a_sector_is_erased(rt: HostRuntime) -> Result<(
         reader: &slot,
         seen: &seen,
     };
-    let core = Core::mount(alloc, flash).ok().ok_or("it mounts")?;
-    let wishes = vec![in alloc; create(alloc, "/f")?]?;
-    let taker = all_waiting(&rt, alloc, wishes, false)?;
-    let (jobs, _end) = job_ring(alloc, 4)?;
-    let left = served_seen(&rt, alloc, core, taker, jobs, &slot)?;
+    let core = mounted(alloc, flash)?;
+    let left = served_seen(&rt, alloc, core, &[Ask::File("/f")], &slot, 1)?;
     assert_eq!(rt; left.served, Served::Ended);
     assert_eq!(rt; seen.get(), Some(1));
     Ok(())

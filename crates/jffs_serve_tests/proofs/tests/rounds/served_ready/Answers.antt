@@ -2,7 +2,7 @@ use Rattle.std.proofs.Common.{◌∙◌, sym, ap}
 use Rattle.jffs_core.specs.CoreState.{CoreState}
 use Rattle.jffs_index.specs.Histories.{opening_of}
 use Rattle.jffs_serve.proofs.Showing.{can_begin}
-use Rattle.jffs_serve_tests.proofs.tests.growths.session_after.Goals as goal
+use Rattle.jffs_serve_tests.proofs.tests.rounds.served_ready.Goals as goal
 
 pub serve_on-served-requires : goal.serve_on-served-requires
 serve_on-served-requires g c =

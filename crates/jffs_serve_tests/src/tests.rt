@@ -15,7 +15,7 @@ mod tidying;
 mod volumes;
 
 use crate::tests::cleaning::{
-    asked, cleaned_by, cleaner_side, handed_in_until, moved_copies, moved_job,
+    Side, asked, cleaned_by, cleaner_side, handed_in_until, moved_copies, moved_job,
 };
 use crate::tests::images::{ring, ring_fault, sent_back, takes};
 use crate::tests::rounds::{Left, last_two, served};
@@ -151,16 +151,14 @@ fn handed_in_over<R: Wait>(
     rounds: u32,
     ended: &Ended,
 ) -> Result<u32, Fail> {
-    let mut side = cleaner_side(rt, alloc, tree, 8)?;
-    Ok(handed_in_until(
-        rt,
-        alloc,
-        jobs,
-        &mut side.reader,
-        &mut side.hand,
-        rounds,
-        ended,
-    ))
+    let Side {
+        mut reader,
+        mut hand,
+        taker: _taker,
+        publisher: _publisher,
+    } = cleaner_side(rt, alloc, tree, 8)?;
+    let count = handed_in_until(rt, alloc, jobs, &mut reader, &mut hand, rounds, ended);
+    Ok(count)
 }
 
 /// Though it has many more rounds, and an image waits.

@@ -97,9 +97,14 @@ pub(super) fn cleaned_by<R: Wait>(
     tree: Tree,
     jobs: &mut JobEnd,
 ) -> Result<Vec<Request>, Fail> {
-    let mut side = cleaner_side(rt, alloc, tree, capacity)?;
-    let count = handed_in(rt, alloc, jobs, &mut side.reader, &mut side.hand, 1);
-    all_taken(rt, alloc, &mut side.taker, count)
+    let Side {
+        mut reader,
+        mut hand,
+        mut taker,
+        publisher: _publisher,
+    } = cleaner_side(rt, alloc, tree, capacity)?;
+    let count = handed_in(rt, alloc, jobs, &mut reader, &mut hand, 1);
+    all_taken(rt, alloc, &mut taker, count)
 }
 
 /// A ring with the image of the oldest sector of a volume that was mounted again.

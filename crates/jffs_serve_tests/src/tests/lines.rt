@@ -61,13 +61,13 @@ fn put_all<R: Wait, H: Hand>(
 }
 
 /// The taker of a line on which these wishes of a writer wait, an Unmount as the control's, and
-/// whose hands are gone.
+/// whose hands are gone. It has room for one more.
 pub(super) fn all_waiting<R: Wait>(
     rt: &R,
     alloc: Global,
     asks: &[Ask],
 ) -> Result<SharedTaker, Fail> {
-    let Ends { mut hands, taker } = line(rt, alloc, 64, 1)?;
+    let Ends { mut hands, taker } = line(rt, alloc, asks.len().saturating_add(1), 1)?;
     put_all(rt, alloc, &mut hands, asks)?;
     Ok(taker)
 }

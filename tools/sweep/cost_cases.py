@@ -117,10 +117,10 @@ def refused(size, calls):
     return served(files(size), [("remove", name + "x") for name in names(calls)], "refused NotFound")
 
 
-def refused_late(size, calls):
-    """The oldest sector has so many dead records before a live one, and is looked at after each answer."""
-    begin = ["create /f", *(f"truncate /f {number}" for number in range(size)), "create /live", *pieces(100)[1:]]
-    return served(begin, [("remove", "/none")] * calls, "refused NotFound")
+def late(size, calls):
+    """The oldest sector has so many dead records before a live one, and is looked at after each answer that changes."""
+    begin = ["create /f", *(f"truncate /f {number}" for number in range(size)), "create /live", *pieces(100)[1:], "create /w"]
+    return served(begin, [("write", "/w", 3, b"sixteen bytes ..")] * calls)
 
 
 def deep(size, calls):
@@ -178,7 +178,7 @@ CALLS = [
     Call("rename", rename, (300, 1200), 100, .2, "a rename of one of so many files"),
     Call("remove", remove, (300, 1200), 100, .2, "a remove of one of so many files"),
     Call("refused", refused, (300, 1200), 200, .2, "a request that is refused as NotFound beside so many files"),
-    Call("refused_late", refused_late, (60, 240), 200, .1, "the same with so many dead records before a live one"),
+    Call("late", late, (60, 240), 200, .1, "a write of 16 bytes with so many dead records before a live one"),
     Call("deep", deep, (2, 8), 200, .4, "a write of 16 bytes to a path of so many names"),
     Call("long_write", long_write, (1000, 4000), 50, 1, "a write of so many bytes"),
     Call("turn", turn, (2, 8), 200, .3, "a write to one of so many files of a ring that turns, with its erases"),

@@ -45,7 +45,7 @@ fn measure_all<R: Runtime<A = Global> + Threads + Wait + Sync, I: Read>(
     rt: &R,
     input: &mut I,
 ) -> Result<(), Fault> {
-    let work = work(rt)?;
+    let work = work_of(rt)?;
     let scale = if work == Work::Check {
         Scale::Check
     } else {
@@ -72,7 +72,7 @@ fn measure_all<R: Runtime<A = Global> + Threads + Wait + Sync, I: Read>(
 }
 
 /// What the program's word asks for.
-fn work(rt: &impl Runtime<A = Global>) -> Result<Work, Fault> {
+fn work_of(rt: &impl Runtime<A = Global>) -> Result<Work, Fault> {
     match env::args(rt)?.nth(1) {
         None => Ok(Work::LinesAndLooks),
         Some(word) => match word.parse::<u32>() {

@@ -1,7 +1,6 @@
 //! Looks at a volume. They change nothing, and see the changes whose calls are left as made.
 
 ghost use Rattle.std.specs.Prelude.{◌≡◌, ◌≢◌, IfOk, IfErr, Err};
-ghost use Rattle.jffs_log.specs.Room.{heavy};
 ghost use Rattle.jffs_core.specs.Jobs.{wants_cleaning};
 ghost use Rattle.jffs_c.specs.Blocked.{looks_blocked};
 ghost use Rattle.jffs_c.specs.Seen.{LeadsTo, LeadsNowhere, sight_in, IsSeen, IsRead, IsEntry};
@@ -10,7 +9,7 @@ ghost use Rattle.jffs_c.specs.Seen.{IsUsage};
 use crate::calls::put;
 use crate::code::Code;
 use crate::volume::Volume;
-use jffs_node::{FILE_MAX, HEADER_LEN, NAME_MAX, PATH_DEPTH_MAX};
+use jffs_node::{FILE_MAX, NAME_MAX, PATH_DEPTH_MAX};
 use jffs_tree::Tree;
 
 /// The most bytes of a path: eight names, each after a slash.
@@ -152,7 +151,7 @@ impl Volume {
             erased: log.erased(),
             records: u32::try_from(log.records().len()).unwrap_or(u32::MAX),
             weight: log.live_weight(self.core.tree()),
-            sure: self.sure_weight(),
+            sure: log.sure_weight(),
         })
     }
 
@@ -175,14 +174,6 @@ impl Volume {
     {
         self.may_look()?;
         Ok(self.core.clean())
-    }
-
-    fn sure_weight(&self) -> u64
-        ensures { result ≡ heavy self.now.core.index.sectors self.now.core.index.sector_size }
-    {
-        let log = self.core.log();
-        let of_each = (u64::from(log.sector_size()) * 3 / 4).saturating_sub(HEADER_LEN as u64);
-        u64::from(log.sectors().saturating_sub(4)) * of_each
     }
 
     /// The inode at a path. The path's faults, `NotFound`.

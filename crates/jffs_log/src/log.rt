@@ -10,7 +10,7 @@ use crate::log_index::{LogIndex, RecordRef};
 use crate::room::Room;
 use crate::writing::write_record;
 use jffs_flash::{Flash, FlashFault};
-use jffs_node::{Node, record_len};
+use jffs_node::{HEADER_LEN, Node, record_len};
 use jffs_tree::Cause;
 use std::collections::VecDeque;
 use std::marker::Model;
@@ -58,9 +58,9 @@ impl<F: Flash> Log<F> {
     ghost use Rattle.jffs_log.specs.LogState.{Appended, AppendFailed, AppendedAt, AppendFailedAt};
     ghost use Rattle.jffs_log.specs.LogState.{FitsIn};
     ghost use Rattle.jffs_log.specs.Cleaning.{in_tail, in_next};
-    ghost use Rattle.jffs_log.specs.Image.{erased_count};
+    ghost use Rattle.jffs_log.specs.Image.{tail_of, free_of_tail, erased_count};
     ghost use Rattle.jffs_log.specs.Volume.{sectors_in};
-    ghost use Rattle.jffs_log.specs.Room.{tail_need, has_room, has_room_in};
+    ghost use Rattle.jffs_log.specs.Room.{tail_need, has_room, has_room_in, heavy};
 
     /// The device.
     pub fn flash(&self) -> &F
@@ -85,6 +85,18 @@ impl<F: Flash> Log<F> {
             (sectors_in self.now.index.sectors self.now.index.sector_size self.now.device.image) }
     {
         self.index.sectors - self.index.held
+    }
+
+    /// How many bytes are erased after the last record of the sector that was begun last; 0 where a
+    /// write was cut off there, or the log has no sector. Takes no memory.
+    pub fn free(&self) -> u32
+        ensures known { result ≡ self.now.index.free }
+        ensures exact { self.now.failed ≡ false
+            → result ≡ free_of_tail self.now.index.sector_size
+            (tail_of (sectors_in self.now.index.sectors self.now.index.sector_size
+            self.now.device.image)) }
+    {
+        self.index.free
     }
 
     /// How often `erase_oldest` was called since the mount, failed calls too. It stays at its last
@@ -117,6 +129,15 @@ impl<F: Flash> Log<F> {
         let index = &self.index;
         room.tail_need(len) <= u64::from(index.free)
             || room.erased_need() <= index.sectors - index.held
+    }
+
+    /// The weight of the live records, in bytes, below which no fresh node is refused for want of
+    /// room while two sectors are erased: the bound of `full_logs_are_heavy`.
+    pub fn sure_weight(&self) -> u64
+        ensures { result ≡ heavy self.now.index.sectors self.now.index.sector_size }
+    {
+        let of_each = (u64::from(self.index.sector_size) * 3 / 4).saturating_sub(HEADER_LEN as u64);
+        u64::from(self.index.sectors.saturating_sub(4)) * of_each
     }
 
     /// Reserves the memory that `append` takes for one record.

@@ -16,7 +16,7 @@ use crate::fault::VolumeFault;
 use jffs_core::Core;
 use jffs_flash::Flash;
 use jffs_log::RecordRef;
-use jffs_node::{HEADER_LEN, Name, Path};
+use jffs_node::{Name, Path};
 use jffs_tree::Tree;
 use std::collections::VecDeque;
 use std::io;
@@ -201,18 +201,8 @@ pub(crate) fn usage_of<F: Flash>(core: &Core<F>) -> Usage
         sector_size: log.sector_size(),
         erased: log.erased(),
         weight: log.live_weight(core.tree()),
-        sure: sure_weight(core),
+        sure: log.sure_weight(),
     }
-}
-
-/// The weight of the live records, in bytes, below which no operation is refused for want of room
-/// while two sectors are erased.
-pub(crate) fn sure_weight<F: Flash>(core: &Core<F>) -> u64
-    ensures { result ≡ heavy core.now.index.sectors core.now.index.sector_size }
-{
-    let log = core.log();
-    let of_each = (u64::from(log.sector_size()) * 3 / 4).saturating_sub(HEADER_LEN as u64);
-    u64::from(log.sectors().saturating_sub(4)) * of_each
 }
 
 /// Writes how full a volume is: its sectors and their size in bytes, how many are erased, what its

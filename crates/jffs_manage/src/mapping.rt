@@ -5,7 +5,7 @@ ghost use Rattle.jffs_log.specs.LogIndex.{weight_in, log_in};
 ghost use Rattle.jffs_manage.specs.Weights.{recorded_in};
 
 use jffs_core::Core;
-use jffs_flash::{ERASED_BYTE, Flash};
+use jffs_flash::Flash;
 use jffs_log::{Log, RecordRef};
 use std::alloc::{AllocFailed, Global};
 use std::collections::VecDeque;
@@ -71,15 +71,11 @@ struct Tail {
     free: u32,
 }
 
-/// What the sectors of a volume hold, whose image has these bytes. The error: allocation failed.
-pub(crate) fn map_of<F: Flash>(
-    alloc: Global,
-    core: &Core<F>,
-    image: &[u8],
-) -> Result<Map, AllocFailed<Row>> {
+/// What the sectors of a volume hold. The error: allocation failed.
+pub(crate) fn map_of<F: Flash>(alloc: Global, core: &Core<F>) -> Result<Map, AllocFailed<Row>> {
     let log = core.log();
     let cell_len = (log.sector_size() / CELLS as u32).max(1);
-    let tail = tail_of(log, image);
+    let tail = tail_of(log);
     let mut rows = Vec::new(alloc);
     for sector in 0..log.sectors() {
         let mut cells = [rest_of(log, sector, tail); CELLS];
@@ -98,7 +94,7 @@ pub(crate) fn map_of<F: Flash>(
 }
 
 /// The tail of a log; `None` where it has no sector.
-fn tail_of<F: Flash>(log: &Log<F>, image: &[u8]) -> Option<Tail> {
+fn tail_of<F: Flash>(log: &Log<F>) -> Option<Tail> {
     if log.held() == 0 {
         return None;
     }
@@ -108,18 +104,10 @@ fn tail_of<F: Flash>(log: &Log<F>, image: &[u8]) -> Option<Tail> {
     } else {
         at.saturating_sub(log.sectors())
     };
-    let used = match log.records().back() {
-        Some(record) if record.sector == sector => record.offset.saturating_add(record.length),
-        _ => 0,
-    };
-    let size = u64::from(log.sector_size());
-    let begin = u64::from(sector) * size;
-    let rest = image.get((begin + u64::from(used)) as usize..(begin + size) as usize);
-    let free = match rest {
-        Some(rest) if rest.iter().all(|byte| *byte == ERASED_BYTE) => rest.len() as u32,
-        _ => 0,
-    };
-    Some(Tail { sector, free })
+    Some(Tail {
+        sector,
+        free: log.free(),
+    })
 }
 
 /// Whether a sector holds a part of the log.

@@ -154,7 +154,7 @@ fn look<Rt: Files + AllocGlobal, W: Write>(
         Look::Usage => Ok(write_usage(&core, out)?),
         Look::Check => Ok(check(&core, out)?),
         Look::Map { svg } => {
-            let map = map_of(alloc, &core, core.log().flash().bytes())?;
+            let map = map_of(alloc, &core)?;
             Ok(draw_as(&map, svg, coloured, out)?)
         }
     }

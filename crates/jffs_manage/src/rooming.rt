@@ -1,7 +1,6 @@
 //! Whether a put has room, before it begins.
 
 use crate::fault::VolumeFault;
-use crate::looking::sure_weight;
 use crate::session::Session;
 use jffs_core::{Cleaned, Core};
 use jffs_flash::Flash;
@@ -124,22 +123,15 @@ fn has_room<F: Flash>(session: &Session<F>, needed: Needed) -> bool {
         .log()
         .live_weight(core.tree())
         .saturating_add(needed.weight());
-    let is_light = weight < sure_weight(core) && core.log().erased() >= 2;
-    is_light || places_of(core, session.knows_tail()).hold(needed)
+    let is_light = weight < core.log().sure_weight() && core.log().erased() >= 2;
+    is_light || places_of(core).hold(needed)
 }
 
-fn places_of<F: Flash>(core: &Core<F>, knows_tail: bool) -> Places {
+fn places_of<F: Flash>(core: &Core<F>) -> Places {
     let log = core.log();
-    let sector_size = log.sector_size();
-    let free = match log.records().back() {
-        Some(last) if knows_tail => {
-            sector_size.saturating_sub(last.offset.saturating_add(last.length))
-        }
-        _ => 0,
-    };
     Places {
-        free,
+        free: log.free(),
         sectors: log.erased().saturating_sub(LEFT_ERASED),
-        sector_size,
+        sector_size: log.sector_size(),
     }
 }

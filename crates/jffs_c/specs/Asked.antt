@@ -1,16 +1,13 @@
 -- What a change comes to that may be.
 use Rattle.std.specs.Prelude.{◌≡◌, ◌≢◌, ◌⊎◌, List, ℕ, Ok}
-use Rattle.jffs_node.specs.declared.node.Node.{Node}
 use Rattle.jffs_node.specs.Path.{path_of}
 use Rattle.jffs_tree.specs.declared.wish.Wish.{Wish}
 use Rattle.jffs_tree.specs.declared.wish.Cause.{Cause}
 use Rattle.jffs_tree.specs.declared.wish.Cause.TheVariants as cause
 use Rattle.jffs_tree.specs.declared.wish.Outcome.{Outcome}
 use Rattle.jffs_tree.specs.declared.wish.Outcome.TheVariants as outcome
-use Rattle.jffs_line.specs.declared.request.Request.{Request}
 use Rattle.jffs_core.specs.CoreState.{CoreState, IsSameButCapacity}
-use Rattle.jffs_core.specs.Answering.{AddsAnswer, Answers}
-use Rattle.jffs_core.specs.Past.{Represents}
+use Rattle.jffs_core.specs.Asking.{HasAsked}
 use Rattle.jffs_c.specs.declared.code.Code.{Code}
 use Rattle.jffs_c.specs.declared.code.Code.TheVariants as code
 use Rattle.jffs_c.specs.declared.volume.Volume.{Volume}
@@ -41,17 +38,6 @@ code_of (outcome.Copied version) = code.Done
 code_of outcome.Closed = code.Done
 code_of (outcome.Refused why) = code_of_cause why
 
--- A request with this wish was put to the core, which kept this outcome as its answer: a lawful
--- step from the history before it.
-pub record IsAnswered (wish : Wish) (outcome : Outcome) (old new : CoreState) : Type 0 where
-  pub request : Request
-  pub wish_is : request.wish ≡ wish
-  pub reserved : CoreState
-  pub room : IsSameButCapacity old reserved
-  pub kept : AddsAnswer request.writer request.seq outcome reserved new
-  pub step : (mounted past : List Node) → Represents mounted past reserved
-      → Answers mounted past reserved new request outcome
-
 -- nothing was asked, and nothing is changed
 abbrev pub IsUnasked : Volume → Volume → Code → Type 0
 IsUnasked old new answer = (answer ≢ code.Done) × IsSameButCapacity old.core new.core
@@ -60,7 +46,7 @@ IsUnasked old new answer = (answer ≢ code.Done) × IsSameButCapacity old.core 
 pub record IsAsked (wish : Wish) (old new : Volume) (answer : Code) : Type 0 where
   pub outcome : Outcome
   pub told : answer ≡ code_of outcome
-  pub answered : IsAnswered wish outcome old.core new.core
+  pub answered : HasAsked wish outcome old.core new.core
 
 -- the core was asked this, or nothing was
 abbrev pub Asks : Wish → Volume → Volume → Code → Type 0

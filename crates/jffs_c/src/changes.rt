@@ -159,12 +159,11 @@ impl Volume {
         if let Err(code) = self.may_change() {
             return code;
         }
-        if self.core.reserve_answer().is_err() {
+        let seq = self.seq.saturating_add(1);
+        let Ok(outcome) = self.core.ask(Request { writer, seq, wish }) else {
             return Code::Memory;
-        }
-        self.seq = self.seq.saturating_add(1);
-        let seq = self.seq;
-        let outcome = self.core.answer(Request { writer, seq, wish });
+        };
+        self.seq = seq;
         self.turn();
         answer_of(outcome)
     }

@@ -84,13 +84,12 @@ impl Volume {
 
     /// Has the core grant a wish, and carries out what it leaves.
     pub(crate) fn change(&mut self, wish: Wish) -> Result<(), Fault> {
-        self.core.reserve_answer()?;
         self.seq = self.seq.saturating_add(1);
-        let outcome = self.core.answer(Request {
+        let outcome = self.core.ask(Request {
             writer: 1,
             seq: self.seq,
             wish,
-        });
+        })?;
         self.carry_out();
         match outcome {
             Outcome::Refused(_) => Err(Fault::Refused),

@@ -8,6 +8,7 @@ pub mod Appending
 pub mod Answering
 pub mod Cleaning
 pub mod Erases
+pub mod Asking
 pub mod Finding
 pub mod RoomSteps
 pub mod Rows

@@ -1,7 +1,7 @@
 //! One request, one answer.
 
 ghost use Rattle.std.specs.Prelude.{◌≡◌, ◌<◌, ◌≤◌, ◌+◌, ◌++◌, ◌∷◌, ◌||◌, ◌&&◌, [], List, length};
-ghost use Rattle.std.specs.Prelude.{true, false, OnOk, IfErr, Ok, Some, None};
+ghost use Rattle.std.specs.Prelude.{true, false, OnOk, OnErr, IfOk, IfErr, Ok, Some, None};
 ghost use Rattle.jffs_node.specs.Record.{record_len as length_of};
 ghost use Rattle.jffs_core.specs.CoreState.{IsSameButCapacity};
 ghost use Rattle.jffs_tree.specs.Decide.{is_copy_wish, is_unmount_wish};
@@ -22,6 +22,7 @@ impl<F: Flash> Core<F> {
     ghost use Rattle.jffs_core.specs.Answering.{Answers, AnswersWith, HasAnswered, HasActed};
     ghost use Rattle.jffs_core.specs.Answering.{HasAppended};
     ghost use Rattle.jffs_core.specs.Answering.{AddsAnswer, IsNodeOf, KeepsAnswer, WantsFresh};
+    ghost use Rattle.jffs_core.specs.Asking.{IsAsked};
     ghost use Rattle.jffs_core.specs.Erases.{Leaves, StaysBounded, erased_for};
     ghost use Rattle.jffs_core.specs.Trees.{TellsNode};
 
@@ -54,6 +55,22 @@ impl<F: Flash> Core<F> {
         ensures bounded { StaysBounded request.wish self.old self.new }
     {
         self.answer_with_node(&request).outcome
+    }
+
+    /// Answers a request as [`answer`](Core::answer) does, and keeps no answer, nor those that
+    /// were kept before: for whoever tells each at once, so that a core takes no more memory the
+    /// longer it is open.
+    ///
+    /// `Memory` if allocation failed for the answer: nothing was asked, and nothing is changed.
+    pub fn ask(&mut self, request: Request) -> Result<Outcome, Cause>
+        ensures asked { IfOk result (λ outcome. IsAsked request outcome self.old self.new) }
+        ensures unasked { OnErr result (IsSameButCapacity self.old self.new) }
+        ensures memory { IfErr result (λ cause. cause ≡ Cause.Memory) }
+    {
+        self.reserve_answer()?;
+        let outcome = self.answer(request);
+        self.answers.clear();
+        Ok(outcome)
     }
 
     /// Answers a request as [`answer`](Core::answer) does, and also returns the node that was

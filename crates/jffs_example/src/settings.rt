@@ -75,16 +75,15 @@ impl Settings {
         })
     }
 
-    /// Hands a wish to the core, which has capacity for its answer.
+    /// Hands a wish to the core.
     fn ask(&mut self, wish: Wish) -> Result<(), SettingFault> {
-        self.core.reserve_answer()?;
         self.seq = self.seq.saturating_add(1);
         let request = Request {
             writer: 1,
             seq: self.seq,
             wish,
         };
-        match self.core.answer(request) {
+        match self.core.ask(request)? {
             Outcome::Refused(cause) => Err(SettingFault::Refused(cause)),
             _ => Ok(()),
         }

@@ -1,8 +1,9 @@
 //! Requests to a mounted volume, one after another, up to its unmount.
 
 ghost use Rattle.std.specs.Prelude.{◌≡◌, IfOk, OnErr};
+ghost use Rattle.jffs_core.specs.Asking.{HasAsked};
 ghost use Rattle.jffs_core.specs.Trees.{KeepsTree};
-ghost use Rattle.jffs_manage.specs.Changes.{IsAnswered, IsCarriedOut};
+ghost use Rattle.jffs_manage.specs.Changes.{IsCarriedOut};
 
 use crate::fault::VolumeFault;
 use jffs_core::{Cleaned, Core};
@@ -44,12 +45,6 @@ impl<F: Flash> Session<F> {
     /// Cleans the oldest sector, as [`Core::clean_oldest`] does.
     pub fn clean_oldest(&mut self) -> Result<Cleaned, Cause> {
         self.core.clean_oldest()
-    }
-
-    /// Whether the bytes after the tail's records are known to be free: it was unmounted last, or
-    /// a record was appended in this session.
-    pub fn knows_tail(&self) -> bool {
-        self.core.clean() || self.core.limits() != self.begun
     }
 
     /// The tree as it is now.
@@ -109,13 +104,13 @@ impl<F: Flash> Session<F> {
     /// Has a request of this sender answered. `Memory`: nothing was asked.
     fn answer(&mut self, writer: u16, seq: u32, wish: Wish) -> Result<Outcome, VolumeFault>
         ensures answered { IfOk result
-            (λ outcome. IsAnswered wish outcome self.old.core self.new.core) }
+            (λ outcome. HasAsked wish outcome self.old.core self.new.core) }
         ensures memory { OnErr result (self.new.core.tree ≡ self.old.core.tree) }
     {
-        if self.core.reserve_answer().is_err() {
+        let Ok(outcome) = self.core.ask(Request { writer, seq, wish }) else {
             return Err(VolumeFault::Memory);
-        }
-        Ok(self.core.answer(Request { writer, seq, wish }))
+        };
+        Ok(outcome)
     }
 
     /// Has the control ask for the unmount.

@@ -132,8 +132,7 @@ impl Replay {
             return Err(ToolFault::Closed);
         }
         let before = count_given(core);
-        core.reserve_answer().map_err(|_| ToolFault::Memory)?;
-        let outcome = core.answer(request);
+        let outcome = core.ask(request).map_err(|_| ToolFault::Memory)?;
         let appended = count_given(core).saturating_sub(before);
         Ok(Answered {
             did: did(outcome, appended, last_offset(core)),

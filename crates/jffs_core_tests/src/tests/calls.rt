@@ -73,6 +73,28 @@ fn is_new_file(node: &Node) -> bool {
 }
 
 #[test]
+fn an_ask_keeps_no_answer(rt: HostRuntime) -> Result<(), Fail> {
+    let mut core = mounted(rt.alloc())?;
+    outcome_of(rt.alloc(), &mut core, 1, "create /f")?;
+    assert_eq!(rt; core.answers().len(), 1);
+    let request = Request {
+        writer: 1,
+        seq: 2,
+        wish: wish_of(rt.alloc(), "create /g")?,
+    };
+    let outcome = core.ask(request)?;
+    assert_eq!(rt;
+        outcome,
+        Outcome::Appended {
+            inode: 3,
+            version: 2
+        }
+    );
+    assert_eq!(rt; core.answers().len(), 0);
+    Ok(())
+}
+
+#[test]
 fn an_answer_comes_with_its_node(rt: HostRuntime) -> Result<(), Fail> {
     let mut core = mounted(rt.alloc())?;
     comes_with_its_node(&rt, rt.alloc(), &mut core)?;

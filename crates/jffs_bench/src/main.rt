@@ -16,7 +16,7 @@ use crate::fault::Fault;
 use crate::measure::{Measure, Scale};
 use crate::parts::measure_parts;
 use std::alloc::Global;
-use std::io::{BufWriter, Read};
+use std::io::{BufWriter, Read, Write};
 use std::process::ExitCode;
 use std::rt::Runtime;
 use std::sync::Wait;
@@ -46,29 +46,47 @@ fn measure_all<R: Runtime<A = Global> + Threads + Wait + Sync, I: Read>(
     input: &mut I,
 ) -> Result<(), Fault> {
     let work = work_of(rt)?;
-    let scale = if work == Work::Check {
-        Scale::Check
-    } else {
-        Scale::Full
-    };
     let out = BufWriter::new(rt.alloc(), io::writer(rt))?;
-    let mut measure = Measure::new(out, scale);
-    if work == Work::LinesAndLooks || work == Work::Check {
-        lines::measure_lines(rt, rt.alloc(), &mut measure)?;
-        looks::measure_looks(rt, rt.alloc(), &mut measure)?;
-    }
-    let times = match work {
-        Work::LinesAndLooks => 0,
-        Work::Script(times) => times,
-        Work::Check => 1,
-    };
-    if times > 0 {
-        let text = read_whole(rt.alloc(), input)?;
-        for _ in 0..times {
-            measure_parts(rt, rt.alloc(), text.as_slice(), &mut measure)?;
+    let mut measure = Measure::new(out, scale_of(work));
+    match work {
+        Work::LinesAndLooks => measure_lines_and_looks(rt, &mut measure)?,
+        Work::Script(times) => measure_script(rt, input, times, &mut measure)?,
+        Work::Check => {
+            measure_lines_and_looks(rt, &mut measure)?;
+            measure_script(rt, input, 1, &mut measure)?;
         }
     }
     measure.finish()
+}
+
+fn scale_of(work: Work) -> Scale {
+    if work == Work::Check {
+        Scale::Check
+    } else {
+        Scale::Full
+    }
+}
+
+fn measure_lines_and_looks<R: Runtime<A = Global> + Threads + Wait + Sync, W: Write + Drop>(
+    rt: &R,
+    measure: &mut Measure<W>,
+) -> Result<(), Fault> {
+    lines::measure_lines(rt, rt.alloc(), measure)?;
+    looks::measure_looks(rt, rt.alloc(), measure)
+}
+
+/// Reads a script, and measures the parts of its run so often.
+fn measure_script<R: Runtime<A = Global> + Threads + Wait + Sync, I: Read, W: Write + Drop>(
+    rt: &R,
+    input: &mut I,
+    times: u32,
+    measure: &mut Measure<W>,
+) -> Result<(), Fault> {
+    let text = read_whole(rt.alloc(), input)?;
+    for _ in 0..times {
+        measure_parts(rt, rt.alloc(), text.as_slice(), measure)?;
+    }
+    Ok(())
 }
 
 /// What the program's word asks for.

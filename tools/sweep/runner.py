@@ -66,14 +66,14 @@ class Runner:
     def __init__(self, options):
         self.options, self.tally = options, Tally()
         self.folder = pathlib.Path(tempfile.mkdtemp(prefix="sweep."))
-        self.refuses, self.delays = self.folder / "refuse.so", self.folder / "delay.so"
+        self.refuses, self.delays, self.counts_syncs = (self.folder / f"{name}.so" for name in ("refuse", "delay", "syncs"))
         self.missing = set()
 
     def close(self):
         shutil.rmtree(self.folder, ignore_errors=True)
 
     def build(self, library):
-        """The library that refuses, or the one that delays; False where it can't be built."""
+        """A library that is put before the C library; False where it can't be built."""
         source = HERE / f"{library.stem}.c"
         command = ["cc", "-O2", "-shared", "-fPIC", "-o", str(library), str(source)]
         try:

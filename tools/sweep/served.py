@@ -1,6 +1,8 @@
 """Asks `jffs_volume serve` by its pipe: made lists of requests against the model, malformed requests, input that ends
 anywhere, and a refusal of each allocation."""
+import os
 import random
+import subprocess
 import threading
 
 import malformed
@@ -38,6 +40,8 @@ def served(runner):
     runner.tally.tell("requests asked", "lists")
     refuse_malformed(runner, program)
     end_anywhere(runner, program)
+    if not runner.options.serve and runner.build(runner.counts_syncs):
+        sync_each(runner, program)
     if runner.build(runner.refuses):
         runner.each(range(REFUSED // min(thin, REFUSED)), lambda seed: refuse_allocations(runner, program, seed))
         runner.tally.tell("allocations refused", "lists")
@@ -311,6 +315,35 @@ def judge_output(judge, requests, ran):
 
 
 # Refused allocations.
+
+def sync_each(runner, program):
+    """Counts how often the operating system is asked to bring a volume's file to the medium: once before each change is
+    answered and for a `sync`, by each command that changes the file, and by none that only looks."""
+    image, syncs = make(runner, "synced", 8, 1024), runner.folder / "syncs"
+    env = dict(os.environ, LD_PRELOAD=str(runner.counts_syncs), SYNCS=str(syncs))
+
+    def counted(what, least, most, act):
+        syncs.unlink(missing_ok=True)
+        act()
+        found = syncs.stat().st_size if syncs.exists() else 0
+        runner.tally.add(f"syncs of {what}", None if least <= found <= most else f"{found}, where {least} to {most} are right")
+
+    def command(*words):
+        subprocess.run([str(word) for word in (program, *words)], input=b"bytes", env=env, check=True, capture_output=True)
+
+    client = Timed(program, image, 1024, env=env)
+    for number, verb in enumerate(("create", "sync", "create", "mkdir", "sync")):
+        words = () if verb == "sync" else (f"/{number}",)
+        counted(f"{verb}, served", 1, 1, lambda verb=verb, words=words: client.ask(verb, *words))
+    counted("a refused create, served", 0, 0, lambda: text_of(client, "create", "/0"))
+    counted("list, served", 0, 0, lambda: client.names("/"))
+    counted("unmount, served", 1, 2, lambda: client.ask("unmount"))
+    client.end()
+    for words in (("put", image, "/a"), ("mkdir", image, "/b"), ("mv", image, "/a", "/c"), ("rm", image, "/c")):
+        counted(words[0], 1, 9, lambda words=words: command(*words, "--sector-size", 1024))
+    for words in (("ls", image), ("df", image), ("check", image), ("cat", image, "/0")):
+        counted(words[0], 0, 0, lambda words=words: command(*words, "--sector-size", 1024))
+
 
 def refuse_allocations(runner, program, seed):
     """Each in turn, and then all from one on: each answer is right or says that memory was lacking, and what the answers

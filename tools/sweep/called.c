@@ -271,6 +271,21 @@ static void refusals(void) {
     memset(medium, 0xff, sizeof medium);
 }
 
+// A log of one record: it stands there twice, and then in a directory that isn't there.
+static void bad_log(void) {
+    pg_volume volume;
+    if (!open_medium(&volume))
+        return;
+    CHANGE(PG_DONE, pg_create(&volume, PATH("/f")));
+    pg_close(volume);
+    memcpy(medium + SIZE, medium, SIZE);
+    refusal_is(sizeof medium, SIZE, PG_BAD_ORDER, 0, 0, 0);
+    memset(medium + SIZE, 0xff, SIZE);
+    medium[15] = 9; // the last byte of the record's directory
+    refusal_is(sizeof medium, SIZE, PG_BAD_TREE, 0, 0, 0);
+    memset(medium, 0xff, sizeof medium);
+}
+
 // A closed record whose kind is none: the place and the rule are told.
 static void bad_record(void) {
     pg_volume volume;
@@ -286,14 +301,53 @@ static void bad_record(void) {
     memset(medium, 0xff, sizeof medium);
 }
 
+// The name of each code, and what it says.
+static const char *const WORDS[][2] = {
+    {"Done", "done"},
+    {"RootFixed", "the root stays as it is"},
+    {"NoParent", "the directory of the path isn't there"},
+    {"NameTaken", "the path is taken"},
+    {"NotFound", "nothing stands at the path"},
+    {"IsDirectory", "this can't be done to a directory"},
+    {"DataLong", "the data is too long for one node"},
+    {"FileLong", "the file would be too long"},
+    {"NotEmpty", "the directory isn't empty"},
+    {"NotNeeded", "no live node has this version"},
+    {"Stale", "the copy isn't current"},
+    {"InodesSpent", "no inode number is left"},
+    {"VersionsSpent", "no version is left"},
+    {"Memory", "memory was refused"},
+    {"NoSpace", "the log has no room"},
+    {"Device", "the flash failed"},
+    {"Failed", "the flash failed earlier"},
+    {"CallsLeft", "calls of the device are left"},
+    {"Nothing", "there is none"},
+    {"BufferShort", "the buffer is too short"},
+    {"PathNoSlash", "a path begins with a slash"},
+    {"PathNameEmpty", "a name is empty"},
+    {"PathNameLong", "a name is longer than 20 bytes"},
+    {"PathNameByte", "a name has a byte that is not allowed"},
+    {"PathDeep", "a path has more than 8 names"},
+    {"Geometry", "no volume has these sizes"},
+    {"BadRecord", "a record is bad"},
+    {"NoErased", "no sector is erased"},
+    {"Scattered", "the erased sectors are scattered"},
+    {"BadOrder", "the versions of the log don't rise"},
+    {"BadTree", "the nodes of the log make no tree"},
+};
+
+static int is_text(const char *wanted, const char *text, size_t length) {
+    return length == strlen(wanted) && memcmp(text, wanted, length) == 0;
+}
+
 static void words(void) {
     char text[64];
     for (uint32_t code = 0; code <= PG_BAD_TREE; code++) {
-        holds(pg_name(code, text, sizeof text) > 0 && pg_text(code, text, sizeof text) > 0, "words of each code");
-        holds(pg_name(code, text, 1) == 0, "a short buffer");
+        holds(is_text(WORDS[code][0], text, pg_name(code, text, sizeof text)), WORDS[code][0]);
+        holds(is_text(WORDS[code][1], text, pg_text(code, text, sizeof text)), WORDS[code][1]);
+        holds(pg_name(code, text, 1) == 0 && pg_text(code, text, 1) == 0, "a short buffer");
     }
     holds(pg_name(PG_BAD_TREE + 1, text, sizeof text) == 0 && pg_text(UINT32_MAX, text, 64) == 0, "no such code");
-    holds(pg_name(PG_NOT_FOUND, text, sizeof text) == 8 && memcmp(text, "NotFound", 8) == 0, "a name");
 }
 
 int main(int argc, char **argv) {
@@ -310,6 +364,7 @@ int main(int argc, char **argv) {
     memset(medium, 0xff, sizeof medium);
     refusals();
     bad_record();
+    bad_log();
     words();
     printf("%s %ld\n", wrong ? "wrong" : "right", allocations);
     return wrong;

@@ -71,6 +71,34 @@ fn a_put_without_room_leaves_nothing(rt: HostRuntime) -> Result<(), Fail> {
     Ok(())
 }
 
+/// A file that stays keeps its sector from being erased, so one that is replaced again and again has
+/// room only since that sector is cleaned.
+#[test]
+fn a_put_has_room_once_the_oldest_sector_is_cleaned(rt: HostRuntime) -> Result<(), Fail> {
+    let _ = fs::remove_file(&rt, "o.filled");
+    plays(
+        &rt,
+        &[
+            ("format o.filled 6 1024", "", 0, ""),
+            ("put o.filled /kept", "kept", 0, ""),
+        ],
+    )?;
+    let bytes = vec![in rt.alloc(); b'x'; 400]?;
+    for turn in 0..12u32 {
+        let (status, _) = called(&rt, "jffs_volume put o.filled /f", &bytes)?;
+        assert_eq!(rt; status, 0, "at turn {turn}");
+    }
+    plays(
+        &rt,
+        &[
+            ("ls o.filled", "", 0, "f 400 f\nf 4 kept\n"),
+            ("cat o.filled /kept", "", 0, "kept"),
+        ],
+    )?;
+    fs::remove_file(&rt, "o.filled")?;
+    Ok(())
+}
+
 /// A program that runs may be read, and not be written.
 #[test]
 fn a_file_that_may_only_be_read_is_read(rt: HostRuntime) -> Result<(), Fail> {

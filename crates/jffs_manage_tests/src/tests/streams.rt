@@ -3,7 +3,10 @@
 
 use super::plays;
 use jffs_manage::run_volume;
+use std::fs::File;
 use std::io::{ErrorKind, Read, Write};
+use std::process::Abort;
+use std::rt::Files;
 use std::test::Fail;
 use std::{fs, io};
 
@@ -69,5 +72,44 @@ fn each_fault_of_a_stream_has_its_text(rt: HostRuntime) -> Result<(), Fail> {
         assert_eq!(rt; errors.as_slice(), wanted.as_bytes(), "of {command}");
     }
     fs::remove_file(&rt, "b.image")?;
+    Ok(())
+}
+
+/// A session of `serve` over these streams, which ends so.
+fn serves<R: Read, W: Write>(
+    rt: &(impl Abort + Files<File = File> + AllocGlobal + Clone + Drop),
+    input: &mut R,
+    out: &mut W,
+    told: &str,
+) -> Result<(), Fail> {
+    let mut words = Vec::new(rt.alloc());
+    for word in ["jffs_volume", "serve", "t.image"] {
+        words.push(String::from_str(rt.alloc(), word)?)?;
+    }
+    let mut errors = Vec::new(rt.alloc());
+    let ended = run_volume(rt, &words, input, out, &mut errors, false);
+    let wanted = format!(in rt.alloc(); "jffs_volume: t.image: {told}\n")?;
+    assert_eq!(rt; errors.as_slice(), wanted.as_bytes());
+    assert_eq!(rt; ended, 1, "of {told}");
+    Ok(())
+}
+
+#[test]
+fn a_stream_that_fails_ends_a_session(rt: HostRuntime) -> Result<(), Fail> {
+    let _ = fs::remove_file(&rt, "t.image");
+    plays(&rt, &[("format t.image 6 1024", "", 0, "")])?;
+    for (kind, told) in [
+        (ErrorKind::BrokenPipe, "standard input can't be read"),
+        (ErrorKind::OutOfMemory, "out of memory"),
+    ] {
+        let mut input = b"create 2\n/f".as_slice().chain(Broken { kind });
+        let mut out = Vec::new(rt.alloc());
+        serves(&rt, &mut input, &mut out, told)?;
+        let mut sync = b"sync\n".as_slice();
+        let told = "standard output can't be written";
+        serves(&rt, &mut sync, &mut Broken { kind }, told)?;
+    }
+    plays(&rt, &[("ls t.image", "", 0, "f 0 f\n")])?;
+    fs::remove_file(&rt, "t.image")?;
     Ok(())
 }

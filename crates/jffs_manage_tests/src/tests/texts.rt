@@ -176,6 +176,18 @@ fn an_error_of_a_name_is_named_by_its_place(rt: HostRuntime) {
     );
 }
 
+#[test]
+fn an_error_of_the_file_of_a_volume_is_named(rt: HostRuntime) {
+    for (kind, wanted) in [
+        (ErrorKind::OutOfMemory, VolumeFault::Memory),
+        (ErrorKind::NotFound, VolumeFault::File(FileFault::Missing)),
+        (ErrorKind::PermissionDenied, VolumeFault::Unread),
+    ] {
+        let found = VolumeFault::of_file_read(io::Error::from(kind));
+        assert_eq!(rt; found, wanted);
+    }
+}
+
 /// Memory is ample in a test, so what an allocation that failed gives is made here.
 #[test]
 fn each_want_of_memory_is_told_as_one(rt: HostRuntime) -> Result<(), Fail> {

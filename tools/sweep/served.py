@@ -318,7 +318,7 @@ def judge_output(judge, requests, ran):
 
 def sync_each(runner, program):
     """Counts how often the operating system is asked to bring a volume's file to the medium: once before each change is
-    answered and for a `sync`, by each command that changes the file, and by none that only looks."""
+    answered and for a `sync`, by commands that change the file, and by none that only looks."""
     image, syncs = make(runner, "synced", 8, 1024), runner.folder / "syncs"
     env = dict(os.environ, LD_PRELOAD=str(runner.counts_syncs), SYNCS=str(syncs))
 

@@ -6,7 +6,7 @@ use Rattle.jffs_tree.specs.declared.wish.Cause.{Cause}
 use Rattle.jffs_tree.specs.declared.wish.Cause.TheVariants as cause
 use Rattle.jffs_tree.specs.declared.wish.Outcome.{Outcome}
 use Rattle.jffs_tree.specs.declared.wish.Outcome.TheVariants as outcome
-use Rattle.jffs_core.specs.CoreState.{CoreState, IsSameButCapacity}
+use Rattle.jffs_core.specs.CoreState.{IsSameButCapacity}
 use Rattle.jffs_core.specs.Asking.{HasAsked}
 use Rattle.jffs_c.specs.declared.code.Code.{Code}
 use Rattle.jffs_c.specs.declared.code.Code.TheVariants as code

@@ -1,5 +1,4 @@
-use Rattle.std.proofs.Common.{rules, ◌≡◌, [], subst}
-use Rattle.jffs_core.specs.CoreState.{CoreState}
+use Rattle.std.proofs.Common.{rules}
 use Rattle.jffs_core.proofs.mounted_core.Core.ask.Goals as goal
 
 pub returns-clause-asked : goal.returns-clause-asked

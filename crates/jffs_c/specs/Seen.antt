@@ -1,9 +1,11 @@
 -- What looks see.
-use Rattle.std.specs.Prelude.{◌≡◌, ◌≢◌, ◌-◌, ◌++◌, ℕ, false, List, length}
-use Rattle.std.specs.Prelude.{map, sum, take, drop, min, slice_get, unwrap_or, Some, None, Ok}
+use Rattle.std.specs.Prelude.{◌≡◌, ◌≢◌, ◌⊎◌, ◌-◌, ◌++◌, ℕ, false, List, length}
+use Rattle.std.specs.Prelude.{map, sum, take, drop, min, slice_get, unwrap_or, Some, None, Ok, Err}
 use Rattle.std.specs.List.{filter}
 use Rattle.std.specs.List.Sorted.{IsPermutation, IsSorted}
 use Rattle.jffs_node.specs.Path.{path_of}
+use Rattle.jffs_node.specs.declared.path.PathFault.{PathFault}
+use Rattle.jffs_node.specs.declared.path.PathFault.TheVariants as fault
 use Rattle.jffs_tree.specs.State.{resolve, is_directory_in}
 use Rattle.jffs_tree.specs.Origin.{Tree, state_in}
 use Rattle.jffs_tree.specs.Look.{bytes_in, size_of, names_in, name_cmp, holds_version}
@@ -14,9 +16,25 @@ use Rattle.jffs_c.specs.declared.looks.Sight.{Sight}
 use Rattle.jffs_c.specs.declared.looks.Usage.{Usage}
 use Rattle.jffs_c.specs.declared.volume.Volume.{Volume}
 
+-- the code of why bytes spell no path
+abbrev pub code_of_fault : PathFault → Code
+code_of_fault fault.NoSlash = code.PathNoSlash
+code_of_fault fault.NameEmpty = code.PathNameEmpty
+code_of_fault fault.NameLong = code.PathNameLong
+code_of_fault fault.NameByte = code.PathNameByte
+code_of_fault fault.Deep = code.PathDeep
+code_of_fault fault.Memory = code.Memory
+
 -- it says that bytes spell no path, and nothing of what stands there
 abbrev pub IsOfPaths : Code → Type 0
 IsOfPaths answer = (answer ≢ code.Done) × (answer ≢ code.NotFound)
+
+-- why these bytes spell no path: a byte that no name has, memory, or their first fault
+abbrev pub IsFaultOf : List ℕ → Code → Type 0
+IsFaultOf bytes answer =
+    (answer ≡ code.PathNameByte)
+    ⊎ (answer ≡ code.Memory)
+    ⊎ ((why : PathFault) × (path_of bytes ≡ Err why) × (answer ≡ code_of_fault why))
 
 -- these bytes spell a path, at which the volume has this inode
 pub record LeadsTo (bytes : List ℕ) (volume : Volume) (inode : ℕ) : Type 0 where

@@ -5,13 +5,13 @@ ghost use Rattle.jffs_node.specs.Path.{path_of};
 ghost use Rattle.jffs_c.specs.Blocked.{blocked, IsHeldBack};
 ghost use Rattle.jffs_c.specs.Asked.{code_of, Asks, AsksAt, AsksBetween};
 ghost use Rattle.jffs_c.specs.Cleaned.{CleansOldest, ErasesTheDead};
-ghost use Rattle.jffs_c.specs.Seen.{IsOfPaths};
+ghost use Rattle.jffs_c.specs.Seen.{IsOfPaths, IsFaultOf};
 
 use crate::code::Code;
 use crate::volume::Volume;
 use jffs_core::Cleaned;
 use jffs_line::{CONTROL, Request};
-use jffs_node::{Path, copied};
+use jffs_node::{Path, PathFault, copied};
 use jffs_tree::{Outcome, Wish};
 
 /// The sender's number in the records.
@@ -182,12 +182,14 @@ impl Volume {
     pub(crate) fn path(&self, bytes: &[u8]) -> Result<Path, Code>
         ensures path { IfOk result (λ path. path_of bytes.now ≡ Ok path) }
         ensures refused { IfErr result IsOfPaths }
+        ensures fault { IfErr result (IsFaultOf bytes.now) }
     {
         let Ok(text) = std::str::from_utf8(bytes) else {
             return Err(Code::PathNameByte);
         };
         match Path::parse(self.alloc, text) {
             Ok(path) => Ok(path),
+            Err(PathFault::Memory) => Err(Code::Memory),
             Err(fault) => Err(Code::from(fault)),
         }
     }

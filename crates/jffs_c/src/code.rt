@@ -3,7 +3,6 @@
 ghost use Rattle.std.specs.Prelude.{◌≡◌};
 ghost use Rattle.jffs_c.specs.Codes.{number_of};
 
-use jffs_log::ScanWhy;
 use jffs_node::PathFault;
 use jffs_tree::Cause;
 
@@ -155,9 +154,9 @@ impl From<Cause> for Code {
 }
 
 impl From<PathFault> for Code {
-    ghost use Rattle.jffs_c.specs.Seen.{IsOfPaths};
+    ghost use Rattle.jffs_c.specs.Seen.{IsOfPaths, code_of_fault};
 
-    ghost from_gives = { λ _ code. IsOfPaths code };
+    ghost from_gives = { λ fault code. (code ≡ code_of_fault fault) × IsOfPaths code };
 
     fn from(fault: PathFault) -> Code {
         match fault {
@@ -167,21 +166,6 @@ impl From<PathFault> for Code {
             PathFault::NameByte => Code::PathNameByte,
             PathFault::Deep => Code::PathDeep,
             PathFault::Memory => Code::Memory,
-        }
-    }
-}
-
-impl From<ScanWhy> for Code {
-    fn from(why: ScanWhy) -> Code {
-        match why {
-            ScanWhy::Geometry => Code::Geometry,
-            ScanWhy::Device => Code::Device,
-            ScanWhy::BadRecord { .. } => Code::BadRecord,
-            ScanWhy::NoErased => Code::NoErased,
-            ScanWhy::Scattered => Code::Scattered,
-            ScanWhy::BadOrder => Code::BadOrder,
-            ScanWhy::BadTree => Code::BadTree,
-            ScanWhy::Memory => Code::Memory,
         }
     }
 }

@@ -7,6 +7,7 @@ ghost use Rattle.jffs_c.specs.Codes.{number_of};
 ghost use Rattle.jffs_c.specs.Exports.{HoldsBack, HoldsBackLooks, Changes};
 ghost use Rattle.jffs_c.specs.Asked.{Asks, AsksAt, AsksBetween};
 ghost use Rattle.jffs_c.specs.Cleaned.{CleansOldest, ErasesTheDead};
+ghost use Rattle.jffs_c.specs.Opened.{TellsRefusal};
 ghost use Rattle.jffs_c.specs.Seen.{IsSeen, IsUsage, IsRead, IsEntry};
 
 use crate::calls::{NextCall, put};
@@ -25,7 +26,9 @@ pub extern "C" fn pg_open(
     sector_size: u32,
     volume: &mut *mut u8,
     refusal: &mut Refusal,
-) -> u32 {
+) -> u32
+    ensures { TellsRefusal medium.now sector_size refusal.old refusal.new result }
+{
     match open(alloc, medium, sector_size) {
         Ok(opened) => {
             *volume = Box::into_raw(opened).cast::<u8>();

@@ -1,7 +1,8 @@
 //! A volume from the bytes of its medium.
 
-ghost use Rattle.std.specs.Prelude.{◌≡◌, ◌*◌, IfOk, IfSome, length};
-ghost use Rattle.jffs_c.specs.Opened.{IsOpened};
+ghost use Rattle.std.specs.Prelude.{◌≡◌, ◌*◌, IfOk, IfErr, IfSome, None, length};
+ghost use Rattle.jffs_c.specs.Opened.{IsOpened, IsNotOpened, HasNoGeometry};
+ghost use Rattle.jffs_c.specs.Opened.{number_of_rule, told_of, told_plainly};
 
 use crate::code::Code;
 use crate::volume::Volume;
@@ -35,7 +36,8 @@ pub(crate) struct Refused {
 ///
 /// `Geometry` where no volume has these sizes, then the causes of a scan; `Memory`.
 pub(crate) fn open(alloc: Global, bytes: &[u8], sector_size: u32) -> Result<Box<Volume>, Refused>
-    ensures { IfOk result (λ volume. IsOpened bytes.now sector_size volume.value) }
+    ensures opened { IfOk result (λ volume. IsOpened bytes.now sector_size volume.value) }
+    ensures refused { IfErr result (λ refused. IsNotOpened bytes.now sector_size refused) }
 {
     let Some(sectors) = sectors_of(bytes, sector_size) else {
         return Err(plain(Code::Geometry));
@@ -55,7 +57,8 @@ pub(crate) fn open(alloc: Global, bytes: &[u8], sector_size: u32) -> Result<Box<
 
 /// How many sectors of this size the bytes are; `None` where no volume has these sizes.
 fn sectors_of(bytes: &[u8], sector_size: u32) -> Option<u32>
-    ensures { IfSome result (λ sectors. length bytes.now ≡ sectors * sector_size) }
+    ensures whole { IfSome result (λ sectors. length bytes.now ≡ sectors * sector_size) }
+    ensures none { result ≡ None → HasNoGeometry bytes.now sector_size }
 {
     let len = u32::try_from(bytes.len()).ok()?;
     let sectors = len.checked_div(sector_size)?;
@@ -67,7 +70,10 @@ fn sectors_of(bytes: &[u8], sector_size: u32) -> Option<u32>
     }
 }
 
-fn plain(code: Code) -> Refused {
+/// A refusal that is told by its code alone.
+fn plain(code: Code) -> Refused
+    ensures { result ≡ told_plainly code }
+{
     Refused {
         code,
         refusal: Refusal {
@@ -78,23 +84,32 @@ fn plain(code: Code) -> Refused {
     }
 }
 
-fn refusal_of(why: ScanWhy) -> Refused {
-    let code = Code::from(why);
+fn refusal_of(why: ScanWhy) -> Refused
+    ensures { result ≡ told_of why }
+{
     match why {
         ScanWhy::BadRecord { sector, place, why } => Refused {
-            code,
+            code: Code::BadRecord,
             refusal: Refusal {
                 sector,
                 place,
                 rule: rule_of(why),
             },
         },
-        _ => plain(code),
+        ScanWhy::Geometry => plain(Code::Geometry),
+        ScanWhy::Device => plain(Code::Device),
+        ScanWhy::NoErased => plain(Code::NoErased),
+        ScanWhy::Scattered => plain(Code::Scattered),
+        ScanWhy::BadOrder => plain(Code::BadOrder),
+        ScanWhy::BadTree => plain(Code::BadTree),
+        ScanWhy::Memory => plain(Code::Memory),
     }
 }
 
 /// The number of a rule.
-fn rule_of(why: Why) -> u32 {
+fn rule_of(why: Why) -> u32
+    ensures { result ≡ number_of_rule why }
+{
     match why {
         Why::Magic => 1,
         Why::Kind => 2,

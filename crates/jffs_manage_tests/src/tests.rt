@@ -4,6 +4,7 @@
 mod damaged;
 mod faults;
 mod filling;
+mod hosts;
 mod images;
 mod maps;
 mod served;

@@ -1,27 +1,25 @@
 -- What a decision gives: its causes, its nodes, and that they may follow.
-use Rattle.std.proofs.Common.{◌≡◌, ⊎_elim, ℕ, ◌+◌, ◌-◌, ◌/◌, ◌^◌, ◌≤◌, ◌<◌, Bool, true, false, ◌&&◌, ◌||◌, not, cond, leb, ltb, eqb, min, max, List, [], ◌∷◌, ◌++◌, length, Option, Some, None, is_none, is_some, unwrap_or, Result, Ok, Err, refl, sym, ap, subst, ◌∙◌, arith}
-use Rattle.std.specs.Prelude.{bytes_eq}
+use Rattle.std.proofs.Common.{◌≡◌, ⊎_elim, ℕ, ◌+◌, ◌-◌, ◌/◌, ◌^◌, ◌≤◌, ◌<◌, Bool, true, false, ◌&&◌, ◌||◌, not, cond, leb, ltb, eqb, min, max, List, [], ◌∷◌, ◌++◌, length, Option, Some, None, is_some, Result, Ok, Err, refl, sym, ap, subst, ◌∙◌, arith}
 use Rattle.std.specs.List.{list_all, AllByRecursion}
 use Rattle.std.specs.Option.{option_map_or}
 use Rattle.std.proofs.lemmas.Bool.{and_parts, and_from, cases_Bool, ltb-true, lt-ltb, eqb-true}
 use Rattle.std.proofs.lemmas.Option.{none-some, same_Some, cond_some}
 use Rattle.jffs_node.specs.declared.node.Node.{Node}
-use Rattle.jffs_node.specs.declared.node.Kind.TheVariants.{File, Directory}
-use Rattle.jffs_node.specs.Record.{record_len, len_of_data, file_max, is_directory, is_fresh, is_unmount, is_lawful}
+use Rattle.jffs_node.specs.Record.{record_len, len_of_data, is_fresh, is_unmount, is_lawful}
 use Rattle.jffs_node.specs.Name.{is_name}
 use Rattle.jffs_node.proofs.Lawfulness.{rules_of}
 use Rattle.jffs_flash.specs.Sizes.{is_geometry, is_sector_size}
 use Rattle.jffs_tree.specs.declared.wish.Wish.{Wish}
 use Rattle.jffs_tree.specs.declared.wish.Wish.TheVariants.{MakeDir, Create, Write, Truncate, Rename, Remove, Copy, Unmount}
 use Rattle.jffs_tree.specs.declared.wish.Cause.{Cause}
-use Rattle.jffs_tree.specs.declared.wish.Cause.TheVariants.{RootFixed, NoParent, NameTaken, NotFound, IsDirectory, DataLong, FileLong, NotEmpty, NotNeeded, Stale, InodesSpent, VersionsSpent, Memory, NoSpace, Device, Failed}
+use Rattle.jffs_tree.specs.declared.wish.Cause.TheVariants.{Memory, NoSpace, Device, Failed}
 use Rattle.jffs_tree.specs.declared.wish.Limits.{Limits}
 use Rattle.jffs_tree.specs.declared.wish.NewNode.{NewNode}
-use Rattle.jffs_tree.specs.State.{Entry, State, written, is_directory_in, state_of_past}
+use Rattle.jffs_tree.specs.State.{Entry, State, written, state_of_past}
 use Rattle.jffs_tree.specs.Origin.{Held, entry, concerns, holder, tree_of}
-use Rattle.jffs_tree.specs.Decide.{unless, is_root, has_parent, is_there, parent_in, last_name, inode_at, entry_of, has_names, plain, write_node, truncate_node, copy_node, unmount_node, held_entry, held_inode, is_current, decide_in, decide, with, is_copy_wish, is_unmount_wish}
+use Rattle.jffs_tree.specs.Decide.{unless, inode_at, entry_of, plain, write_node, causes_for, node_for, decide_in, decide, with, is_copy_wish, is_unmount_wish}
 use Rattle.jffs_tree.specs.Deciding.{IsLawfulPast, AreLimitsOf, IsWish}
-use Rattle.jffs_tree.proofs.Decided.{decided_nodes_keep_rules, all_passed}
+use Rattle.jffs_tree.proofs.Decided.{decided_nodes_keep_rules, nothing_stands}
 use Rattle.jffs_tree.proofs.TrueCopy.{true_copy_keeps_state}
 use Rattle.jffs_log.specs.declared.room.Room.{Room}
 use Rattle.jffs_log.specs.RoomLaws.{suits_room}
@@ -32,49 +30,6 @@ use Rattle.jffs_log.specs.History.{KeepsRules}
 use Rattle.jffs_core.specs.History.{AreOwnCopies, MayFollow}
 use Rattle.jffs_core.specs.Run.{OnlyCopies}
 use Rattle.jffs_core.specs.Appending.{MayPut}
-
--- What stands against a wish, and its node, apart.
-abbrev causes_for : State → (ℕ → Option (ℕ × Held)) → Limits → Wish → List (Bool × Cause)
-causes_for s holds limits (MakeDir path) =
-    (is_root path, RootFixed) ∷ (not (has_parent s path), NoParent) ∷ (is_there s path, NameTaken) ∷ (is_none limits.next_inode, InodesSpent) ∷ (is_none limits.next_version, VersionsSpent) ∷ []
-causes_for s holds limits (Create path) =
-    (is_root path, RootFixed) ∷ (not (has_parent s path), NoParent) ∷ (is_there s path, NameTaken) ∷ (is_none limits.next_inode, InodesSpent) ∷ (is_none limits.next_version, VersionsSpent) ∷ []
-causes_for s holds limits (Write path offset bytes) =
-    (not (is_there s path), NotFound) ∷ (is_directory_in s (inode_at s path), IsDirectory) ∷ (ltb limits.data_max (length bytes), DataLong) ∷ (ltb file_max (offset + length bytes), FileLong)
-    ∷ (is_none limits.next_version, VersionsSpent) ∷ []
-causes_for s holds limits (Truncate path size) =
-    (not (is_there s path), NotFound) ∷ (is_directory_in s (inode_at s path), IsDirectory) ∷ (ltb file_max size, FileLong) ∷ (is_none limits.next_version, VersionsSpent) ∷ []
-causes_for s holds limits (Rename source target) =
-    (is_root source || is_root target, RootFixed) ∷ (not (has_parent s target), NoParent) ∷ (is_there s target, NameTaken) ∷ (not (is_there s source), NotFound)
-    ∷ (is_directory (entry_of s (inode_at s source)).kind && not (eqb (entry_of s (inode_at s source)).parent (unwrap_or (parent_in s target) 0)), IsDirectory)
-    ∷ (is_none limits.next_version, VersionsSpent) ∷ []
-causes_for s holds limits (Remove path) =
-    (is_root path, RootFixed) ∷ (not (is_there s path), NotFound) ∷ (has_names s (inode_at s path), NotEmpty) ∷ (is_none limits.next_version, VersionsSpent) ∷ []
-causes_for s holds limits (Copy source parent name offset bytes) =
-    (ltb limits.data_max (length bytes), DataLong) ∷ (is_none (holds source), NotNeeded)
-    ∷ (not ((eqb (held_entry (holds source)).parent parent && bytes_eq (held_entry (holds source)).name name) && is_current (held_entry (holds source)) offset bytes), Stale)
-    ∷ (is_none limits.next_version, VersionsSpent) ∷ []
-causes_for s holds limits Unmount = (is_none limits.next_version, VersionsSpent) ∷ []
-
-abbrev node_for : State → (ℕ → Option (ℕ × Held)) → Limits → Wish → NewNode
-node_for s holds limits (MakeDir path) = plain (unwrap_or limits.next_inode 0) (record { kind = Directory; parent = unwrap_or (parent_in s path) 0; name = last_name path; bytes = [] })
-node_for s holds limits (Create path) = plain (unwrap_or limits.next_inode 0) (record { kind = File; parent = unwrap_or (parent_in s path) 0; name = last_name path; bytes = [] })
-node_for s holds limits (Write path offset bytes) = write_node (inode_at s path) (entry_of s (inode_at s path)) offset bytes
-node_for s holds limits (Truncate path size) = truncate_node (inode_at s path) (entry_of s (inode_at s path)) size
-node_for s holds limits (Rename source target) = plain (inode_at s source) (record (entry_of s (inode_at s source)) { parent = unwrap_or (parent_in s target) 0; name = last_name target })
-node_for s holds limits (Remove path) = record (plain (inode_at s path) (entry_of s (inode_at s path))) { deleted = true; size = None }
-node_for s holds limits (Copy source parent name offset bytes) = copy_node (held_inode (holds source)) (held_entry (holds source)) offset bytes
-node_for s holds limits Unmount = unmount_node
-
-in_parts : (s : State) (holds : ℕ → Option (ℕ × Held)) (limits : Limits) (wish : Wish) → decide_in s holds limits wish ≡ unless (causes_for s holds limits wish) (node_for s holds limits wish)
-in_parts s holds limits (MakeDir path) = refl
-in_parts s holds limits (Create path) = refl
-in_parts s holds limits (Write path offset bytes) = refl
-in_parts s holds limits (Truncate path size) = refl
-in_parts s holds limits (Rename source target) = refl
-in_parts s holds limits (Remove path) = refl
-in_parts s holds limits (Copy source parent name offset bytes) = refl
-in_parts s holds limits Unmount = refl
 
 -- The causes of a decision say something of the tree or its numbers.
 abbrev pub is_of_tree : Cause → Bool
@@ -109,7 +64,7 @@ pub decided_cause : (past : List Node) (limits : Limits) (wish : Wish) (cause : 
 decided_cause past limits wish cause is =
     let s = state_of_past past in
     let holds : ℕ → Option (ℕ × Held) = λ v. holder (tree_of past) v in
-    one_of (causes_for s holds limits wish) (node_for s holds limits wish) cause (of_tree s holds limits wish) (sym (in_parts s holds limits wish) ∙ is)
+    one_of (causes_for s holds limits wish) (node_for s holds limits wish) cause (of_tree s holds limits wish) is
 
 -- The node of a wish that is neither a Copy nor an Unmount is no copy, and has a name.
 abbrev IsNamed : NewNode → Type 0
@@ -256,9 +211,6 @@ module _ (count z : ℕ) (past after : List Node) (wish : Wish) (n : NewNode) (v
 
   pub is_made_fresh : is_copy_wish wish ≡ false → is_unmount_wish wish ≡ false → is_fresh (with n version writer seq) ≡ true
   is_made_fresh c u =
-      let s = state_of_past after in
-      let holds : ℕ → Option (ℕ × Held) = λ v. holder (tree_of after) v in
-      let limits = limits_of z past in
-      let made = (all_passed (causes_for s holds limits wish) (node_for s holds limits wish) n (sym (in_parts s holds limits wish) ∙ is)).1 in
-      let name = subst IsNamed made (named s holds limits wish c u) in
+      let made = (nothing_stands after (limits_of z past) wish n is).1 in
+      let name = subst IsNamed made (named (state_of_past after) (λ v. holder (tree_of after) v) (limits_of z past) wish c u) in
       fresh_node (with n version writer seq) name.0 name.1 both.0.each.0

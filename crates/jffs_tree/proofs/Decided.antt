@@ -1,5 +1,5 @@
 -- A decided node keeps the rules, wish by wish.
-use Rattle.std.proofs.Common.{◌≡◌, ℕ, min, max, ◌+◌, ◌-◌, ◌<◌, ◌≤◌, Bool, true, false, cond, not, ◌&&◌, ◌||◌, eqb, leb, ltb, IsTrue, List, [], ◌∷◌, length, take, drop, get_or, ⊎_elim, Option, Some, None, is_none, is_some, unwrap_or, Ok, Err, bytes_eq, refl, sym, ap, subst, ◌∙◌, arith}
+use Rattle.std.proofs.Common.{◌≡◌, ℕ, min, max, ◌+◌, ◌-◌, ◌<◌, ◌≤◌, Bool, true, false, cond, ◌&&◌, ◌||◌, eqb, leb, IsTrue, List, [], ◌∷◌, length, take, drop, get_or, ⊎_elim, Option, Some, None, is_some, unwrap_or, Ok, Err, bytes_eq, refl, sym, ap, subst, ◌∙◌, arith}
 use Rattle.std.specs.List.{AllByRecursion}
 use Rattle.std.specs.Option.{option_map_or}
 use Rattle.std.proofs.lemmas.Bool.{leb-true, le-leb, ltb-false, eqb-false, and_parts, or_parts, not-false}
@@ -8,9 +8,8 @@ use Rattle.jffs_node.specs.declared.node.Node.{Node}
 use Rattle.jffs_node.specs.declared.node.Kind.{Kind}
 use Rattle.jffs_node.specs.declared.node.Kind.TheVariants.{File, Directory}
 use Rattle.jffs_node.specs.Name.{is_name}
-use Rattle.jffs_node.specs.Record.{dsize, file_max, kind_byte, is_directory, is_lawful}
+use Rattle.jffs_node.specs.Record.{dsize, file_max, kind_byte, is_lawful}
 use Rattle.jffs_tree.specs.declared.wish.Cause.{Cause}
-use Rattle.jffs_tree.specs.declared.wish.Cause.TheVariants.{RootFixed, NoParent, NameTaken, NotFound, IsDirectory, DataLong, FileLong, NotEmpty, NotNeeded, Stale, InodesSpent, VersionsSpent}
 use Rattle.jffs_tree.specs.declared.wish.Limits.{Limits}
 use Rattle.jffs_tree.specs.declared.wish.NewNode.{NewNode}
 use Rattle.jffs_tree.specs.declared.wish.Wish.{Wish}
@@ -18,7 +17,7 @@ use Rattle.jffs_tree.specs.declared.wish.Wish.TheVariants.{MakeDir, Create, Writ
 use Rattle.jffs_tree.specs.State.{Entry, State, at, resolve, is_directory_in, state_of_past}
 use Rattle.jffs_tree.specs.Origin.{Held, entry, holder, tree_of}
 use Rattle.jffs_tree.specs.Check.{each_fits, check}
-use Rattle.jffs_tree.specs.Decide.{unless, is_root, last_name, parent_in, has_parent, is_there, inode_at, has_names, nobody, entry_of, plain, write_node, truncate_node, copy_node, unmount_node, is_current, held_entry, held_inode, decide_copy, decide_new, decide, with}
+use Rattle.jffs_tree.specs.Decide.{unless, is_root, last_name, parent_in, has_parent, is_there, inode_at, nobody, entry_of, plain, write_node, copy_node, unmount_node, is_current, held_entry, held_inode, causes_of_new, new_node, decide_new, causes_of_copy, decide_copy, causes_for, node_for, decide, with}
 use Rattle.jffs_node.specs.Path.{IsPath}
 use Rattle.jffs_tree.specs.Deciding.{IsLawfulPast, AreNumbers, IsNewInode, AreLimitsOf, IsWish, DecidedNodesKeepRules, CleaningCopiesKeepRules}
 use Rattle.jffs_tree.proofs.Pointwise.{at-state, sorted-state}
@@ -43,6 +42,13 @@ all_passed (c ∷ causes) n m is = one (λ h. all_passed causes n m h) c.0 refl 
         → AllByRecursion (λ (x : Bool × Cause). x.0 ≡ false) (c ∷ causes) × (n ≡ m)
     one rest true e is = cc
     one rest false e is = let later = rest is in ((e, later.0), later.1)
+
+-- Where a wish is granted nothing stands against it, and the node is the wish's.
+pub nothing_stands : (past : List Node) (limits : Limits) (wish : Wish) (n : NewNode) → decide past limits wish ≡ Ok n
+    → AllByRecursion (λ (c : Bool × Cause). c.0 ≡ false) (causes_for (state_of_past past) (λ v. holder (tree_of past) v) limits wish)
+    × (node_for (state_of_past past) (λ v. holder (tree_of past) v) limits wish ≡ n)
+nothing_stands past limits wish n is =
+    all_passed (causes_for (state_of_past past) (λ v. holder (tree_of past) v) limits wish) (node_for (state_of_past past) (λ v. holder (tree_of past) v) limits wish) n is
 
 -- a write's node has at most the write's data
 written_data : {most : ℕ} (i : ℕ) (e : Entry) (offset : ℕ) (bytes : List ℕ) → length bytes ≤ most → length (write_node i e offset bytes).bytes ≤ most
@@ -118,13 +124,7 @@ module _ (past : List Node) (limits : Limits) (version writer seq : ℕ) (before
   decided_write path offset bytes n small is =
       let s = state_of_past past in
       let i = inode_at s path in
-      let passed = all_passed (
-      (not (is_there s path), NotFound)
-      ∷ (is_directory_in s i, IsDirectory)
-      ∷ (ltb limits.data_max (length bytes), DataLong)
-      ∷ (ltb file_max (offset + length bytes), FileLong)
-      ∷ (is_none limits.next_version, VersionsSpent)
-      ∷ []) (write_node i (entry_of s i) offset bytes) n is in
+      let passed = nothing_stands past limits (Write path offset bytes) n is in
       let there = no_directory s path (not-false _ passed.0.0) passed.0.1.0 in
       let file = its_file past before version writer seq v i (entry_of s i) there passed.0.1.0 in
       let data_fits = ltb-false limits.data_max (length bytes) passed.0.1.1.0 in
@@ -137,12 +137,7 @@ module _ (past : List Node) (limits : Limits) (version writer seq : ℕ) (before
   decided_truncate path size n is =
       let s = state_of_past past in
       let i = inode_at s path in
-      let passed = all_passed (
-      (not (is_there s path), NotFound)
-      ∷ (is_directory_in s i, IsDirectory)
-      ∷ (ltb file_max size, FileLong)
-      ∷ (is_none limits.next_version, VersionsSpent)
-      ∷ []) (truncate_node i (entry_of s i) size) n is in
+      let passed = nothing_stands past limits (Truncate path size) n is in
       let there = no_directory s path (not-false _ passed.0.0) passed.0.1.0 in
       let file = its_file past before version writer seq v i (entry_of s i) there passed.0.1.0 in
       subst Good passed.1 (truncate_keeps past before version writer seq v i (entry_of s i) there file size (ltb-false file_max size passed.0.1.1.0), omega arith)
@@ -153,14 +148,7 @@ module _ (past : List Node) (limits : Limits) (version writer seq : ℕ) (before
       let i = inode_at s source in
       let e = entry_of s i in
       let parent = unwrap_or (parent_in s target) 0 in
-      let passed = all_passed (
-      (is_root source || is_root target, RootFixed)
-      ∷ (not (has_parent s target), NoParent)
-      ∷ (is_there s target, NameTaken)
-      ∷ (not (is_there s source), NotFound)
-      ∷ (is_directory e.kind && not (eqb e.parent parent), IsDirectory)
-      ∷ (is_none limits.next_version, VersionsSpent)
-      ∷ []) (plain i (record e { parent = parent; name = last_name target })) n is in
+      let passed = nothing_stands past limits (Rename source target) n is in
       let roots = or_parts (is_root source) (is_root target) passed.0.0 in
       let home = a_home target names roots.1 (not-false _ passed.0.1.0) passed.0.1.1.0 in
       let there = below_root s source (not-false _ passed.0.1.1.1.0) roots.0 in
@@ -170,31 +158,17 @@ module _ (past : List Node) (limits : Limits) (version writer seq : ℕ) (before
   decided_remove path n is =
       let s = state_of_past past in
       let i = inode_at s path in
-      let passed = all_passed (
-      (is_root path, RootFixed)
-      ∷ (not (is_there s path), NotFound)
-      ∷ (has_names s i, NotEmpty)
-      ∷ (is_none limits.next_version, VersionsSpent)
-      ∷ []) (record (plain i (entry_of s i)) { deleted = true; size = None }) n is in
+      let passed = nothing_stands past limits (Remove path) n is in
       let there = below_root s path (not-false _ passed.0.1.0) passed.0.0 in
       subst Good passed.1 (remove_keeps past before version writer seq v i (entry_of s i) there passed.0.1.1.0, omega arith)
 
   -- MakeDir and Create
   module _ (path : List (List ℕ)) (names : IsPath path) (fresh : AreLimitsOf past limits) where
-    abbrev new_node : Kind → NewNode
-    new_node kind = plain (unwrap_or limits.next_inode 0) (record { kind = kind; parent = unwrap_or (parent_in (state_of_past past) path) 0; name = last_name path; bytes = [] })
-
     new_passed : (kind : Kind) (n : NewNode) → decide_new (state_of_past past) limits kind path ≡ Ok n
-        → IsHome past before version writer seq v (unwrap_or (parent_in (state_of_past past) path) 0) (last_name path) × IsNewInode past (unwrap_or limits.next_inode 0) × (new_node kind ≡ n)
+        → IsHome past before version writer seq v (unwrap_or (parent_in (state_of_past past) path) 0) (last_name path) × IsNewInode past (unwrap_or limits.next_inode 0) × (new_node (state_of_past past) limits kind path ≡ n)
     new_passed kind n is =
         let s = state_of_past past in
-        let passed = all_passed (
-        (is_root path, RootFixed)
-        ∷ (not (has_parent s path), NoParent)
-        ∷ (is_there s path, NameTaken)
-        ∷ (is_none limits.next_inode, InodesSpent)
-        ∷ (is_none limits.next_version, VersionsSpent)
-        ∷ []) (new_node kind) n is in
+        let passed = all_passed (causes_of_new s limits path) (new_node s limits kind path) n is in
         (a_home path names passed.0.0 (not-false _ passed.0.1.0) passed.0.1.1.0, fresh (unwrap_or limits.next_inode 0) (value_of limits.next_inode 0 (not-false (is_some limits.next_inode) passed.0.1.1.1.0)), passed.1)
 
     decided_make_directory : (n : NewNode) → decide past limits (MakeDir path) ≡ Ok n → Good n
@@ -214,12 +188,7 @@ module _ (past : List Node) (limits : Limits) (version writer seq : ℕ) (before
       by_holder o found is =
           let e = held_entry o in
           let known = (eqb e.parent parent && bytes_eq e.name name) && is_current e offset bytes in
-          let passed = all_passed (
-          (ltb limits.data_max (length bytes), DataLong)
-          ∷ (is_none o, NotNeeded)
-          ∷ (not known, Stale)
-          ∷ (is_none limits.next_version, VersionsSpent)
-          ∷ []) (copy_node (held_inode o) e offset bytes) n is in
+          let passed = all_passed (causes_of_copy o limits parent name offset bytes) (copy_node (held_inode o) e offset bytes) n is in
           let h = the_holder o passed.0.1.0 in
           let current = (and_parts (eqb e.parent parent && bytes_eq e.name name) (is_current e offset bytes) (not-false known passed.0.1.1.0)).1 in
           let parts = and_parts (leb offset (length h.0.1.entry.bytes)) (bytes_eq (take (length bytes) (drop offset h.0.1.entry.bytes)) bytes)
@@ -234,7 +203,7 @@ module _ (past : List Node) (limits : Limits) (version writer seq : ℕ) (before
   -- no entry has the inode 0, so an unmount node fits
   decided_unmount : (n : NewNode) → decide past limits Unmount ≡ Ok n → Good n
   decided_unmount n is =
-      let passed = all_passed ((is_none limits.next_version, VersionsSpent) ∷ []) unmount_node n is in
+      let passed = nothing_stands past limits Unmount n is in
       subst Good passed.1 (unmount_keeps past before version writer seq v, omega arith)
 
   pub decided : (wish : Wish) (n : NewNode) → AreLimitsOf past limits → IsWish wish → decide past limits wish ≡ Ok n → Good n

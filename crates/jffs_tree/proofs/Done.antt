@@ -1,5 +1,5 @@
 -- A decided node does what the wish asks for.
-use Rattle.std.proofs.Common.{◌≡◌, ℕ, min, max, ◌+◌, ◌-◌, ◌<◌, ◌≤◌, Bool, true, false, cond, not, ◌&&◌, ◌||◌, eqb, ltb, List, [], ◌∷◌, ◌++◌, length, take, drop, replicate, get_or, ⊎_elim, Option, Some, None, is_none, is_some, unwrap_or, Ok, refl, sym, ap, subst, ◌∙◌, arith, nat_cmp}
+use Rattle.std.proofs.Common.{◌≡◌, ℕ, min, max, ◌+◌, ◌-◌, ◌<◌, ◌≤◌, Bool, true, false, cond, ◌&&◌, ◌||◌, eqb, List, [], ◌∷◌, ◌++◌, length, take, drop, replicate, get_or, ⊎_elim, Option, Some, None, is_some, unwrap_or, Ok, refl, sym, ap, subst, ◌∙◌, arith, nat_cmp}
 use Rattle.std.specs.Option.{option_map_or}
 use Rattle.std.specs.FinMap.Entries as entries
 use Rattle.std.proofs.lemmas.Bool.{cases_lt, not-false, or_parts}
@@ -7,15 +7,14 @@ use Rattle.std.proofs.lemmas.List.{ext_get_or, length-append, length-take, lengt
 use Rattle.jffs_node.specs.declared.node.Node.{Node}
 use Rattle.jffs_node.specs.declared.node.Kind.{Kind}
 use Rattle.jffs_node.specs.declared.node.Kind.TheVariants.{File, Directory}
-use Rattle.jffs_node.specs.Record.{file_max, is_unmount, is_directory}
-use Rattle.jffs_tree.specs.declared.wish.Cause.TheVariants.{RootFixed, NoParent, NameTaken, NotFound, IsDirectory, DataLong, FileLong, NotEmpty, InodesSpent, VersionsSpent}
+use Rattle.jffs_node.specs.Record.{is_unmount}
 use Rattle.jffs_tree.specs.declared.wish.Limits.{Limits}
 use Rattle.jffs_tree.specs.declared.wish.NewNode.{NewNode}
 use Rattle.jffs_tree.specs.declared.wish.Wish.{Wish}
 use Rattle.jffs_tree.specs.declared.wish.Wish.TheVariants.{MakeDir, Create, Write, Truncate, Rename, Remove, Copy, Unmount}
-use Rattle.jffs_tree.specs.State.{Entry, State, at, apply, sized, written, resolve, is_directory_in, state_of_past}
+use Rattle.jffs_tree.specs.State.{Entry, State, at, apply, sized, written, resolve, state_of_past}
 use Rattle.jffs_tree.specs.Origin.{stated_size}
-use Rattle.jffs_tree.specs.Decide.{is_root, last_name, parent_in, has_parent, is_there, inode_at, has_names, entry_of, plain, write_node, truncate_node, unmount_node, decide_new, decide, with}
+use Rattle.jffs_tree.specs.Decide.{is_root, last_name, parent_in, has_parent, is_there, inode_at, entry_of, plain, write_node, truncate_node, causes_of_new, new_node, decide_new, decide, with}
 use Rattle.jffs_tree.specs.Deciding.{AreLimitsOf}
 use Rattle.jffs_tree.specs.Done.{resized, with_new, with_changed, without, done_at, done, DecidedIsDone, NewInodesAreFree}
 use Rattle.jffs_tree.proofs.Pointwise.{at-state}
@@ -24,7 +23,7 @@ use Rattle.jffs_tree.proofs.TrueCopy.{same_put, stated, true_copy_keeps_state}
 use Rattle.jffs_tree.proofs.Copies.{never_unmount, accepted_copies_are_true}
 use Rattle.jffs_tree.proofs.Resolving.{value_of, the_parent, the_inode}
 use Rattle.jffs_tree.proofs.Changing.{below_new}
-use Rattle.jffs_tree.proofs.Decided.{all_passed, no_directory, below_root}
+use Rattle.jffs_tree.proofs.Decided.{all_passed, nothing_stands, no_directory, below_root}
 
 -- The bytes of a file that is cut, or grown with zeros.
 length_resized : (k : ℕ) (c : List ℕ) → length (resized k c) ≡ k
@@ -188,13 +187,7 @@ module _ (past : List Node) (limits : Limits) (version writer seq : ℕ) where
   done_write path offset bytes n is =
       let i = inode_at s path in
       let e = entry_of s i in
-      let passed = all_passed (
-      (not (is_there s path), NotFound)
-      ∷ (is_directory_in s i, IsDirectory)
-      ∷ (ltb limits.data_max (length bytes), DataLong)
-      ∷ (ltb file_max (offset + length bytes), FileLong)
-      ∷ (is_none limits.next_version, VersionsSpent)
-      ∷ []) (write_node i e offset bytes) n is in
+      let passed = nothing_stands past limits (Write path offset bytes) n is in
       let leads = not-false (is_there s path) passed.0.0 in
       subst (Does (Write path offset bytes)) passed.1 (written_there path offset bytes i e (the_inode s path leads) (no_directory s path leads passed.0.1.0))
 
@@ -202,12 +195,7 @@ module _ (past : List Node) (limits : Limits) (version writer seq : ℕ) where
   done_truncate path size n is =
       let i = inode_at s path in
       let e = entry_of s i in
-      let passed = all_passed (
-      (not (is_there s path), NotFound)
-      ∷ (is_directory_in s i, IsDirectory)
-      ∷ (ltb file_max size, FileLong)
-      ∷ (is_none limits.next_version, VersionsSpent)
-      ∷ []) (truncate_node i e size) n is in
+      let passed = nothing_stands past limits (Truncate path size) n is in
       let leads = not-false (is_there s path) passed.0.0 in
       let there = no_directory s path leads passed.0.1.0 in
       subst (Does (Truncate path size)) passed.1
@@ -222,14 +210,7 @@ module _ (past : List Node) (limits : Limits) (version writer seq : ℕ) where
       let e = entry_of s i in
       let parent = unwrap_or (parent_in s target) 0 in
       let f : Entry = record e { parent = parent; name = last_name target } in
-      let passed = all_passed (
-      (is_root source || is_root target, RootFixed)
-      ∷ (not (has_parent s target), NoParent)
-      ∷ (is_there s target, NameTaken)
-      ∷ (not (is_there s source), NotFound)
-      ∷ (is_directory e.kind && not (eqb e.parent parent), IsDirectory)
-      ∷ (is_none limits.next_version, VersionsSpent)
-      ∷ []) (plain i f) n is in
+      let passed = nothing_stands past limits (Rename source target) n is in
       let roots = or_parts (is_root source) (is_root target) passed.0.0 in
       let leads = not-false (is_there s source) passed.0.1.1.1.0 in
       let there = below_root s source leads roots.0 in
@@ -247,12 +228,7 @@ module _ (past : List Node) (limits : Limits) (version writer seq : ℕ) where
       let i = inode_at s path in
       let e = entry_of s i in
       let gone : NewNode = record (plain i e) { deleted = true; size = None } in
-      let passed = all_passed (
-      (is_root path, RootFixed)
-      ∷ (not (is_there s path), NotFound)
-      ∷ (has_names s i, NotEmpty)
-      ∷ (is_none limits.next_version, VersionsSpent)
-      ∷ []) gone n is in
+      let passed = nothing_stands past limits (Remove path) n is in
       let leads = not-false (is_there s path) passed.0.1.0 in
       subst (Does (Remove path)) passed.1
       (gone_by s (with gone version writer seq) (stands_at i e (below_root s path leads passed.0.0)) refl
@@ -268,13 +244,7 @@ module _ (past : List Node) (limits : Limits) (version writer seq : ℕ) where
         × (plain (unwrap_or limits.next_inode 0) (new_entry (unwrap_or (parent_in s path) 0)) ≡ n)
     new_passed n is =
         let k = unwrap_or limits.next_inode 0 in
-        let passed = all_passed (
-        (is_root path, RootFixed)
-        ∷ (not (has_parent s path), NoParent)
-        ∷ (is_there s path, NameTaken)
-        ∷ (is_none limits.next_inode, InodesSpent)
-        ∷ (is_none limits.next_version, VersionsSpent)
-        ∷ []) (plain k (new_entry (unwrap_or (parent_in s path) 0))) n is in
+        let passed = all_passed (causes_of_new s limits path) (new_node s limits kind path) n is in
         let new = fresh k (value_of limits.next_inode 0 (not-false (is_some limits.next_inode) passed.0.1.1.1.0)) in (
           (let l = new.low in omega arith, nothing_at (at s k) (λ f was. let l = below_new past k k f new.above (sym (at-state past k) ∙ was) in omega arith)),
           (the_parent s path (not-false (has_parent s path) passed.0.1.0)).0,
@@ -303,7 +273,7 @@ module _ (past : List Node) (limits : Limits) (version writer seq : ℕ) where
 
   done_unmount : (n : NewNode) → decide past limits Unmount ≡ Ok n → Does Unmount n
   done_unmount n is =
-      let passed = all_passed ((is_none limits.next_version, VersionsSpent) ∷ []) unmount_node n is in
+      let passed = nothing_stands past limits Unmount n is in
       subst (Does Unmount) passed.1 refl
 
   by_wish : AreLimitsOf past limits → (wish : Wish) (n : NewNode) → decide past limits wish ≡ Ok n → Does wish n

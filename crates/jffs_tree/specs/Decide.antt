@@ -127,81 +127,102 @@ abbrev pub held_inode : Option (ℕ × Held) → ℕ
 held_inode None = 0
 held_inode (Some h) = h.0
 
-abbrev pub decide_copy : Option (ℕ × Held) → Limits → ℕ → List ℕ → ℕ → List ℕ → Result NewNode Cause
-decide_copy source limits parent name offset bytes =
-    let e = held_entry source in
-    unless (
-    (nat_lt limits.data_max (length bytes), DataLong)
-    ∷ (is_none source, NotNeeded)
-    ∷ (not ((e.parent == parent) && bytes_eq e.name name && is_current e offset bytes), Stale)
-    ∷ (is_none limits.next_version, VersionsSpent)
-    ∷ [])
-    (copy_node (held_inode source) e offset bytes)
-
-abbrev pub decide_new : State → Limits → Kind → List (List ℕ) → Result NewNode Cause
-decide_new s limits kind path = unless (
+-- what may stand against a new file or directory
+abbrev pub causes_of_new : State → Limits → List (List ℕ) → List (Bool × Cause)
+causes_of_new s limits path =
     (is_root path, RootFixed)
     ∷ (not (has_parent s path), NoParent)
     ∷ (is_there s path, NameTaken)
     ∷ (is_none limits.next_inode, InodesSpent)
     ∷ (is_none limits.next_version, VersionsSpent)
-    ∷ [])
-    (plain (unwrap_or limits.next_inode 0)
-    (record {
-      kind = kind;
-      parent = unwrap_or (parent_in s path) 0;
-      name = last_name path;
-      bytes = [];
-    }))
+    ∷ []
 
-abbrev pub decide_in : State → (ℕ → Option (ℕ × Held)) → Limits → Wish → Result NewNode Cause
-decide_in s holds limits (MakeDir path) = decide_new s limits Directory path
-decide_in s holds limits (Create path) = decide_new s limits File path
-decide_in s holds limits (Write path offset bytes) =
-    let i = inode_at s path in
-    unless (
+-- the node of a new file or directory
+abbrev pub new_node : State → Limits → Kind → List (List ℕ) → NewNode
+new_node s limits kind path = plain (unwrap_or limits.next_inode 0) (record {
+  kind = kind;
+  parent = unwrap_or (parent_in s path) 0;
+  name = last_name path;
+  bytes = [];
+})
+
+abbrev pub decide_new : State → Limits → Kind → List (List ℕ) → Result NewNode Cause
+decide_new s limits kind path = unless (causes_of_new s limits path) (new_node s limits kind path)
+
+-- what may stand against a copy of what holds its source
+abbrev pub causes_of_copy : Option (ℕ × Held) → Limits → ℕ → List ℕ → ℕ → List ℕ
+    → List (Bool × Cause)
+causes_of_copy source limits parent name offset bytes =
+    let e = held_entry source in
+    (nat_lt limits.data_max (length bytes), DataLong)
+    ∷ (is_none source, NotNeeded)
+    ∷ (not ((e.parent == parent) && bytes_eq e.name name && is_current e offset bytes), Stale)
+    ∷ (is_none limits.next_version, VersionsSpent)
+    ∷ []
+
+abbrev pub decide_copy : Option (ℕ × Held) → Limits → ℕ → List ℕ → ℕ → List ℕ → Result NewNode Cause
+decide_copy source limits parent name offset bytes =
+    unless (causes_of_copy source limits parent name offset bytes)
+    (copy_node (held_inode source) (held_entry source) offset bytes)
+
+-- what may stand against a wish, each with its cause, in the order in which they are tried
+abbrev pub causes_for : State → (ℕ → Option (ℕ × Held)) → Limits → Wish → List (Bool × Cause)
+causes_for s holds limits (MakeDir path) = causes_of_new s limits path
+causes_for s holds limits (Create path) = causes_of_new s limits path
+causes_for s holds limits (Write path offset bytes) =
     (not (is_there s path), NotFound)
-    ∷ (is_directory_in s i, IsDirectory)
+    ∷ (is_directory_in s (inode_at s path), IsDirectory)
     ∷ (nat_lt limits.data_max (length bytes), DataLong)
     ∷ (nat_lt file_max (offset + length bytes), FileLong)
     ∷ (is_none limits.next_version, VersionsSpent)
-    ∷ [])
-    (write_node i (entry_of s i) offset bytes)
-decide_in s holds limits (Truncate path size) =
-    let i = inode_at s path in
-    unless (
+    ∷ []
+causes_for s holds limits (Truncate path size) =
     (not (is_there s path), NotFound)
-    ∷ (is_directory_in s i, IsDirectory)
+    ∷ (is_directory_in s (inode_at s path), IsDirectory)
     ∷ (nat_lt file_max size, FileLong)
     ∷ (is_none limits.next_version, VersionsSpent)
-    ∷ [])
-    (truncate_node i (entry_of s i) size)
-decide_in s holds limits (Rename source target) =
-    let i = inode_at s source in
-    let e = entry_of s i in
-    let parent = unwrap_or (parent_in s target) 0 in
-    unless (
+    ∷ []
+causes_for s holds limits (Rename source target) =
+    let e = entry_of s (inode_at s source) in
     (is_root source || is_root target, RootFixed)
     ∷ (not (has_parent s target), NoParent)
     ∷ (is_there s target, NameTaken)
     ∷ (not (is_there s source), NotFound)
-    ∷ (is_directory e.kind && not (e.parent == parent), IsDirectory)
+    ∷ (is_directory e.kind && not (e.parent == unwrap_or (parent_in s target) 0), IsDirectory)
     ∷ (is_none limits.next_version, VersionsSpent)
-    ∷ [])
-    (plain i (record e { parent = parent; name = last_name target }))
-decide_in s holds limits (Remove path) =
-    let i = inode_at s path in
-    unless (
+    ∷ []
+causes_for s holds limits (Remove path) =
     (is_root path, RootFixed)
     ∷ (not (is_there s path), NotFound)
-    ∷ (has_names s i, NotEmpty)
+    ∷ (has_names s (inode_at s path), NotEmpty)
     ∷ (is_none limits.next_version, VersionsSpent)
-    ∷ [])
-    (record (plain i (entry_of s i)) { deleted = true; size = None })
-decide_in s holds limits (Copy source parent name offset bytes) =
-    decide_copy (holds source) limits parent name offset bytes
-decide_in s holds limits Unmount =
-    unless ((is_none limits.next_version, VersionsSpent) ∷ []) unmount_node
+    ∷ []
+causes_for s holds limits (Copy source parent name offset bytes) =
+    causes_of_copy (holds source) limits parent name offset bytes
+causes_for s holds limits Unmount = (is_none limits.next_version, VersionsSpent) ∷ []
+
+-- the node of a wish against which nothing stands
+abbrev pub node_for : State → (ℕ → Option (ℕ × Held)) → Limits → Wish → NewNode
+node_for s holds limits (MakeDir path) = new_node s limits Directory path
+node_for s holds limits (Create path) = new_node s limits File path
+node_for s holds limits (Write path offset bytes) =
+    write_node (inode_at s path) (entry_of s (inode_at s path)) offset bytes
+node_for s holds limits (Truncate path size) =
+    truncate_node (inode_at s path) (entry_of s (inode_at s path)) size
+node_for s holds limits (Rename source target) =
+    plain (inode_at s source) (record (entry_of s (inode_at s source)) {
+      parent = unwrap_or (parent_in s target) 0;
+      name = last_name target;
+    })
+node_for s holds limits (Remove path) =
+    record (plain (inode_at s path) (entry_of s (inode_at s path))) { deleted = true; size = None }
+node_for s holds limits (Copy source parent name offset bytes) =
+    copy_node (held_inode (holds source)) (held_entry (holds source)) offset bytes
+node_for s holds limits Unmount = unmount_node
+
+-- the first cause that stands against a wish, else its node
+abbrev pub decide_in : State → (ℕ → Option (ℕ × Held)) → Limits → Wish → Result NewNode Cause
+decide_in s holds limits wish = unless (causes_for s holds limits wish) (node_for s holds limits wish)
 
 -- whether an accepted wish's node carries bytes, and so needs memory
 abbrev pub carries_bytes : Wish → Bool

@@ -10,8 +10,8 @@ use Rattle.jffs_tree.specs.Origin.{is_live, tree_of}
 use Rattle.jffs_tree.specs.Check.{makes_tree}
 use Rattle.jffs_tree.specs.Laws.{NoneLive}
 use Rattle.jffs_tree.specs.Look.{IsVersionOf}
-use Rattle.jffs_tree.proofs.Rules.{erasing_keeps_rules}
-use Rattle.jffs_tree.proofs.WholeTree.{live_whole}
+use Rattle.jffs_tree.proofs.states.Rules.{erasing_keeps_rules}
+use Rattle.jffs_tree.proofs.versions.WholeTree.{live_whole}
 use Rattle.jffs_log.specs.declared.scanning.ScanWhy.{ScanWhy}
 use Rattle.jffs_log.specs.declared.scanning.ScanWhy.TheVariants.{BadOrder, BadTree}
 use Rattle.jffs_log.specs.Image.{Placed, nodes_of, past_of, is_clean}

@@ -20,11 +20,11 @@ use Rattle.jffs_core.specs.Past.{Represents, RepresentsWorking, HasFailed}
 use Rattle.jffs_core.specs.Run.{OnlyCopies, AreAnswered, IsInOrder, is_failure}
 use Rattle.jffs_core.specs.Answering.{ProgramsFor, turn_of, keeps_two, is_closed}
 use Rattle.jffs_core.specs.declared.answer.Answer.{Answer}
-use Rattle.jffs_core.proofs.Lawful.{none_made}
+use Rattle.jffs_core.proofs.answers.Lawful.{none_made}
 use Rattle.jffs_core.specs.Calls.{ProgramsOnce}
-use Rattle.jffs_core.proofs.Erasing.{uses_nothing, uses_along}
-use Rattle.jffs_core.proofs.Refusing.{failed_more, same_programs, programs_along}
-use Rattle.jffs_core.proofs.Stepping.{unmounts_have_room}
+use Rattle.jffs_core.proofs.room.Erasing.{uses_nothing, uses_along}
+use Rattle.jffs_core.proofs.answers.Refusing.{failed_more, same_programs, programs_along}
+use Rattle.jffs_core.proofs.answers.Stepping.{unmounts_have_room}
 use Rattle.jffs_serve.specs.Replies.{Reply, AllReply, answer_in}
 use Rattle.jffs_serve.specs.Chain.{KeepsHistory, IsReplied, Chain, after_reply}
 use Rattle.jffs_serve.specs.ChainLaws.{EndsSo, ChainsEndSo, IsRequested, RepliesAreLawful, FailuresAreFaults, FailedAnswersFailed, NoRoomAtTheTurn, NoSpaceIsHeavyThen, UnmountsHaveSpaceThen, NoSpaceIsHeavy, UnmountsHaveSpace, HasTwo, all_keep_two, any_failure, volume_of}

@@ -12,10 +12,10 @@ use Rattle.jffs_core.specs.Calls.{FailsIn, ProgramsOnce}
 use Rattle.jffs_core.specs.Cleaning.{ErasesDead, ErasingStopped, EraseStopIs}
 use Rattle.jffs_core.specs.Erases.{ErasesAtMost, UsesDevice}
 use Rattle.jffs_core.specs.Jobs.{wants_cleaning, ReadRefused}
-use Rattle.jffs_core.proofs.Contents.{no_growth}
-use Rattle.jffs_core.proofs.Erasing.{erased_same, uses_none, uses_along}
-use Rattle.jffs_core.proofs.Mounting.{clean_ends}
-use Rattle.jffs_core.proofs.Refusing.{works_past, same_programs}
+use Rattle.jffs_core.proofs.answers.Contents.{no_growth}
+use Rattle.jffs_core.proofs.room.Erasing.{erased_same, uses_none, uses_along}
+use Rattle.jffs_core.proofs.scans.Mounting.{clean_ends}
+use Rattle.jffs_core.proofs.answers.Refusing.{works_past, same_programs}
 use Rattle.jffs_serve.specs.Chain.{KeepsHistory}
 
 -- a core that had failed has failed still

@@ -6,7 +6,7 @@ use Rattle.jffs_tree.specs.State.{apply}
 use Rattle.jffs_tree.specs.Origin.{Tree, state_in}
 use Rattle.jffs_core.specs.CoreState.{CoreState, IsSameButCapacity}
 use Rattle.jffs_core.specs.Trees.{TakesNode, TellsNode, KeepsTree}
-use Rattle.jffs_core.proofs.Trees.{test_by_state, state_after}
+use Rattle.jffs_core.proofs.puts.Trees.{test_by_state, state_after}
 use Rattle.jffs_index.specs.declared.step.Step.{Step}
 use Rattle.jffs_index.specs.declared.rule.History.{History}
 use Rattle.jffs_index.specs.declared.publisher.Publisher.{Publisher}

@@ -4,7 +4,7 @@ use Rattle.std.specs.List.{AllByRecursion}
 use Rattle.std.proofs.Math.Bool.{or-true}
 use Rattle.jffs_tree.specs.Decide.{is_unmount_wish}
 use Rattle.jffs_tree.specs.declared.wish.Wish.TheVariants.{Unmount}
-use Rattle.jffs_tree.proofs.Wishes.{unmount_wish}
+use Rattle.jffs_tree.proofs.decisions.Wishes.{unmount_wish}
 use Rattle.jffs_tree.specs.declared.wish.Outcome.{Outcome}
 use Rattle.jffs_tree.specs.declared.wish.Outcome.TheVariants.{Appended, Copied, Closed, Refused}
 use Rattle.jffs_core.specs.CoreState.{CoreState}

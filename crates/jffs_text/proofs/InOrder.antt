@@ -11,7 +11,7 @@ use Rattle.std.proofs.lemmas.List.MinMax.{ranks_by}
 use Rattle.std.proofs.lemmas.List.Sorted.{sum_by-IsPermutation}
 use Rattle.std.proofs.lemmas.List.Sums.{sum_by-cons}
 use Rattle.jffs_tree.specs.Look.{name_cmp}
-use Rattle.jffs_tree.proofs.Directories.{name_total, name_tied}
+use Rattle.jffs_tree.proofs.listing.Directories.{name_total, name_tied}
 use Rattle.jffs_text.specs.Dump.{put_by_name, by_name}
 
 abbrev Named : Type 0

@@ -12,7 +12,7 @@ use Rattle.jffs_tree.specs.State.{State, at, bytes_of, root, is_directory_in}
 use Rattle.jffs_tree.specs.Origin.{Held, Tree, state_in}
 use Rattle.jffs_tree.specs.After.{held_in}
 use Rattle.jffs_tree.specs.Look.{bytes_in, size_of, names_in, children, name_cmp}
-use Rattle.jffs_tree.proofs.Looked.{bytes_told}
+use Rattle.jffs_tree.proofs.trees.Looked.{bytes_told}
 use Rattle.jffs_text.specs.Added.{IsBegun}
 use Rattle.jffs_text.specs.Dump.{hex, shown_bytes, size_text, directory_line, file_line, extended_path, name_text, by_name, below}
 use Rattle.jffs_text.proofs.Adding.{begun_then, begun_more, begun_as, added_as}

@@ -11,14 +11,14 @@ use Rattle.jffs_tree.specs.State.{Entry, State, at, bytes_of, state_of_past}
 use Rattle.jffs_tree.specs.Origin.{concerns, entry, size_in, writes, offset_before, origin, newest, held, versions_held, version_of, writers_of, is_live, IsTrueCopy}
 use Rattle.jffs_tree.specs.Check.{keeps_kind, keeps_offsets, keeps_form, has_second_form, each_fits}
 use Rattle.jffs_tree.specs.Decide.{entry_of, nobody}
-use Rattle.jffs_tree.proofs.Pointwise.{at-state}
-use Rattle.jffs_tree.proofs.Erasing.{present}
-use Rattle.jffs_tree.proofs.WholeTree.{the_version, any_of, from_range, named}
-use Rattle.jffs_tree.proofs.Live.{newest_is_live, origin_is_live}
-use Rattle.jffs_tree.proofs.Copies.{no_more, cleaning_copies_are_true}
-use Rattle.jffs_tree.proofs.TrueCopy.{true_copy_keeps_state}
-use Rattle.jffs_tree.proofs.Steps.{of_newest, its_inode, not_unmount, entry-other, entry-written, newest-other, newest-written, origin-other, origin-deleted, origin-written, origin-moved, origin-padding, where_is}
-use Rattle.jffs_tree.proofs.Entries.{fits_parts, each_fits_from}
+use Rattle.jffs_tree.proofs.states.Pointwise.{at-state}
+use Rattle.jffs_tree.proofs.states.Erasing.{present}
+use Rattle.jffs_tree.proofs.versions.WholeTree.{the_version, any_of, from_range, named}
+use Rattle.jffs_tree.proofs.states.Live.{newest_is_live, origin_is_live}
+use Rattle.jffs_tree.proofs.decisions.Copies.{no_more, cleaning_copies_are_true}
+use Rattle.jffs_tree.proofs.states.TrueCopy.{true_copy_keeps_state}
+use Rattle.jffs_tree.proofs.states.Steps.{of_newest, its_inode, not_unmount, entry-other, entry-written, newest-other, newest-written, origin-other, origin-deleted, origin-written, origin-moved, origin-padding, where_is}
+use Rattle.jffs_tree.proofs.states.Entries.{fits_parts, each_fits_from}
 use Rattle.jffs_log.specs.Cleaning.{copied, version_after, versions_fall, keeps_length, is_history}
 use Rattle.jffs_log.specs.RoomLaws.{Among, CopiesTakeOver, UnmountNodesAreDead}
 use Rattle.jffs_log.proofs.ring.Sectors.{all_among}

@@ -4,7 +4,7 @@ use Rattle.std.specs.List.{list_any, AllByRecursion}
 use Rattle.jffs_node.specs.declared.node.Node.{Node}
 use Rattle.jffs_node.specs.Record.{record_len}
 use Rattle.jffs_tree.specs.Origin.{is_live, versions_held}
-use Rattle.jffs_tree.proofs.Rules.{erasing_keeps_rules}
+use Rattle.jffs_tree.proofs.states.Rules.{erasing_keeps_rules}
 use Rattle.jffs_log.specs.Laws.{ErasingKeepsWeight}
 
 pub kept_front : (p : Node → Bool) (xs ys : List Node) → AllByRecursion (λ n. p n ≡ false) ys → filter p (xs ++ ys) ≡ filter p xs

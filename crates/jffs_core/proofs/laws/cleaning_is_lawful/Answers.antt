@@ -1,5 +1,5 @@
-use Rattle.jffs_core.proofs.RoomMade as proof
-use Rattle.jffs_core.proofs.Stepping.{unmounts_have_room}
+use Rattle.jffs_core.proofs.room.RoomMade as proof
+use Rattle.jffs_core.proofs.answers.Stepping.{unmounts_have_room}
 use Rattle.jffs_core.proofs.laws.cleaning_is_lawful.Goals as goal
 
 pub returns : goal.returns

@@ -1,4 +1,4 @@
-use Rattle.jffs_core.proofs.Reading.{mounts_read_once}
+use Rattle.jffs_core.proofs.scans.Reading.{mounts_read_once}
 use Rattle.jffs_core.proofs.laws.mounts_read_each_byte_once.Goals as goal
 
 pub returns : goal.returns

@@ -3,8 +3,8 @@ use Rattle.std.specs.Vec.Iter.{into_iter_items}
 use Rattle.jffs_index.specs.Ends.{published, publisher_index, told_of}
 use Rattle.jffs_run.specs.Looking.{HasSeen}
 use Rattle.jffs_run.specs.Started.{IsLooking}
-use Rattle.jffs_run.proofs.Slots.{EachFrom-same, EachFrom-next, EachFrom-push}
-use Rattle.jffs_run.proofs.Seeing.{has_seen}
+use Rattle.jffs_run.proofs.asked.Slots.{EachFrom-same, EachFrom-next, EachFrom-push}
+use Rattle.jffs_run.proofs.ends.Seeing.{has_seen}
 use Rattle.jffs_run.proofs.joining.join_readers.Goals as goal
 
 pub loop-handle-preserved : goal.loop-handle-preserved

@@ -2,7 +2,7 @@ use Rattle.std.proofs.Common.{rules, ◌≡◌, ◌+◌, ◌∷◌, length, refl
 use Rattle.std.specs.Vec.Iter.{into_iter_items}
 use Rattle.jffs_run.specs.Ends.{HandedIn, HandedInAll, commands_at, end_of}
 use Rattle.jffs_run.specs.Started.{IsStarted, end_given}
-use Rattle.jffs_run.proofs.Slots.{EachFrom-same, EachFrom-next, EachFrom-push, moved}
+use Rattle.jffs_run.proofs.asked.Slots.{EachFrom-same, EachFrom-next, EachFrom-push, moved}
 use Rattle.jffs_run.proofs.joining.join_writers.Goals as goal
 
 pub loop-one-preserved : goal.loop-one-preserved

@@ -1,4 +1,4 @@
-use Rattle.jffs_run.proofs.Turns.{failed_stays_failed}
+use Rattle.jffs_run.proofs.promises.Turns.{failed_stays_failed}
 use Rattle.jffs_run.proofs.laws.failed_stays_failed.Goals as goal
 
 pub returns : goal.returns

@@ -1,4 +1,4 @@
-use Rattle.jffs_run.proofs.Done.{granted_is_done as by_chain, runs_are_free, each_is_done, failed_is_done_or_not}
+use Rattle.jffs_run.proofs.promises.Done.{granted_is_done as by_chain, runs_are_free, each_is_done, failed_is_done_or_not}
 use Rattle.jffs_run.proofs.laws.granted_is_done.Goals as goal
 
 pub returns : goal.returns

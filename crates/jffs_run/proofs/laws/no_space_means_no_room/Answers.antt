@@ -1,4 +1,4 @@
-use Rattle.jffs_run.proofs.Turns.{no_space_means_no_room}
+use Rattle.jffs_run.proofs.promises.Turns.{no_space_means_no_room}
 use Rattle.jffs_run.proofs.laws.no_space_means_no_room.Goals as goal
 
 pub returns : goal.returns

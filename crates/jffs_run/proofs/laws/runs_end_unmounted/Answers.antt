@@ -1,4 +1,4 @@
-use Rattle.jffs_run.proofs.Unmounting.{runs_end_unmounted}
+use Rattle.jffs_run.proofs.asked.Unmounting.{runs_end_unmounted}
 use Rattle.jffs_run.proofs.laws.runs_end_unmounted.Goals as goal
 
 pub returns : goal.returns

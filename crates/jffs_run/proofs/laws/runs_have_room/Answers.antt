@@ -1,4 +1,4 @@
-use Rattle.jffs_run.proofs.Heavy.{runs_have_room, turns_have_room}
+use Rattle.jffs_run.proofs.promises.Heavy.{runs_have_room, turns_have_room}
 use Rattle.jffs_run.proofs.laws.runs_have_room.Goals as goal
 
 pub returns : goal.returns

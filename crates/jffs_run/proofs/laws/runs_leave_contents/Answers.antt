@@ -1,4 +1,4 @@
-use Rattle.jffs_run.proofs.Scanning.{runs_leave_contents, failed_runs_leave_history}
+use Rattle.jffs_run.proofs.ends.Scanning.{runs_leave_contents, failed_runs_leave_history}
 use Rattle.jffs_run.proofs.laws.runs_leave_contents.Goals as goal
 
 pub returns : goal.returns

@@ -1,4 +1,4 @@
-use Rattle.jffs_run.proofs.Wear.{runs_wear_evenly}
+use Rattle.jffs_run.proofs.promises.Wear.{runs_wear_evenly}
 use Rattle.jffs_run.proofs.laws.runs_wear_evenly.Goals as goal
 
 pub returns : goal.returns

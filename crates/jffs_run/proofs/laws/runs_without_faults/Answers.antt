@@ -1,4 +1,4 @@
-use Rattle.jffs_run.proofs.Scanning.{runs_without_faults}
+use Rattle.jffs_run.proofs.ends.Scanning.{runs_without_faults}
 use Rattle.jffs_run.proofs.laws.runs_without_faults.Goals as goal
 
 pub returns : goal.returns

@@ -1,4 +1,4 @@
-use Rattle.jffs_run.proofs.Work.{runs_work_little}
+use Rattle.jffs_run.proofs.promises.Work.{runs_work_little}
 use Rattle.jffs_run.proofs.laws.runs_work_little.Goals as goal
 
 pub returns : goal.returns

@@ -1,4 +1,4 @@
-use Rattle.jffs_run.proofs.Sessions.{sessions_are_done, runs_are_sessions, faults_end_sessions}
+use Rattle.jffs_run.proofs.promises.Sessions.{sessions_are_done, runs_are_sessions, faults_end_sessions}
 use Rattle.jffs_run.proofs.laws.sessions_are_done.Goals as goal
 
 pub returns-clause-done : goal.returns-clause-done

@@ -1,5 +1,5 @@
-use Rattle.jffs_run.proofs.Asked.{left_at_once}
-use Rattle.jffs_run.proofs.Faults.{gives_back, line_mounted}
+use Rattle.jffs_run.proofs.asked.Asked.{left_at_once}
+use Rattle.jffs_run.proofs.ends.Faults.{gives_back, line_mounted}
 use Rattle.jffs_run.proofs.run.run_mounted.Goals as goal
 
 pub returns-in_ok-accepted-in-Shared-clause-run : goal.returns-in_ok-accepted-in-Shared-clause-run

@@ -13,12 +13,12 @@ use Rattle.jffs_serve.specs.Stopping.{ending_in, StopsAt}
 use Rattle.jffs_log.proofs.Results.{err_from}
 use Rattle.jffs_serve.proofs.Stopping.{nothing_owed}
 use Rattle.jffs_serve.proofs.Showing.{can_begin}
-use Rattle.jffs_run.proofs.Runs.{whole_run, new_hands, count_writers}
+use Rattle.jffs_run.proofs.ends.Runs.{whole_run, new_hands, count_writers}
 use Rattle.jffs_run.specs.Faults.{GivesBack, LeftByRun}
 use Rattle.jffs_run.specs.Why.{IsOfThreads}
 use Rattle.jffs_run.specs.declared.fault.RunWhy.{RunWhy}
-use Rattle.jffs_run.proofs.Asked.{left_at_once, left_by_run}
-use Rattle.jffs_run.proofs.Faults.{gives_back, gives_back_so, threads_later, index_mounted}
+use Rattle.jffs_run.proofs.asked.Asked.{left_at_once, left_by_run}
+use Rattle.jffs_run.proofs.ends.Faults.{gives_back, gives_back_so, threads_later, index_mounted}
 use Rattle.jffs_run.proofs.run.run_over.Goals as goal
 
 pub run_all-finished-requires-clause-crew : goal.run_all-finished-requires-clause-crew

@@ -1,6 +1,6 @@
 use Rattle.std.proofs.Common.{inl, inr, refl}
 use Rattle.std.proofs.lemmas.Result.{IfOk-weaker, IfErr-weaker}
-use Rattle.jffs_run.proofs.Faults.{gives_back, gives_back_so}
+use Rattle.jffs_run.proofs.ends.Faults.{gives_back, gives_back_so}
 use Rattle.jffs_run.proofs.run.run_threads.Goals as goal
 
 pub returns-clause-run : goal.returns-clause-run

@@ -7,7 +7,7 @@ use Rattle.jffs_index.specs.declared.reader.Reader.{Reader}
 use Rattle.jffs_index.specs.Ends.{index_of}
 use Rattle.jffs_run.specs.Ends.{HasAt}
 use Rattle.jffs_run.specs.Started.{IsLooking}
-use Rattle.jffs_run.proofs.Slots.{EachFrom-same, EachFrom-push}
+use Rattle.jffs_run.proofs.asked.Slots.{EachFrom-same, EachFrom-push}
 use Rattle.jffs_run.proofs.starting.start_readers.Goals as goal
 
 pub loop-reader-preserved : goal.loop-reader-preserved

@@ -6,7 +6,7 @@ use Rattle.jffs_text.specs.declared.command.Command.{Command}
 use Rattle.jffs_text.specs.declared.script.Writer.{Writer}
 use Rattle.jffs_run.specs.Ends.{commands_at, end_of}
 use Rattle.jffs_run.specs.Started.{HasWriting, IsStarted, end_given}
-use Rattle.jffs_run.proofs.Slots.{EachFrom-same, EachFrom-push, commands-at, moved}
+use Rattle.jffs_run.proofs.asked.Slots.{EachFrom-same, EachFrom-push, commands-at, moved}
 use Rattle.jffs_run.proofs.starting.start_writers.Goals as goal
 
 pub loop-hand-preserved : goal.loop-hand-preserved

@@ -8,7 +8,7 @@ use Rattle.jffs_tree.specs.declared.wish.Wish.TheVariants.{Unmount}
 use Rattle.jffs_line.specs.Requests.{request}
 use Rattle.jffs_run.specs.Ends.{EachFrom, end_of}
 use Rattle.jffs_run.specs.Started.{IsLooking}
-use Rattle.jffs_run.proofs.Crews.{same_end, same_ends}
+use Rattle.jffs_run.proofs.ends.Crews.{same_end, same_ends}
 use Rattle.jffs_run.proofs.threads.join_all.Goals as goal
 
 pub join_readers-readers-requires-clause-started : goal.join_readers-readers-requires-clause-started

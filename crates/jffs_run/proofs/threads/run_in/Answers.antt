@@ -1,5 +1,5 @@
 use Rattle.std.proofs.Common.{inl, inr, refl}
-use Rattle.jffs_run.proofs.Unstarted.{finished_unstarted}
+use Rattle.jffs_run.proofs.ends.Unstarted.{finished_unstarted}
 use Rattle.jffs_run.proofs.threads.run_in.Goals as goal
 
 pub start_all-running-requires-clause-crew : goal.start_all-running-requires-clause-crew

@@ -3,7 +3,7 @@ use Rattle.jffs_tree.specs.declared.wish.Wish.{Wish}
 use Rattle.jffs_line.specs.declared.request.Request.{Request}
 use Rattle.jffs_line.specs.Requests.{request}
 use Rattle.jffs_text.specs.Wishes.{wish_of}
-use Rattle.jffs_run.proofs.Numbers.{numbered-more}
+use Rattle.jffs_run.proofs.asked.Numbers.{numbered-more}
 use Rattle.jffs_run.proofs.writer.run_writer.Goals as goal
 
 pub loop-command-preserved : goal.loop-command-preserved

@@ -5,7 +5,7 @@ use Rattle.jffs_tree.specs.State.{at, bytes_of}
 use Rattle.jffs_tree.specs.Origin.{state_in}
 use Rattle.jffs_text.specs.Dump.{line_end, size_text, shown_bytes}
 use Rattle.jffs_text.proofs.Adding.{begun_more, begun_then}
-use Rattle.jffs_tree.proofs.Looked.{bytes_told}
+use Rattle.jffs_tree.proofs.trees.Looked.{bytes_told}
 use Rattle.jffs_text.proofs.Told.{size_text_told}
 use Rattle.jffs_text.proofs.dumping.dump_file.Goals as goal
 

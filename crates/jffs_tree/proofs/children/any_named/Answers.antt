@@ -1,4 +1,4 @@
-use Rattle.jffs_tree.proofs.Indexed.{low_in_directory}
+use Rattle.jffs_tree.proofs.listing.Indexed.{low_in_directory}
 use Rattle.jffs_tree.proofs.children.any_named.Goals as goal
 
 pub returns-in-None-clause-none : goal.returns-in-None-clause-none

@@ -2,7 +2,7 @@ use Rattle.std.proofs.Common.{◌++◌, List, ℕ, ap, subst, sym, ◌∙◌}
 use Rattle.std.specs.List.Sorted.{IsStrictlySortedBy}
 use Rattle.jffs_tree.specs.Index.{ChildKey, names_under}
 use Rattle.jffs_tree.specs.Look.{name_cmp}
-use Rattle.jffs_tree.proofs.Listed.{IsFrom, same_names, range_from, names_rise, behind_first, read_name, read_none, read_all, stopped}
+use Rattle.jffs_tree.proofs.listing.Listed.{IsFrom, same_names, range_from, names_rise, behind_first, read_name, read_none, read_all, stopped}
 use Rattle.jffs_tree.proofs.children.names_of.Goals as goal
 use Rattle.jffs_tree.proofs.children.names_of.Goals.{in-None, in-Some+then-directory-parent}
 

@@ -1,6 +1,6 @@
 use Rattle.std.proofs.Common.{◌≡◌, ◌++◌}
 use Rattle.jffs_tree.specs.Index.{names_under}
-use Rattle.jffs_tree.proofs.Listed.{IsFrom}
+use Rattle.jffs_tree.proofs.listing.Listed.{IsFrom}
 use Rattle.jffs_tree.proofs.children.names_of.Given as goal
 
 -- the names so far, and those of the keys that are left

@@ -1,4 +1,4 @@
-use Rattle.jffs_tree.proofs.Decided.{decided_nodes_keep_rules as by_wish, cleaning_copies_keep_rules}
+use Rattle.jffs_tree.proofs.decisions.Decided.{decided_nodes_keep_rules as by_wish, cleaning_copies_keep_rules}
 use Rattle.jffs_tree.proofs.deciding.decided_nodes_keep_rules.Goals as goal
 
 pub returns : goal.returns

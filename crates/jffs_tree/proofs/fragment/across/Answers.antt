@@ -1,5 +1,5 @@
 use Rattle.std.proofs.Common.{◌∙◌, ⊎_elim, sym, arith}
-use Rattle.jffs_tree.proofs.Splitting.{at_or_before, last_before, last_fits, cut_by_last, cut_past, all_later, cut_if_all_from, none_begins_before}
+use Rattle.jffs_tree.proofs.files.Splitting.{at_or_before, last_before, last_fits, cut_by_last, cut_past, all_later, cut_if_all_from, none_begins_before}
 use Rattle.jffs_tree.proofs.fragment.across.Goals as goal
 
 pub returns-then-at-eq0-clause-none : goal.returns-then-at-eq0-clause-none

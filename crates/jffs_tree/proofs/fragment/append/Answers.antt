@@ -5,8 +5,8 @@ use Rattle.std.proofs.lemmas.List.{append-nil}
 use Rattle.jffs_node.specs.Record.{dsize}
 use Rattle.jffs_tree.specs.declared.fragment.Fragment.{Fragment}
 use Rattle.jffs_tree.specs.Fragments.{Fragments, IsFileAfter, fragment_of}
-use Rattle.jffs_tree.proofs.Overwriting.{short_from_laid}
-use Rattle.jffs_tree.proofs.Appending.{put_last, file_appended, nothing_brought, one_brought}
+use Rattle.jffs_tree.proofs.files.Overwriting.{short_from_laid}
+use Rattle.jffs_tree.proofs.files.Appending.{put_last, file_appended, nothing_brought, one_brought}
 use Rattle.jffs_tree.proofs.fragment.append.Goals as goal
 
 pub returns-then-is_empty-clause-ok : goal.returns-then-is_empty-clause-ok

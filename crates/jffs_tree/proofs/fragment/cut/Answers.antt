@@ -3,7 +3,7 @@ use Rattle.std.proofs.lemmas.Option.{same_Some}
 use Rattle.std.specs.Map.{set_value}
 use Rattle.std.specs.BTreeMap.{is_at}
 use Rattle.jffs_tree.specs.declared.fragment.Fragment.{Fragment}
-use Rattle.jffs_tree.proofs.Splitting.{CutThere, cut_there}
+use Rattle.jffs_tree.proofs.files.Splitting.{CutThere, cut_there}
 use Rattle.jffs_tree.proofs.fragment.cut.Goals as goal
 
 cut : (c : goal.After-set) → CutThere c.args.at c.args.fragments.now.entries c.set.new.self.entries

@@ -1,5 +1,5 @@
 use Rattle.std.proofs.Common.{arith}
-use Rattle.jffs_tree.proofs.Taking.{none_from_here, first_too_late}
+use Rattle.jffs_tree.proofs.files.Taking.{none_from_here, first_too_late}
 use Rattle.jffs_tree.proofs.fragment.first_between.Goals as goal
 
 pub returns-in_default-clause-none : goal.returns-in_default-clause-none

@@ -1,4 +1,4 @@
-use Rattle.jffs_tree.proofs.SameCells.{same_then, unchanged}
+use Rattle.jffs_tree.proofs.files.SameCells.{same_then, unchanged}
 use Rattle.jffs_tree.proofs.fragment.make_cuts.Goals as goal
 
 pub returns-in_err-split_at-3-clause-same : goal.returns-in_err-split_at-3-clause-same

@@ -4,7 +4,7 @@ use Rattle.std.proofs.lemmas.Bool.{eq-eqb, eqb-false}
 use Rattle.jffs_tree.specs.declared.fragment.Fragment.{Fragment}
 use Rattle.jffs_tree.specs.Marks.{brought_by}
 use Rattle.jffs_tree.specs.Fragments.{AreShort, outside, part_by, amount_by}
-use Rattle.jffs_tree.proofs.Overwriting.{short_from_laid, short_inserted, outside_parts, insert_outside, covered_short, covers_all, no_data, some_data, brought_part}
+use Rattle.jffs_tree.proofs.files.Overwriting.{short_from_laid, short_inserted, outside_parts, insert_outside, covered_short, covers_all, no_data, some_data, brought_part}
 use Rattle.jffs_tree.proofs.fragment.overwrite.Goals as goal
 
 pub take_out-requires-clause-short : goal.take_out-requires-clause-short

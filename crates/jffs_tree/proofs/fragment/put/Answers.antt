@@ -5,7 +5,7 @@ use Rattle.std.specs.BTreeMap.{is_at, insert_entry}
 use Rattle.jffs_tree.specs.Marks.{mark_of}
 use Rattle.jffs_tree.specs.declared.fragment.Fragment.{Fragment}
 use Rattle.jffs_tree.specs.Fragments.{part_by, amount_by}
-use Rattle.jffs_tree.proofs.Taking.{short_found, part_of_all, amount_inserted, one_put, same_in}
+use Rattle.jffs_tree.proofs.files.Taking.{short_found, part_of_all, amount_inserted, one_put, same_in}
 use Rattle.jffs_tree.proofs.fragment.put.Goals as goal
 
 pub len-amount-requires : goal.len-amount-requires

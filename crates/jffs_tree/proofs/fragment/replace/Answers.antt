@@ -4,11 +4,11 @@ use Rattle.jffs_node.specs.Record.{dsize}
 use Rattle.jffs_tree.specs.Marks.{mark_of, brought_by}
 use Rattle.jffs_tree.specs.declared.fragment.Fragment.{Fragment}
 use Rattle.jffs_tree.specs.Fragments.{Swaps, amount_by, part_by}
-use Rattle.jffs_tree.proofs.FileWritten.{file_replaced}
-use Rattle.jffs_tree.proofs.Overwriting.{brought_part}
-use Rattle.jffs_tree.proofs.Replacing.{amount_set, node_data_set}
-use Rattle.jffs_tree.proofs.Splitting.{whole_there}
-use Rattle.jffs_tree.proofs.Taking.{one_put, part_of_all}
+use Rattle.jffs_tree.proofs.files.FileWritten.{file_replaced}
+use Rattle.jffs_tree.proofs.files.Overwriting.{brought_part}
+use Rattle.jffs_tree.proofs.files.Replacing.{amount_set, node_data_set}
+use Rattle.jffs_tree.proofs.files.Splitting.{whole_there}
+use Rattle.jffs_tree.proofs.files.Taking.{one_put, part_of_all}
 use Rattle.jffs_tree.proofs.fragment.replace.Goals as goal
 
 pub lower-requires : goal.lower-requires

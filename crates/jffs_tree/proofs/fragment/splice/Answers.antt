@@ -2,8 +2,8 @@ use Rattle.std.proofs.Common.{◌≤◌, ◌+◌, ℕ, max, inl, inr, Option, If
 use Rattle.std.proofs.lemmas.Option.{same_Some}
 use Rattle.jffs_node.specs.Record.{dsize, file_max}
 use Rattle.jffs_tree.specs.Fragments.{AreCut, IsFileAfter}
-use Rattle.jffs_tree.proofs.FileWritten.{Ends, spliced_either, spliced_moved, spliced_stayed, file_plain, file_stated, file_within, cut_with_node_data}
-use Rattle.jffs_tree.proofs.Overwriting.{short_from_laid}
+use Rattle.jffs_tree.proofs.files.FileWritten.{Ends, spliced_either, spliced_moved, spliced_stayed, file_plain, file_stated, file_within, cut_with_node_data}
+use Rattle.jffs_tree.proofs.files.Overwriting.{short_from_laid}
 use Rattle.jffs_tree.proofs.fragment.splice.Goals as goal
 use Rattle.jffs_tree.proofs.fragment.splice.Goals.{then-moves, else-moves}
 

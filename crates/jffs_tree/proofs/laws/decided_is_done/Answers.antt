@@ -1,4 +1,4 @@
-use Rattle.jffs_tree.proofs.Done.{decided_is_done as by_parts, new_inodes_are_free}
+use Rattle.jffs_tree.proofs.decisions.Done.{decided_is_done as by_parts, new_inodes_are_free}
 use Rattle.jffs_tree.proofs.laws.decided_is_done.Goals as goal
 
 pub returns : goal.returns

@@ -1,4 +1,4 @@
-use Rattle.jffs_tree.proofs.Copies.{decides_by_tree, accepted_copies_are_true, cleaning_copies_are_true}
+use Rattle.jffs_tree.proofs.decisions.Copies.{decides_by_tree, accepted_copies_are_true, cleaning_copies_are_true}
 use Rattle.jffs_tree.proofs.laws.decisions_hold.Goals as goal
 
 pub returns : goal.returns

@@ -1,5 +1,5 @@
-use Rattle.jffs_tree.proofs.Erasing.{erasing_keeps_state, erasing_keeps_tree as by_bytes, erasing_keeps_origins}
-use Rattle.jffs_tree.proofs.Rules.{rules_give_origins, erasing_keeps_rules}
+use Rattle.jffs_tree.proofs.states.Erasing.{erasing_keeps_state, erasing_keeps_tree as by_bytes, erasing_keeps_origins}
+use Rattle.jffs_tree.proofs.states.Rules.{rules_give_origins, erasing_keeps_rules}
 use Rattle.jffs_tree.proofs.laws.erasing_keeps_tree.Goals as goal
 
 pub returns : goal.returns

@@ -1,4 +1,4 @@
-use Rattle.jffs_tree.proofs.Grown.{tree_steps}
+use Rattle.jffs_tree.proofs.trees.Grown.{tree_steps}
 use Rattle.jffs_tree.proofs.laws.trees_step_by_nodes.Goals as goal
 
 pub returns : goal.returns

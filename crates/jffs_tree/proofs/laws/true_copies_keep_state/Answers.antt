@@ -1,4 +1,4 @@
-use Rattle.jffs_tree.proofs.TrueCopy.{true_copy_keeps_state}
+use Rattle.jffs_tree.proofs.states.TrueCopy.{true_copy_keeps_state}
 use Rattle.jffs_tree.proofs.laws.true_copies_keep_state.Goals as goal
 
 pub returns : goal.returns

@@ -4,9 +4,9 @@ use Rattle.jffs_node.specs.Record.{file_max}
 use Rattle.jffs_node.proofs.Each.{each_front}
 use Rattle.jffs_tree.specs.Marks.{mark_of}
 use Rattle.jffs_tree.specs.Fragments.{Fragments, AreShort, ascending, part_by, amount_by}
-use Rattle.jffs_tree.proofs.Reversed.{Late}
-use Rattle.jffs_tree.proofs.Splitting.{amount_append, amount_cons}
-use Rattle.jffs_tree.proofs.Taking.{one_moved, still_marked}
+use Rattle.jffs_tree.proofs.files.Reversed.{Late}
+use Rattle.jffs_tree.proofs.files.Splitting.{amount_append, amount_cons}
+use Rattle.jffs_tree.proofs.files.Taking.{one_moved, still_marked}
 use Rattle.jffs_tree.proofs.leaving.lower_all.Goals as goal
 
 pub loop-fragment-init : goal.loop-fragment-init

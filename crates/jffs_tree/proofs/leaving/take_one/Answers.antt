@@ -3,7 +3,7 @@ use Rattle.std.specs.Map.{lookup}
 use Rattle.std.specs.BTreeMap.{is_at}
 use Rattle.jffs_tree.specs.Marks.{mark_of}
 use Rattle.jffs_tree.specs.Fragments.{part_by, amount_by}
-use Rattle.jffs_tree.proofs.Taking.{short_found, part_of_all, amount_removed, one_moved}
+use Rattle.jffs_tree.proofs.files.Taking.{short_found, part_of_all, amount_removed, one_moved}
 use Rattle.jffs_tree.proofs.leaving.take_one.Goals as goal
 
 pub len-requires : goal.len-requires

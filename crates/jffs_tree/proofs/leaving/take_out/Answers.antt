@@ -1,7 +1,7 @@
 use Rattle.std.proofs.Common.{◌∙◌, sym, ap, subst, arith, nat_cmp}
 use Rattle.std.specs.BTreeMap.{is_at}
 use Rattle.jffs_tree.specs.Fragments.{AreShort, outside}
-use Rattle.jffs_tree.proofs.Taking.{none_in_none, short_removed, outside_removed, still_marked}
+use Rattle.jffs_tree.proofs.files.Taking.{none_in_none, short_removed, outside_removed, still_marked}
 use Rattle.jffs_tree.proofs.leaving.take_out.Goals as goal
 
 pub returns-then-to-from-clause-left : goal.returns-then-to-from-clause-left

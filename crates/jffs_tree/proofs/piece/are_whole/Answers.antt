@@ -1,8 +1,8 @@
 use Rattle.std.proofs.Common.{◌≡◌, ◌<◌, ◌∙◌, ◌+◌, length, sym, ap, subst, arith}
 use Rattle.jffs_tree.specs.Fragments.{Fragments, AreLaid, ascending, laid}
-use Rattle.jffs_tree.proofs.Fragments.{laid_bound}
-use Rattle.jffs_tree.proofs.Reading.{all_written, gap_unwritten, written_step}
-use Rattle.jffs_tree.proofs.Reversed.{last_ascending}
+use Rattle.jffs_tree.proofs.files.Fragments.{laid_bound}
+use Rattle.jffs_tree.proofs.files.Reading.{all_written, gap_unwritten, written_step}
+use Rattle.jffs_tree.proofs.files.Reversed.{last_ascending}
 use Rattle.jffs_tree.proofs.piece.are_whole.Goals as goal
 
 pub returns-then-first-end : goal.returns-then-first-end

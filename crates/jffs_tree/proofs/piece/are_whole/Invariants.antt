@@ -1,6 +1,6 @@
 use Rattle.std.proofs.Common.{◌≡◌, length}
 use Rattle.jffs_tree.specs.Fragments.{AreLaid, ascending, laid}
-use Rattle.jffs_tree.proofs.Reading.{all_written}
+use Rattle.jffs_tree.proofs.files.Reading.{all_written}
 use Rattle.jffs_tree.proofs.piece.are_whole.Given as goal
 
 -- What is left lies from the end on, and all that stands before it is written.

@@ -1,7 +1,7 @@
 use Rattle.std.proofs.Common.{◌≡◌, ◌∙◌, ◌<◌, ◌+◌, ◌-◌, ℕ, List, length, take, drop, sym, ap, subst, arith, length-drop}
 use Rattle.std.proofs.Math.Seq.{take-length}
 use Rattle.jffs_tree.specs.Fragments.{Says}
-use Rattle.jffs_tree.proofs.Reading.{says_fragment}
+use Rattle.jffs_tree.proofs.files.Reading.{says_fragment}
 use Rattle.jffs_tree.proofs.piece.bytes_at.Goals as goal
 
 pub returns-clause-there : goal.returns-clause-there

@@ -1,7 +1,7 @@
 use Rattle.std.proofs.Common.{◌+◌, arith}
 use Rattle.jffs_node.specs.Record.{file_max}
-use Rattle.jffs_tree.proofs.Splitting.{last_before, last_fits, none_begins_before}
-use Rattle.jffs_tree.proofs.Reading.{none_holds_from, held_by_last}
+use Rattle.jffs_tree.proofs.files.Splitting.{last_before, last_fits, none_begins_before}
+use Rattle.jffs_tree.proofs.files.Reading.{none_holds_from, held_by_last}
 use Rattle.jffs_tree.proofs.piece.holding.Goals as goal
 
 pub returns-in_default-clause-none : goal.returns-in_default-clause-none

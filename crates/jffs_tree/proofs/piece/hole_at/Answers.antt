@@ -1,6 +1,6 @@
 use Rattle.std.proofs.Common.{◌≡◌, ◌+◌, ◌-◌, subst, arith}
 use Rattle.jffs_node.specs.Record.{file_max}
-use Rattle.jffs_tree.proofs.Reading.{IsClear, begins_later, clear, says_hole}
+use Rattle.jffs_tree.proofs.files.Reading.{IsClear, begins_later, clear, says_hole}
 use Rattle.jffs_tree.proofs.piece.hole_at.Goals as goal
 
 pub returns-in-Some-clause-count : goal.returns-in-Some-clause-count

@@ -1,7 +1,7 @@
 use Rattle.std.proofs.Common.{◌∙◌, sym}
 use Rattle.jffs_node.specs.Record.{file_max}
-use Rattle.jffs_tree.proofs.Fragments.{are_laid_grown}
-use Rattle.jffs_tree.proofs.Reading.{writer_past, writer_in_hole, writer_in_fragment}
+use Rattle.jffs_tree.proofs.files.Fragments.{are_laid_grown}
+use Rattle.jffs_tree.proofs.files.Reading.{writer_past, writer_in_hole, writer_in_fragment}
 use Rattle.jffs_tree.proofs.piece.writer_at.Goals as goal
 
 pub returns-then-size-at : goal.returns-then-size-at

@@ -1,6 +1,6 @@
 use Rattle.std.proofs.Common.{ℕ, ◌+◌, List, length, Some, option_map, ap, subst, sym, ◌∙◌, arith}
 use Rattle.jffs_tree.specs.Marks.{HaveMore}
-use Rattle.jffs_tree.proofs.Marked.{has_newest, of_old}
+use Rattle.jffs_tree.proofs.versions.Marked.{has_newest, of_old}
 use Rattle.jffs_tree.proofs.tree.write_marked.Goals as goal
 
 pub raise-requires : goal.raise-requires

@@ -9,11 +9,11 @@ use Rattle.jffs_core.specs.Nodes.{HasNode}
 use Rattle.jffs_core.specs.Past.{RepresentsWorking}
 use Rattle.jffs_core.specs.Answering.{HasAnswered, KeepsAnswer, is_closed}
 use Rattle.jffs_core.specs.Trees.{TellsNode}
-use Rattle.jffs_core.proofs.Stepping.{failed_answer, answered}
-use Rattle.jffs_core.proofs.Told.{node_told}
-use Rattle.jffs_core.proofs.Trees.{tells_node, tells_none}
+use Rattle.jffs_core.proofs.answers.Stepping.{failed_answer, answered}
+use Rattle.jffs_core.proofs.answers.Told.{node_told}
+use Rattle.jffs_core.proofs.puts.Trees.{tells_node, tells_none}
 use Rattle.jffs_core.specs.Erases.{Leaves, erased_for}
-use Rattle.jffs_core.proofs.Erasing.{answer_bounded, erased_within, held_most, leaves_all, uses_kept}
+use Rattle.jffs_core.proofs.room.Erasing.{answer_bounded, erased_within, held_most, leaves_all, uses_kept}
 use Rattle.jffs_core.proofs.mounted_core.Core.answer_with_node.Goals as goal
 use Rattle.jffs_core.proofs.mounted_core.Core.answer_with_node.Goals.{then-failed, else-failed}
 

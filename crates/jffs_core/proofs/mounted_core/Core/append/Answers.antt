@@ -3,7 +3,7 @@ use Rattle.jffs_node.specs.Record.{record_len}
 use Rattle.jffs_flash.specs.Device.{Device}
 use Rattle.jffs_flash.specs.Wear.{Wear, erases_at, no_erase}
 use Rattle.jffs_tree.specs.Origin.{Tree}
-use Rattle.jffs_tree.proofs.Applied.{lawful_suits}
+use Rattle.jffs_tree.proofs.trees.Applied.{lawful_suits}
 use Rattle.jffs_log.specs.LogIndex.{layout_in}
 use Rattle.jffs_log.specs.Room.{has_room_in}
 use Rattle.jffs_log.specs.Cleaning.{put}
@@ -12,9 +12,9 @@ use Rattle.jffs_log.proofs.Seen.{log_sizes}
 use Rattle.jffs_core.specs.CoreState.{CoreState}
 use Rattle.jffs_core.specs.Past.{IsPast, HasLogIndex, RepresentsWorking, has_room_for}
 use Rattle.jffs_core.specs.Appending.{MayPut, PutRefused}
-use Rattle.jffs_core.proofs.Erasing.{leaves_kept, leaves_reserved}
-use Rattle.jffs_core.proofs.Putting.{mid_index, put_failed, offsets_kept, counted, put_known, may_append, mid_history, mid_layout}
-use Rattle.jffs_core.proofs.Mounting.{clean_ends}
+use Rattle.jffs_core.proofs.room.Erasing.{leaves_kept, leaves_reserved}
+use Rattle.jffs_core.proofs.puts.Putting.{mid_index, put_failed, offsets_kept, counted, put_known, may_append, mid_history, mid_layout}
+use Rattle.jffs_core.proofs.scans.Mounting.{clean_ends}
 use Rattle.jffs_core.proofs.mounted_core.Core.append.Goals as goal
 
 pub apply-requires : goal.apply-requires

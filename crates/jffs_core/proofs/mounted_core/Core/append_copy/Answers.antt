@@ -1,7 +1,7 @@
 use Rattle.std.proofs.lemmas.Result.{err_from_is_err_and}
 use Rattle.jffs_log.specs.declared.room.Room.TheVariants as rooms
-use Rattle.jffs_core.proofs.Asked.{copy_may, copy_room, copy_old}
-use Rattle.jffs_core.proofs.Stepping.{put_copy, put_stopped}
+use Rattle.jffs_core.proofs.answers.Asked.{copy_may, copy_room, copy_old}
+use Rattle.jffs_core.proofs.answers.Stepping.{put_copy, put_stopped}
 use Rattle.jffs_core.proofs.mounted_core.Core.append_copy.Goals as goal
 
 pub append-requires-clause-follows : goal.append-requires-clause-follows

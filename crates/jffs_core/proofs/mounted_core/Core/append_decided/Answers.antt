@@ -1,4 +1,4 @@
-use Rattle.jffs_core.proofs.Asked.{its_len}
+use Rattle.jffs_core.proofs.answers.Asked.{its_len}
 use Rattle.jffs_core.proofs.mounted_core.Core.append_decided.Goals as goal
 
 pub record_len-requires : goal.record_len-requires

@@ -2,9 +2,9 @@ use Rattle.std.proofs.lemmas.Result.{err_from_is_err_and}
 use Rattle.std.proofs.lemmas.Bool.{both_ways}
 use Rattle.jffs_tree.specs.declared.wish.Outcome.TheVariants.{Appended}
 use Rattle.jffs_log.specs.declared.room.Room.TheVariants as rooms
-use Rattle.jffs_core.proofs.Refusing.{works_past, put_programs}
-use Rattle.jffs_core.proofs.Asked.{fresh_is, fresh_may, fresh_room}
-use Rattle.jffs_core.proofs.Stepping.{answers_same, fresh_put_keeps, put_now, put_stopped}
+use Rattle.jffs_core.proofs.answers.Refusing.{works_past, put_programs}
+use Rattle.jffs_core.proofs.answers.Asked.{fresh_is, fresh_may, fresh_room}
+use Rattle.jffs_core.proofs.answers.Stepping.{answers_same, fresh_put_keeps, put_now, put_stopped}
 use Rattle.jffs_core.proofs.mounted_core.Core.append_fresh.Goals as goal
 
 pub append-requires-clause-follows : goal.append-requires-clause-follows

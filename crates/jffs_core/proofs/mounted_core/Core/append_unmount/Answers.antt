@@ -1,7 +1,7 @@
 use Rattle.std.proofs.lemmas.Result.{err_from_is_err_and}
 use Rattle.jffs_log.specs.declared.room.Room.TheVariants as rooms
-use Rattle.jffs_core.proofs.Asked.{unmount_may, unmount_room, unmount_old}
-use Rattle.jffs_core.proofs.Stepping.{put_unmount, put_stopped}
+use Rattle.jffs_core.proofs.answers.Asked.{unmount_may, unmount_room, unmount_old}
+use Rattle.jffs_core.proofs.answers.Stepping.{put_unmount, put_stopped}
 use Rattle.jffs_core.proofs.mounted_core.Core.append_unmount.Goals as goal
 
 pub append-requires-clause-follows : goal.append-requires-clause-follows

@@ -6,9 +6,9 @@ use Rattle.jffs_tree.specs.declared.wish.NewNode.{NewNode}
 use Rattle.jffs_tree.specs.Decide.{decide_on, is_unmount_wish}
 use Rattle.jffs_core.specs.CoreState.{CoreState}
 use Rattle.jffs_log.specs.Room.{limits as limits_of}
-use Rattle.jffs_core.proofs.Deciding.{decided_cause}
-use Rattle.jffs_core.proofs.Asked.{decision_is}
-use Rattle.jffs_core.proofs.Stepping.{already_closed, decided_against, granted, which_refusal}
+use Rattle.jffs_core.proofs.answers.Deciding.{decided_cause}
+use Rattle.jffs_core.proofs.answers.Asked.{decision_is}
+use Rattle.jffs_core.proofs.answers.Stepping.{already_closed, decided_against, granted, which_refusal}
 use Rattle.jffs_core.proofs.mounted_core.Core.carry_out.Goals as goal
 use Rattle.jffs_core.proofs.mounted_core.Core.carry_out.Goals.{else-is_unmount-via-then-is_unmount+else-self, else-is_unmount-via-else-is_unmount}
 

@@ -11,13 +11,13 @@ use Rattle.jffs_core.specs.History.{IsOwnCopy, MayFollow}
 use Rattle.jffs_core.specs.Step.{IsInHand}
 use Rattle.jffs_core.specs.Past.{has_room_for}
 use Rattle.jffs_core.specs.Answering.{turn_of}
-use Rattle.jffs_core.proofs.Refusing.{copies_follow, works_past, refused_along, programs_along, put_programs}
-use Rattle.jffs_core.proofs.Unchanged.{layout_unchanged}
-use Rattle.jffs_core.proofs.Asked.{own_in_hand, known_version, may_later, its_makes_room, its_len, its_short, its_full, its_gets, its_past, fresh_is, fresh_room}
-use Rattle.jffs_core.proofs.Full.{turn_was_full}
-use Rattle.jffs_core.proofs.Working.{made_is_little}
-use Rattle.jffs_core.proofs.Stepping.{answers_same, make_stopped, later_put_keeps, not_for_room, put_fresh, none_left}
-use Rattle.jffs_core.proofs.Erasing.{leaves_along}
+use Rattle.jffs_core.proofs.answers.Refusing.{copies_follow, works_past, refused_along, programs_along, put_programs}
+use Rattle.jffs_core.proofs.answers.Unchanged.{layout_unchanged}
+use Rattle.jffs_core.proofs.answers.Asked.{own_in_hand, known_version, may_later, its_makes_room, its_len, its_short, its_full, its_gets, its_past, fresh_is, fresh_room}
+use Rattle.jffs_core.proofs.answers.Full.{turn_was_full}
+use Rattle.jffs_core.proofs.answers.Working.{made_is_little}
+use Rattle.jffs_core.proofs.answers.Stepping.{answers_same, make_stopped, later_put_keeps, not_for_room, put_fresh, none_left}
+use Rattle.jffs_core.proofs.room.Erasing.{leaves_along}
 use Rattle.jffs_core.proofs.mounted_core.Core.clean_for.Goals as goal
 
 pub record_len-requires : goal.record_len-requires

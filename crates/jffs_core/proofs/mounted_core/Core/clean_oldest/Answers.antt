@@ -1,7 +1,7 @@
 use Rattle.std.proofs.Common.{◌∙◌, sym, ap}
 use Rattle.std.proofs.lemmas.Result.{IfOk-weaker, IfErr-weaker}
 use Rattle.jffs_core.specs.CoreState.{CoreState}
-use Rattle.jffs_core.proofs.Called.{did_clean, did_stop}
+use Rattle.jffs_core.proofs.room.Called.{did_clean, did_stop}
 use Rattle.jffs_core.proofs.mounted_core.Core.clean_oldest.Goals as goal
 
 pub returns-clause-cleaned : goal.returns-clause-cleaned

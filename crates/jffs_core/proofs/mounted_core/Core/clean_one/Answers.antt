@@ -5,8 +5,8 @@ use Rattle.jffs_log.specs.LogIndex.{IsLogIndex, layout_in}
 use Rattle.jffs_core.specs.CoreState.{CoreState}
 use Rattle.jffs_core.specs.Cleaning.{AreOldest}
 use Rattle.jffs_core.specs.Past.{RepresentsWorking}
-use Rattle.jffs_core.proofs.Sweeping.{held_is, oldest_is}
-use Rattle.jffs_core.proofs.Copying.{not_for_copy}
+use Rattle.jffs_core.proofs.room.Sweeping.{held_is, oldest_is}
+use Rattle.jffs_core.proofs.room.Copying.{not_for_copy}
 use Rattle.jffs_core.proofs.mounted_core.Core.clean_one.Goals as goal
 
 pub returns-then-held-lt2-clause-cleaned : goal.returns-then-held-lt2-clause-cleaned

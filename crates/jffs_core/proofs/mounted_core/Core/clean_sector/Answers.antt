@@ -1,8 +1,8 @@
 use Rattle.std.proofs.Common.{◌∙◌, ap, arith}
 use Rattle.std.proofs.lemmas.Result.{err_from_is_err_and}
 use Rattle.jffs_core.specs.CoreState.{CoreState}
-use Rattle.jffs_core.proofs.Copying.{still_several, now_dead, then_erased, then_stopped}
-use Rattle.jffs_core.proofs.Erasing.{leaves_more, leaves_along}
+use Rattle.jffs_core.proofs.room.Copying.{still_several, now_dead, then_erased, then_stopped}
+use Rattle.jffs_core.proofs.room.Erasing.{leaves_more, leaves_along}
 use Rattle.jffs_core.proofs.mounted_core.Core.clean_sector.Goals as goal
 
 pub erase_oldest-requires-clause-dead : goal.erase_oldest-requires-clause-dead

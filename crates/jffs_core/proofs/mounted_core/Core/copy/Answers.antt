@@ -5,10 +5,10 @@ use Rattle.jffs_tree.specs.Origin.{state_in}
 use Rattle.jffs_tree.specs.Decide.{cleaning_copy}
 use Rattle.jffs_core.specs.CoreState.{CoreState}
 use Rattle.jffs_core.specs.Appending.{MayPut, PutRefused}
-use Rattle.jffs_core.proofs.Sweeping.{lives_by_tree, copy_is, copy_may, copy_put, copy_refused}
-use Rattle.jffs_core.proofs.Asked.{known_version}
-use Rattle.jffs_core.proofs.Refusing.{works_still}
-use Rattle.jffs_core.proofs.Stepping.{none_left}
+use Rattle.jffs_core.proofs.room.Sweeping.{lives_by_tree, copy_is, copy_may, copy_put, copy_refused}
+use Rattle.jffs_core.proofs.answers.Asked.{known_version}
+use Rattle.jffs_core.proofs.answers.Refusing.{works_still}
+use Rattle.jffs_core.proofs.answers.Stepping.{none_left}
 use Rattle.jffs_core.proofs.mounted_core.Core.copy.Goals as goal
 
 pub append-requires-clause-follows : goal.append-requires-clause-follows

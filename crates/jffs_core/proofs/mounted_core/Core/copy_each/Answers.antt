@@ -10,8 +10,8 @@ use Rattle.jffs_log.proofs.append.Appended.{sizes_small}
 use Rattle.jffs_core.specs.CoreState.{CoreState}
 use Rattle.jffs_core.specs.Past.{RepresentsWorking}
 use Rattle.jffs_core.specs.Cleaning.{HasCopied}
-use Rattle.jffs_core.proofs.Copying.{copying_begins, copying_goes_on, copying_has_room, among_more, one_known, one_short, are_few}
-use Rattle.jffs_core.proofs.Erasing.{leaves_along}
+use Rattle.jffs_core.proofs.room.Copying.{copying_begins, copying_goes_on, copying_has_room, among_more, one_known, one_short, are_few}
+use Rattle.jffs_core.proofs.room.Erasing.{leaves_along}
 use Rattle.jffs_core.proofs.mounted_core.Core.copy_each.Goals as goal
 
 one_most : (b : Bool) (r : ℕ) → r ≡ from_bool b → r ≤ 1

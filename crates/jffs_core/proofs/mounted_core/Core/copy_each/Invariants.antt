@@ -1,4 +1,4 @@
-use Rattle.jffs_core.proofs.Copying.{IsCopying}
+use Rattle.jffs_core.proofs.room.Copying.{IsCopying}
 use Rattle.jffs_core.proofs.mounted_core.Core.copy_each.Given as goal
 
 abbrev pub invariant-loop-node : goal.invariant-loop-node

@@ -2,9 +2,9 @@ use Rattle.std.proofs.Common.{◌∙◌, inl, sym, ap, subst}
 use Rattle.std.proofs.lemmas.Result.{IfOk-weaker, IfErr-weaker}
 use Rattle.jffs_core.specs.CoreState.{CoreState}
 use Rattle.jffs_core.specs.Past.{RepresentsWorking}
-use Rattle.jffs_core.proofs.Refusing.{works_past}
-use Rattle.jffs_core.proofs.Trees.{tree_kept}
-use Rattle.jffs_core.proofs.Called.{erased_keeps, device_stop}
+use Rattle.jffs_core.proofs.answers.Refusing.{works_past}
+use Rattle.jffs_core.proofs.puts.Trees.{tree_kept}
+use Rattle.jffs_core.proofs.room.Called.{erased_keeps, device_stop}
 use Rattle.jffs_core.proofs.mounted_core.Core.erase_dead.Goals as goal
 
 pub returns-clause-erased : goal.returns-clause-erased

@@ -10,9 +10,9 @@ use Rattle.jffs_log.proofs.Results.{either_way}
 use Rattle.jffs_log.proofs.Seen.{log_sizes}
 use Rattle.jffs_core.specs.CoreState.{CoreState}
 use Rattle.jffs_core.specs.Past.{RepresentsWorking}
-use Rattle.jffs_core.proofs.Handed.{erased_left, erase_left}
-use Rattle.jffs_core.proofs.Sweeping.{held_is}
-use Rattle.jffs_core.proofs.Erasing.{erased_one, erase_failed, leaves_one, one_fewer, uses_one, uses_failed, uses_seen}
+use Rattle.jffs_core.proofs.puts.Handed.{erased_left, erase_left}
+use Rattle.jffs_core.proofs.room.Sweeping.{held_is}
+use Rattle.jffs_core.proofs.room.Erasing.{erased_one, erase_failed, leaves_one, one_fewer, uses_one, uses_failed, uses_seen}
 use Rattle.jffs_core.proofs.mounted_core.Core.erase_oldest.Goals as goal
 
 -- the log of the core inside has several sectors

@@ -4,8 +4,8 @@ use Rattle.std.proofs.lemmas.Result.{err_from_is_err_and}
 use Rattle.jffs_log.specs.LogIndex.{layout_in}
 use Rattle.jffs_log.specs.Cleaning.{Layout}
 use Rattle.jffs_core.specs.Cleaning.{IsDeadOldest}
-use Rattle.jffs_core.proofs.Refusing.{fails_along}
-use Rattle.jffs_core.proofs.Erasing.{erased_none, erased_along, erasing_goes_on, leaves_within, one_fewer}
+use Rattle.jffs_core.proofs.answers.Refusing.{fails_along}
+use Rattle.jffs_core.proofs.room.Erasing.{erased_none, erased_along, erasing_goes_on, leaves_within, one_fewer}
 use Rattle.jffs_core.proofs.mounted_core.Core.erase_while_dead.Goals as goal
 
 pub overflow_add-erased : goal.overflow_add-erased

@@ -1,6 +1,6 @@
 use Rattle.std.proofs.Common.{length}
 use Rattle.jffs_log.specs.LogIndex.{layout_in}
-use Rattle.jffs_core.proofs.Erasing.{IsErasing}
+use Rattle.jffs_core.proofs.room.Erasing.{IsErasing}
 use Rattle.jffs_core.proofs.mounted_core.Core.erase_while_dead.Given as goal
 
 abbrev pub invariant-loop-self : goal.invariant-loop-self

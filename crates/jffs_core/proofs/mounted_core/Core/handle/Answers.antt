@@ -1,6 +1,6 @@
 use Rattle.std.proofs.Common.{◌∙◌, sym, ap}
 use Rattle.jffs_core.specs.CoreState.{CoreState}
-use Rattle.jffs_core.proofs.Sweeping.{skipped, is_live_in}
+use Rattle.jffs_core.proofs.room.Sweeping.{skipped, is_live_in}
 use Rattle.jffs_core.proofs.mounted_core.Core.handle.Goals as goal
 
 pub returns-then-not-live-clause-handled : goal.returns-then-not-live-clause-handled

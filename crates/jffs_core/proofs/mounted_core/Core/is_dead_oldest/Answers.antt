@@ -2,7 +2,7 @@ use Rattle.std.proofs.Common.{◌≡◌, ◌∙◌, ◌≤◌, length, false, sy
 use Rattle.std.specs.List.{AllByRecursion}
 use Rattle.jffs_log.specs.LogIndex.{layout_in, lives_in, oldest_in}
 use Rattle.jffs_core.specs.CoreState.{CoreState}
-use Rattle.jffs_core.proofs.Sweeping.{held_is}
+use Rattle.jffs_core.proofs.room.Sweeping.{held_is}
 use Rattle.jffs_core.proofs.mounted_core.Core.is_dead_oldest.Goals as goal
 
 pub returns : goal.returns

@@ -4,9 +4,9 @@ use Rattle.jffs_log.specs.LogIndex.{layout_in}
 use Rattle.jffs_core.specs.declared.cleaning.Cleaned.{Cleaned}
 use Rattle.jffs_core.specs.CoreState.{CoreState}
 use Rattle.jffs_core.specs.Cleaning.{DidClean}
-use Rattle.jffs_core.proofs.Sweeping.{held_is}
-use Rattle.jffs_core.proofs.Turning.{HasTurned, turning_begins, turning_ends, turning_goes_on, turning_stopped, full_has_several}
-use Rattle.jffs_core.proofs.Erasing.{leaves_more, leaves_along}
+use Rattle.jffs_core.proofs.room.Sweeping.{held_is}
+use Rattle.jffs_core.proofs.room.Turning.{HasTurned, turning_begins, turning_ends, turning_goes_on, turning_stopped, full_has_several}
+use Rattle.jffs_core.proofs.room.Erasing.{leaves_more, leaves_along}
 use Rattle.jffs_core.proofs.mounted_core.Core.make_room.Goals as goal
 
 pub loop-turn-init : goal.loop-turn-init

@@ -1,6 +1,6 @@
 use Rattle.std.proofs.Common.{refl, sym, ap}
 use Rattle.jffs_flash.specs.Device.{Device}
-use Rattle.jffs_core.proofs.Mounting.{found_index, found_fresh}
+use Rattle.jffs_core.proofs.scans.Mounting.{found_index, found_fresh}
 use Rattle.jffs_core.proofs.mounted_core.Core.mount.Goals as goal
 
 pub invariant_of-result : goal.invariant_of-result

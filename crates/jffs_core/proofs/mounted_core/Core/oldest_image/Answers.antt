@@ -4,8 +4,8 @@ use Rattle.jffs_log.specs.LogState.{LogState}
 use Rattle.jffs_core.specs.CoreState.{CoreState}
 use Rattle.jffs_core.specs.History.{IsOwnCopy}
 use Rattle.jffs_core.specs.Past.{RepresentsWorking, RepresentsPast, IsPast}
-use Rattle.jffs_core.proofs.Refusing.{works_past, copies_follow, refused_past}
-use Rattle.jffs_core.proofs.Handed.{read_stops, read_known, either_way}
+use Rattle.jffs_core.proofs.answers.Refusing.{works_past, copies_follow, refused_past}
+use Rattle.jffs_core.proofs.puts.Handed.{read_stops, read_known, either_way}
 use Rattle.jffs_core.proofs.mounted_core.Core.oldest_image.Goals as goal
 
 pub returns-clause-stands : goal.returns-clause-stands

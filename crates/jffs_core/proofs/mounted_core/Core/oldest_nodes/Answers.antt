@@ -2,7 +2,7 @@ use Rattle.std.proofs.Common.{refl, sym, ap, subst, ◌∙◌}
 use Rattle.std.proofs.lemmas.Result.{IfErr-weaker}
 use Rattle.jffs_core.specs.CoreState.{CoreState}
 use Rattle.jffs_core.specs.Past.{RepresentsWorking}
-use Rattle.jffs_core.proofs.Handed.{read_stops, read_known}
+use Rattle.jffs_core.proofs.puts.Handed.{read_stops, read_known}
 use Rattle.jffs_core.proofs.mounted_core.Core.oldest_nodes.Goals as goal
 
 pub returns-clause-refused : goal.returns-clause-refused

@@ -1,4 +1,4 @@
-use Rattle.jffs_core.proofs.Erasing.{held_most}
+use Rattle.jffs_core.proofs.room.Erasing.{held_most}
 use Rattle.jffs_core.proofs.mounted_core.Core.push_answer.Goals as goal
 
 pub returns-clause-held : goal.returns-clause-held

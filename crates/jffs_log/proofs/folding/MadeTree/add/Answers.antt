@@ -6,7 +6,7 @@ use Rattle.jffs_node.specs.declared.node.Node.{Node}
 use Rattle.jffs_tree.specs.Origin.{tree_of}
 use Rattle.jffs_tree.specs.Check.{each_fits}
 use Rattle.jffs_tree.specs.After.{can_apply}
-use Rattle.jffs_tree.proofs.Applied.{lawful_suits}
+use Rattle.jffs_tree.proofs.trees.Applied.{lawful_suits}
 use Rattle.jffs_tree.specs.Check.{keeps_form_after, has_second_form}
 use Rattle.jffs_log.proofs.scans.ScanFold.{refused_at, fits_next, next_past, fits_after}
 use Rattle.jffs_log.proofs.folding.MadeTree.add.Goals as goal

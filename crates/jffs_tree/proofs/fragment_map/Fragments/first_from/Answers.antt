@@ -2,8 +2,8 @@ use Rattle.std.proofs.Common.{◌∙◌, sym, ap, subst, nat_cmp}
 use Rattle.std.specs.List.Sorted.{IsStrictlySortedBy}
 use Rattle.std.specs.Map.{keys_of}
 use Rattle.jffs_tree.specs.Fragments.{FragmentMap, ascending, from, get}
-use Rattle.jffs_tree.proofs.KeyOrder.{nat_low}
-use Rattle.jffs_tree.proofs.Reversed.{from_ascending, last_ascending, lookup_ascending, sorted_ascending}
+use Rattle.jffs_tree.proofs.listing.KeyOrder.{nat_low}
+use Rattle.jffs_tree.proofs.files.Reversed.{from_ascending, last_ascending, lookup_ascending, sorted_ascending}
 use Rattle.jffs_tree.proofs.fragment_map.Fragments.first_from.Goals as goal
 
 pub returns-in_default-clause-none : goal.returns-in_default-clause-none

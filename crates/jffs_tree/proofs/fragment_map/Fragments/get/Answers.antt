@@ -1,6 +1,6 @@
 use Rattle.std.proofs.Common.{◌∙◌, ap, nat_cmp}
 use Rattle.jffs_tree.specs.Fragments.{FragmentMap, get}
-use Rattle.jffs_tree.proofs.Reversed.{lookup_ascending}
+use Rattle.jffs_tree.proofs.files.Reversed.{lookup_ascending}
 use Rattle.jffs_tree.proofs.fragment_map.Fragments.get.Goals as goal
 
 pub returns : goal.returns

@@ -3,7 +3,7 @@ use Rattle.std.specs.List.Sorted.{IsStrictlySortedBy}
 use Rattle.std.specs.Map.{keys_of}
 use Rattle.std.specs.BTreeMap.{insert_entry}
 use Rattle.jffs_tree.specs.Fragments.{FragmentMap, get, ascending}
-use Rattle.jffs_tree.proofs.Reversed.{lookup_ascending, insert_ascending, sorted_ascending}
+use Rattle.jffs_tree.proofs.files.Reversed.{lookup_ascending, insert_ascending, sorted_ascending}
 use Rattle.jffs_tree.proofs.fragment_map.Fragments.insert.Goals as goal
 
 pub returns-in_err-insert-clause-was_ordered : goal.returns-in_err-insert-clause-was_ordered

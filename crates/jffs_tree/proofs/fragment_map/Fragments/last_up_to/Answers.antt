@@ -4,9 +4,9 @@ use Rattle.std.specs.declared.cmp.Reverse.{Reverse}
 use Rattle.std.specs.declared.ops.Bound.TheVariants.{Unbounded, Included}
 use Rattle.jffs_tree.specs.declared.fragment.Fragment.{Fragment}
 use Rattle.jffs_tree.specs.Fragments.{FragmentMap, ascending, before, get, late_cmp}
-use Rattle.jffs_tree.proofs.Indexed.{of_first}
-use Rattle.jffs_tree.proofs.KeyOrder.{nat_low}
-use Rattle.jffs_tree.proofs.Reversed.{before_ascending, lookup_ascending}
+use Rattle.jffs_tree.proofs.listing.Indexed.{of_first}
+use Rattle.jffs_tree.proofs.listing.KeyOrder.{nat_low}
+use Rattle.jffs_tree.proofs.files.Reversed.{before_ascending, lookup_ascending}
 use Rattle.jffs_tree.proofs.fragment_map.Fragments.last_up_to.Goals as goal
 
 pub returns-in_default-clause-none : goal.returns-in_default-clause-none

@@ -1,6 +1,6 @@
 use Rattle.std.proofs.Common.{◌≡◌, ◌∙◌, length, sym, ap, arith}
 use Rattle.jffs_tree.specs.Fragments.{FragmentMap, ascending}
-use Rattle.jffs_tree.proofs.Reversed.{last_ascending, length_ascending}
+use Rattle.jffs_tree.proofs.files.Reversed.{last_ascending, length_ascending}
 use Rattle.jffs_tree.proofs.fragment_map.Fragments.pop_first.Goals as goal
 
 pub returns-clause-first : goal.returns-clause-first

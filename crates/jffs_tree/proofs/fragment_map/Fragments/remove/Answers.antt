@@ -2,7 +2,7 @@ use Rattle.std.proofs.Common.{◌≡◌, ◌∙◌, length, ap, arith, nat_cmp}
 use Rattle.std.specs.Map.{remove_entry}
 use Rattle.std.specs.BTreeMap.{is_at}
 use Rattle.jffs_tree.specs.Fragments.{FragmentMap, get, ascending}
-use Rattle.jffs_tree.proofs.Reversed.{lookup_ascending, remove_ascending, length_ascending}
+use Rattle.jffs_tree.proofs.files.Reversed.{lookup_ascending, remove_ascending, length_ascending}
 use Rattle.jffs_tree.proofs.fragment_map.Fragments.remove.Goals as goal
 
 pub returns-clause-value : goal.returns-clause-value

@@ -2,7 +2,7 @@ use Rattle.std.proofs.Common.{◌≡◌, ◌∙◌, None, sym, ap, nat_cmp}
 use Rattle.std.specs.Map.{lookup, set_value}
 use Rattle.std.specs.BTreeMap.{is_at}
 use Rattle.jffs_tree.specs.Fragments.{FragmentMap, ascending, get}
-use Rattle.jffs_tree.proofs.Reversed.{lookup_ascending, set_ascending, set_none}
+use Rattle.jffs_tree.proofs.files.Reversed.{lookup_ascending, set_ascending, set_none}
 use Rattle.jffs_tree.proofs.fragment_map.Fragments.set.Goals as goal
 
 pub returns-in_default : goal.returns-in_default

@@ -1,6 +1,6 @@
 use Rattle.std.proofs.Common.{◌≡◌, ◌∙◌, length, take, drop, sym, ap, arith}
 use Rattle.std.proofs.Math.Seq.{take-length}
-use Rattle.jffs_tree.proofs.Comparing.{size_is, same_further, found_same, found_other, current, not_current, not_past_end, not_too_short}
+use Rattle.jffs_tree.proofs.files.Comparing.{size_is, same_further, found_same, found_other, current, not_current, not_past_end, not_too_short}
 use Rattle.jffs_tree.proofs.inode.Inode.is_current.Goals as goal
 use Rattle.jffs_tree.proofs.inode.Inode.is_current.Goals.{then-self-offset-via-then-self-offset, then-self-offset-via-else-self-offset+then-self-offset-2}
 

@@ -3,9 +3,9 @@ use Rattle.std.proofs.lemmas.List.{length-map}
 use Rattle.jffs_node.specs.Record.{file_max}
 use Rattle.jffs_tree.specs.Origin.{Held}
 use Rattle.jffs_tree.specs.Fragments.{laid, byte_of}
-use Rattle.jffs_tree.proofs.Fragments.{length-laid, are_laid_grown}
-use Rattle.jffs_tree.proofs.Reading.{said_next, read_more}
-use Rattle.jffs_tree.proofs.Comparing.{size_is}
+use Rattle.jffs_tree.proofs.files.Fragments.{length-laid, are_laid_grown}
+use Rattle.jffs_tree.proofs.files.Reading.{said_next, read_more}
+use Rattle.jffs_tree.proofs.files.Comparing.{size_is}
 use Rattle.jffs_tree.proofs.inode.Inode.read.Goals as goal
 
 pub copy_piece-done-requires-clause-laid : goal.copy_piece-done-requires-clause-laid

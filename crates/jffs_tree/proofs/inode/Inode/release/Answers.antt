@@ -2,8 +2,8 @@ use Rattle.std.proofs.Common.{◌≡◌, ◌∙◌, Bool, true, false, cond, eqb
 use Rattle.jffs_tree.specs.Marks.{bytes_by}
 use Rattle.jffs_tree.specs.Shown.{held_of}
 use Rattle.jffs_tree.specs.Fragments.{amount_by}
-use Rattle.jffs_tree.proofs.Counted.{amount_counted}
-use Rattle.jffs_tree.proofs.Overwriting.{short_from_laid}
+use Rattle.jffs_tree.proofs.files.Counted.{amount_counted}
+use Rattle.jffs_tree.proofs.files.Overwriting.{short_from_laid}
 use Rattle.jffs_tree.proofs.inode.Inode.release.Goals as goal
 
 pub lower_all-requires-clause-short : goal.lower_all-requires-clause-short

@@ -1,4 +1,4 @@
-use Rattle.jffs_tree.proofs.Comparing.{size_is}
+use Rattle.jffs_tree.proofs.files.Comparing.{size_is}
 use Rattle.jffs_tree.proofs.inode.Inode.size.Goals as goal
 
 pub returns : goal.returns

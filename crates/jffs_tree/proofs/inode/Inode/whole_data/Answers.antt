@@ -1,7 +1,7 @@
 use Rattle.std.proofs.Common.{◌≡◌, length, take, drop, sym, subst, arith}
 use Rattle.jffs_tree.specs.Origin.{Held}
-use Rattle.jffs_tree.proofs.Reading.{whole_fragment}
-use Rattle.jffs_tree.proofs.Comparing.{size_is}
+use Rattle.jffs_tree.proofs.files.Reading.{whole_fragment}
+use Rattle.jffs_tree.proofs.files.Comparing.{size_is}
 use Rattle.jffs_tree.proofs.inode.Inode.whole_data.Goals as goal
 
 pub returns-then-len-clause-long : goal.returns-then-len-clause-long

@@ -5,9 +5,9 @@ use Rattle.jffs_tree.specs.After.{held_after}
 use Rattle.jffs_tree.specs.Marks.{bytes_by, brought_by}
 use Rattle.jffs_tree.specs.Shown.{held_of}
 use Rattle.jffs_tree.specs.Fragments.{byte_of, writer_of, laid, amount_by}
-use Rattle.jffs_tree.proofs.Counted.{amount_counted}
-use Rattle.jffs_tree.proofs.Fragments.{length-laid}
-use Rattle.jffs_tree.proofs.InodeWritten.{bytes_written, writers_written, held_written}
+use Rattle.jffs_tree.proofs.files.Counted.{amount_counted}
+use Rattle.jffs_tree.proofs.files.Fragments.{length-laid}
+use Rattle.jffs_tree.proofs.files.InodeWritten.{bytes_written, writers_written, held_written}
 use Rattle.jffs_tree.proofs.inode.Inode.write.Goals as goal
 
 pub write_over-requires-clause-fits : goal.write_over-requires-clause-fits

@@ -1,7 +1,7 @@
 use Rattle.std.proofs.Common.{ℕ, List, ap, ◌∙◌}
 use Rattle.std.specs.List.{list_all}
 use Rattle.jffs_tree.specs.Origin.{Held}
-use Rattle.jffs_tree.proofs.InOrder.{all_in_order}
+use Rattle.jffs_tree.proofs.trees.InOrder.{all_in_order}
 use Rattle.jffs_tree.proofs.inodes.Inodes.iter.Goals as goal
 
 pub returns : goal.returns

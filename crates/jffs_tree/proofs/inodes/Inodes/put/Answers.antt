@@ -1,7 +1,7 @@
 use Rattle.std.proofs.Common.{ℕ, List, ap, ◌∙◌}
 use Rattle.jffs_tree.specs.Origin.{Held}
 use Rattle.jffs_tree.specs.After.{with_inode}
-use Rattle.jffs_tree.proofs.InOrder.{in_order_ordered, one_put}
+use Rattle.jffs_tree.proofs.trees.InOrder.{in_order_ordered, one_put}
 use Rattle.jffs_tree.proofs.inodes.Inodes.put.Goals as goal
 
 pub returns-clause-ok : goal.returns-clause-ok

@@ -1,7 +1,7 @@
 use Rattle.std.proofs.Common.{ℕ, List, ap, sym, ◌∙◌}
 use Rattle.jffs_tree.specs.Origin.{Held}
 use Rattle.jffs_tree.specs.After.{held_in, without_inode}
-use Rattle.jffs_tree.proofs.InOrder.{found_in_order, one_gone}
+use Rattle.jffs_tree.proofs.trees.InOrder.{found_in_order, one_gone}
 use Rattle.jffs_tree.proofs.inodes.Inodes.remove.Goals as goal
 
 pub returns-clause-gone : goal.returns-clause-gone

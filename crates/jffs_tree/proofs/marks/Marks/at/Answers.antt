@@ -1,8 +1,8 @@
 use Rattle.std.proofs.Common.{ℕ, Option, subst, sym, ap, ◌∙◌}
 use Rattle.std.specs.Option.{unwrap_or}
 use Rattle.jffs_tree.specs.Marks.{Counts, mark_key, mark_of, IsKeyAt, BelongsAt}
-use Rattle.jffs_tree.proofs.Places.{mark_at}
-use Rattle.jffs_tree.proofs.Searched.{entry_is, absent}
+use Rattle.jffs_tree.proofs.versions.Places.{mark_at}
+use Rattle.jffs_tree.proofs.versions.Searched.{entry_is, absent}
 use Rattle.jffs_tree.proofs.marks.Marks.at.Goals as goal
 
 pub returns-in-Ok : goal.returns-in-Ok

@@ -5,8 +5,8 @@ use Rattle.std.proofs.lemmas.Map.Entries.{length-keys_of}
 use Rattle.std.specs.Map.{keys_of}
 use Rattle.std.specs.Option.{option_map_or}
 use Rattle.jffs_tree.specs.Marks.{MarkKey, Counts, mark_key, mark_of, IsKeyAt, BelongsAt}
-use Rattle.jffs_tree.proofs.Places.{InOrder, key_at}
-use Rattle.jffs_tree.proofs.Searched.{count_is, none_before, belongs_between}
+use Rattle.jffs_tree.proofs.versions.Places.{InOrder, key_at}
+use Rattle.jffs_tree.proofs.versions.Searched.{count_is, none_before, belongs_between}
 use Rattle.jffs_tree.proofs.marks.Marks.at_near.Goals as goal
 
 module _ (items now : Counts) (seen : items ≡ now) (ordered : InOrder items) (v j i : ℕ) where

@@ -1,7 +1,7 @@
 use Rattle.std.proofs.Common.{◌≡◌, ℕ, ◌++◌, ◌∷◌, [], Option, Some, subst, sym, ap, ◌∙◌, arith}
 use Rattle.std.specs.Option.{option_to_list}
 use Rattle.jffs_tree.specs.Marks.{MarkKey, Counts, mark_of}
-use Rattle.jffs_tree.proofs.Places.{InOrder, front_in_order, without_last}
+use Rattle.jffs_tree.proofs.versions.Places.{InOrder, front_in_order, without_last}
 use Rattle.jffs_tree.proofs.marks.Marks.drop_last_spent.Goals as goal
 
 pub loop-count-preserved : goal.loop-count-preserved

@@ -1,5 +1,5 @@
 use Rattle.jffs_tree.specs.Marks.{SameMarks}
-use Rattle.jffs_tree.proofs.Places.{InOrder}
+use Rattle.jffs_tree.proofs.versions.Places.{InOrder}
 use Rattle.jffs_tree.proofs.marks.Marks.drop_last_spent.Given as goal
 
 -- what is left is in order, and has the marks that there were

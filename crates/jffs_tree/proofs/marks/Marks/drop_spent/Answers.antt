@@ -1,7 +1,7 @@
 use Rattle.std.proofs.Common.{◌≡◌, ltb, subst, sym, ap, ◌∙◌, rules}
 use Rattle.std.proofs.lemmas.Fn.{filter_same}
 use Rattle.jffs_tree.specs.Marks.{Counts, mark_of}
-use Rattle.jffs_tree.proofs.Places.{InOrder, live, live_in_order, live_marks}
+use Rattle.jffs_tree.proofs.versions.Places.{InOrder, live, live_in_order, live_marks}
 use Rattle.jffs_tree.proofs.marks.Marks.drop_spent.Goals as goal
 
 left : (c : goal.After-retain) → c.retain.new.self.items ≡ live c.self.inside.counts.items

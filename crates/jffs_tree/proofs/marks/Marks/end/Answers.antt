@@ -1,7 +1,7 @@
 use Rattle.std.proofs.Common.{◌≡◌, ◌-◌, ℕ, Some, ap, subst, sym, ◌∙◌, length, slice_get, arith}
 use Rattle.std.proofs.lemmas.Option.{slice_get-get_or}
 use Rattle.jffs_tree.specs.Marks.{MarkKey, Counts, SplitsAt}
-use Rattle.jffs_tree.proofs.Searched.{split_at_end}
+use Rattle.jffs_tree.proofs.versions.Searched.{split_at_end}
 use Rattle.jffs_tree.proofs.marks.Marks.end.Goals as goal
 
 pub returns-else-oldest-first : goal.returns-else-oldest-first

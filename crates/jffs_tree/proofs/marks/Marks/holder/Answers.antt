@@ -1,7 +1,7 @@
 use Rattle.std.proofs.Common.{◌≡◌, ◌<◌, ◌∙◌, ℕ, length, get_or, subst, ap, arith}
 use Rattle.jffs_tree.specs.Marks.{MarkKey, Counts, mark_of}
-use Rattle.jffs_tree.proofs.Places.{InOrder, mark_at}
-use Rattle.jffs_tree.proofs.Walks.{read_at, to_split, none_there, is_least, spent_too, none_to}
+use Rattle.jffs_tree.proofs.versions.Places.{InOrder, mark_at}
+use Rattle.jffs_tree.proofs.versions.Walks.{read_at, to_split, none_there, is_least, spent_too, none_to}
 use Rattle.jffs_tree.proofs.marks.Marks.holder.Goals as goal
 
 pub loop-index-init : goal.loop-index-init

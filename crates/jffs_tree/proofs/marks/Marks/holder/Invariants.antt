@@ -1,4 +1,4 @@
-use Rattle.jffs_tree.proofs.Walks.{AreSpentTo}
+use Rattle.jffs_tree.proofs.versions.Walks.{AreSpentTo}
 use Rattle.jffs_tree.proofs.marks.Marks.holder.Given as goal
 
 -- what was passed is spent, or of newer versions

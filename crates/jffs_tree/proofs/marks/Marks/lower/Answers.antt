@@ -1,7 +1,7 @@
 use Rattle.std.proofs.Common.{◌≡◌, ◌-◌, ◌≤◌, ◌∙◌, ℕ, Some, set, subst, sym, ap, arith}
 use Rattle.jffs_tree.specs.Marks.{MarkKey, Counts, HaveMore, IsKeyAt, BelongsAt, mark_key, mark_of}
-use Rattle.jffs_tree.proofs.Marking.{taken, lowered_to, none_more}
-use Rattle.jffs_tree.proofs.Searched.{count_is, rewritten, rewritten_in_order, none_before}
+use Rattle.jffs_tree.proofs.versions.Marking.{taken, lowered_to, none_more}
+use Rattle.jffs_tree.proofs.versions.Searched.{count_is, rewritten, rewritten_in_order, none_before}
 use Rattle.jffs_tree.proofs.marks.Marks.lower.Goals as goal
 
 pub returns-in-Err : goal.returns-in-Err

@@ -1,7 +1,7 @@
 use Rattle.std.proofs.Common.{subst, sym}
 use Rattle.std.specs.List.Sorted.{IsStrictlySortedBy}
 use Rattle.jffs_tree.specs.Marks.{Counts}
-use Rattle.jffs_tree.proofs.Places.{InOrder}
+use Rattle.jffs_tree.proofs.versions.Places.{InOrder}
 use Rattle.jffs_tree.proofs.marks.Marks.new.Goals as goal
 
 pub invariant_of-result : goal.invariant_of-result

@@ -1,7 +1,7 @@
 use Rattle.std.proofs.Common.{◌≡◌, ◌+◌, ◌-◌, ◌<◌, ℕ, length, get_or, subst, arith}
 use Rattle.jffs_tree.specs.Marks.{MarkKey, Counts}
-use Rattle.jffs_tree.proofs.Places.{InOrder, mark_at}
-use Rattle.jffs_tree.proofs.Walks.{AreSpentFrom, read_at, is_new, none_older, one_spent, none_from}
+use Rattle.jffs_tree.proofs.versions.Places.{InOrder, mark_at}
+use Rattle.jffs_tree.proofs.versions.Walks.{AreSpentFrom, read_at, is_new, none_older, one_spent, none_from}
 use Rattle.jffs_tree.proofs.marks.Marks.next.Goals as goal
 
 pub returns-then-count-gt0-clause-some : goal.returns-then-count-gt0-clause-some

@@ -1,4 +1,4 @@
-use Rattle.jffs_tree.proofs.Walks.{AreSpentFrom}
+use Rattle.jffs_tree.proofs.versions.Walks.{AreSpentFrom}
 use Rattle.jffs_tree.proofs.marks.Marks.next.Given as goal
 
 -- what was passed is spent

@@ -1,10 +1,10 @@
 use Rattle.std.proofs.Common.{◌<◌, ◌+◌, ℕ, Some, length, ap, subst, sym, ◌∙◌, arith}
 use Rattle.std.proofs.lemmas.Option.{slice_get-get_or, slice_get_read}
 use Rattle.jffs_tree.specs.Marks.{MarkKey, Counts, mark_key, IsKeyAt, BelongsAt, IsPlaceWithin}
-use Rattle.jffs_tree.proofs.Marking.{mark_tied}
-use Rattle.jffs_tree.proofs.Places.{one_key, key_at}
-use Rattle.jffs_tree.proofs.Searched.{in_front}
-use Rattle.jffs_tree.proofs.Halving.{anywhere, upper_half, lower_half}
+use Rattle.jffs_tree.proofs.versions.Marking.{mark_tied}
+use Rattle.jffs_tree.proofs.versions.Places.{one_key, key_at}
+use Rattle.jffs_tree.proofs.versions.Searched.{in_front}
+use Rattle.jffs_tree.proofs.versions.Halving.{anywhere, upper_half, lower_half}
 use Rattle.jffs_tree.proofs.marks.Marks.place.Goals as goal
 
 pub returns-then-newest-version-clause-absent : goal.returns-then-newest-version-clause-absent

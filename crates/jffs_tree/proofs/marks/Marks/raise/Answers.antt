@@ -1,9 +1,9 @@
 use Rattle.std.proofs.Common.{◌≡◌, ◌+◌, ◌∙◌, ℕ, Some, set, subst, sym, ap, arith}
 use Rattle.std.specs.List.{insert}
 use Rattle.jffs_tree.specs.Marks.{MarkKey, Counts, SameMarks, HaveMore, IsKeyAt, BelongsAt, mark_key, mark_of}
-use Rattle.jffs_tree.proofs.Marking.{added, raised_from}
-use Rattle.jffs_tree.proofs.Places.{InOrder}
-use Rattle.jffs_tree.proofs.Searched.{count_is, rewritten, rewritten_in_order, entered, entered_in_order, none_before}
+use Rattle.jffs_tree.proofs.versions.Marking.{added, raised_from}
+use Rattle.jffs_tree.proofs.versions.Places.{InOrder}
+use Rattle.jffs_tree.proofs.versions.Searched.{count_is, rewritten, rewritten_in_order, entered, entered_in_order, none_before}
 use Rattle.jffs_tree.proofs.marks.Marks.raise.Goals as goal
 
 pub overflow_add-index_mut : goal.overflow_add-index_mut

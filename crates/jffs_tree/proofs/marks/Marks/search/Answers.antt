@@ -1,7 +1,7 @@
 use Rattle.std.proofs.Common.{◌≡◌, ◌<◌, ◌+◌, ◌-◌, ◌/◌, ◌&&◌, ℕ, true, false, eqb, length, subst, sym, ◌∙◌, arith}
 use Rattle.std.proofs.lemmas.Option.{slice_get_read, slice_get_within, same_Some}
 use Rattle.jffs_tree.specs.Marks.{MarkKey, Counts, BelongsAt}
-use Rattle.jffs_tree.proofs.Halving.{upper_half, lower_half, met_absent}
+use Rattle.jffs_tree.proofs.versions.Halving.{upper_half, lower_half, met_absent}
 use Rattle.jffs_tree.proofs.marks.Marks.search.Goals as goal
 
 pub halves-preserved-then-is_before : goal.halves-preserved-then-is_before

@@ -1,4 +1,4 @@
-use Rattle.jffs_tree.proofs.Searched.{split_at_key, split_at_gap}
+use Rattle.jffs_tree.proofs.versions.Searched.{split_at_key, split_at_gap}
 use Rattle.jffs_tree.proofs.marks.Marks.start.Goals as goal
 
 pub returns-in-Ok : goal.returns-in-Ok

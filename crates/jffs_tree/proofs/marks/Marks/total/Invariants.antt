@@ -1,6 +1,6 @@
 use Rattle.std.proofs.Common.{◌≡◌, ◌+◌, ◌≤◌, drop, min}
 use Rattle.jffs_tree.specs.Marks.{marks_of}
-use Rattle.jffs_tree.proofs.Totals.{AreFrom}
+use Rattle.jffs_tree.proofs.versions.Totals.{AreFrom}
 use Rattle.jffs_tree.proofs.marks.Marks.total.Given as goal
 
 -- the marks so far, and those of the entries that are left

@@ -1,7 +1,7 @@
 use Rattle.std.proofs.Common.{List, ℕ, T, ap, subst, sym, ◌∙◌}
 use Rattle.jffs_tree.specs.Origin.{Held}
 use Rattle.jffs_tree.specs.Look.{any_live_in}
-use Rattle.jffs_tree.proofs.Finding.{any_told}
+use Rattle.jffs_tree.proofs.versions.Finding.{any_told}
 use Rattle.jffs_tree.proofs.tree.Tree.any_live.Goals as goal
 
 pub returns-clause-held : goal.returns-clause-held

@@ -1,7 +1,7 @@
 use Rattle.std.proofs.Common.{ℕ, List, T, ap, subst, sym, ◌∙◌}
 use Rattle.jffs_tree.specs.Origin.{Held, state_in}
 use Rattle.jffs_tree.specs.State.{child}
-use Rattle.jffs_tree.proofs.Standing.{child_found}
+use Rattle.jffs_tree.proofs.listing.Standing.{child_found}
 use Rattle.jffs_tree.proofs.tree.Tree.child.Goals as goal
 
 pub returns : goal.returns

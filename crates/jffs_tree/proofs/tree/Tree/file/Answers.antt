@@ -3,8 +3,8 @@ use Rattle.std.specs.Option.{option_map_or}
 use Rattle.jffs_node.specs.Record.{is_directory}
 use Rattle.jffs_tree.specs.After.{held_in}
 use Rattle.jffs_tree.specs.Look.{kind_in}
-use Rattle.jffs_tree.proofs.Looked.{directory_in}
-use Rattle.jffs_tree.proofs.There.{entry_found}
+use Rattle.jffs_tree.proofs.trees.Looked.{directory_in}
+use Rattle.jffs_tree.proofs.decisions.There.{entry_found}
 use Rattle.jffs_tree.proofs.tree.Tree.file.Goals as goal
 
 pub returns-then-eq-clause-other : goal.returns-then-eq-clause-other

@@ -2,7 +2,7 @@ use Rattle.std.proofs.Common.{◌≡◌, true, false, rules, ◌∙◌}
 use Rattle.std.specs.Option.{option_map_or}
 use Rattle.jffs_node.specs.Record.{is_directory}
 use Rattle.jffs_tree.specs.Look.{kind_in}
-use Rattle.jffs_tree.proofs.Looked.{directory_in}
+use Rattle.jffs_tree.proofs.trees.Looked.{directory_in}
 use Rattle.jffs_tree.proofs.tree.Tree.is_directory.Goals as goal
 
 pub returns-in-Some-Directory : goal.returns-in-Some-Directory

@@ -3,7 +3,7 @@ use Rattle.std.proofs.lemmas.Bool.{ne_eqb}
 use Rattle.jffs_tree.specs.State.{child}
 use Rattle.jffs_tree.specs.Origin.{state_in}
 use Rattle.jffs_tree.specs.Decide.{last_name}
-use Rattle.jffs_tree.proofs.Resolving.{led_to_last}
+use Rattle.jffs_tree.proofs.decisions.Resolving.{led_to_last}
 use Rattle.jffs_tree.proofs.tree.Tree.is_taken.Goals as goal
 
 pub returns : goal.returns

@@ -5,7 +5,7 @@ use Rattle.jffs_tree.specs.State.{is_directory_in}
 use Rattle.jffs_tree.specs.Origin.{state_in}
 use Rattle.jffs_tree.specs.Index.{names_under}
 use Rattle.jffs_tree.specs.Look.{names_in, name_cmp}
-use Rattle.jffs_tree.proofs.Directories.{sorted_names, lists_directory, from_both}
+use Rattle.jffs_tree.proofs.listing.Directories.{sorted_names, lists_directory, from_both}
 use Rattle.jffs_tree.proofs.tree.Tree.list_names.Goals as goal
 
 pub returns-then-is_directory-clause-all : goal.returns-then-is_directory-clause-all

@@ -1,8 +1,8 @@
 use Rattle.std.proofs.Common.{ltb, List, ℕ, ap, ◌∙◌}
 use Rattle.jffs_tree.specs.Origin.{Held}
 use Rattle.jffs_tree.specs.Look.{holds_version}
-use Rattle.jffs_tree.proofs.Finding.{marks_hold}
-use Rattle.jffs_tree.proofs.WholeTree.{live_whole}
+use Rattle.jffs_tree.proofs.versions.Finding.{marks_hold}
+use Rattle.jffs_tree.proofs.versions.WholeTree.{live_whole}
 use Rattle.jffs_tree.proofs.tree.Tree.live.Goals as goal
 
 pub returns-clause-held : goal.returns-clause-held

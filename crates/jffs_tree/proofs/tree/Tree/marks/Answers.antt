@@ -1,7 +1,7 @@
 use Rattle.std.proofs.Common.{List, ℕ, T, min, ap, subst, sym, ◌∙◌}
 use Rattle.jffs_tree.specs.Origin.{Held}
 use Rattle.jffs_tree.specs.Look.{marks_in}
-use Rattle.jffs_tree.proofs.Totals.{marks_counted}
+use Rattle.jffs_tree.proofs.versions.Totals.{marks_counted}
 use Rattle.jffs_tree.proofs.tree.Tree.marks.Goals as goal
 
 pub returns-clause-held : goal.returns-clause-held

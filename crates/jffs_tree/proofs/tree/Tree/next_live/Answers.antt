@@ -1,5 +1,5 @@
 use Rattle.std.proofs.lemmas.Option.{IfSome_then}
-use Rattle.jffs_tree.proofs.Ranged.{is_live, is_dead, IfNone_then}
+use Rattle.jffs_tree.proofs.versions.Ranged.{is_live, is_dead, IfNone_then}
 use Rattle.jffs_tree.proofs.tree.Tree.next_live.Goals as goal
 
 pub returns-clause-live : goal.returns-clause-live

@@ -1,6 +1,6 @@
 use Rattle.jffs_tree.specs.Check.{is_near}
 use Rattle.jffs_tree.specs.Origin.{state_in}
-use Rattle.jffs_tree.proofs.InOrder.{same_tests}
+use Rattle.jffs_tree.proofs.trees.InOrder.{same_tests}
 use Rattle.jffs_tree.proofs.tree.Tree.parents_are_near.Goals as goal
 
 pub loop-inode-init : goal.loop-inode-init

@@ -1,6 +1,6 @@
 use Rattle.jffs_tree.specs.State.{is_directory_in}
 use Rattle.jffs_tree.specs.Origin.{state_in}
-use Rattle.jffs_tree.proofs.InOrder.{same_tests}
+use Rattle.jffs_tree.proofs.trees.InOrder.{same_tests}
 use Rattle.jffs_tree.proofs.tree.Tree.parents_are_there.Goals as goal
 
 pub loop-found-init : goal.loop-found-init

@@ -1,7 +1,7 @@
 use Rattle.std.proofs.Common.{ℕ, List, T, subst, sym, nat_cmp, ◌∙◌}
 use Rattle.std.specs.FinMap.Entries as entries
 use Rattle.jffs_tree.specs.Origin.{Held}
-use Rattle.jffs_tree.proofs.Near.{near_exactly}
+use Rattle.jffs_tree.proofs.listing.Near.{near_exactly}
 use Rattle.jffs_tree.proofs.tree.Tree.paths_are_short.Goals as goal
 
 pub returns : goal.returns

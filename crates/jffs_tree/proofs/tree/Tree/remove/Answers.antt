@@ -3,11 +3,11 @@ use Rattle.std.specs.FinMap.Entries as entries
 use Rattle.jffs_tree.specs.Origin.{Held}
 use Rattle.jffs_tree.specs.After.{without_inode, AreOrdered}
 use Rattle.jffs_tree.specs.Look.{parent_name_in}
-use Rattle.jffs_tree.proofs.Maps.{t_true}
+use Rattle.jffs_tree.proofs.trees.Maps.{t_true}
 use Rattle.jffs_tree.specs.Marks.{AreMarksOf, HasByteMarks, LosesByteMarks}
 use Rattle.jffs_tree.specs.Shown.{held_of}
-use Rattle.jffs_tree.proofs.Marked.{of_removed, has_byte_marks, one_left}
-use Rattle.jffs_tree.proofs.Reindexed.{removed_index}
+use Rattle.jffs_tree.proofs.versions.Marked.{of_removed, has_byte_marks, one_left}
+use Rattle.jffs_tree.proofs.listing.Reindexed.{removed_index}
 use Rattle.jffs_tree.proofs.tree.Tree.remove.Goals as goal
 
 pub invariant_of-self : goal.invariant_of-self

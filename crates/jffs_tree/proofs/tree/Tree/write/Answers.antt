@@ -6,8 +6,8 @@ use Rattle.jffs_tree.specs.After.{held_in}
 use Rattle.jffs_tree.specs.Marks.{HasNewest}
 use Rattle.jffs_tree.specs.Shown.{held_of, IsLaidOut}
 use Rattle.jffs_tree.specs.Fragments.{laid, writer_of}
-use Rattle.jffs_tree.proofs.Fragments.{length-laid}
-use Rattle.jffs_tree.proofs.Marked.{few_marks}
+use Rattle.jffs_tree.proofs.files.Fragments.{length-laid}
+use Rattle.jffs_tree.proofs.versions.Marked.{few_marks}
 use Rattle.jffs_tree.proofs.tree.Tree.write.Goals as goal
 
 found_newest : (tree : Tree) (i : ℕ) (found : Inside) → IsLaidOut found → held_in tree i ≡ Some (held_of found) → HasNewest tree i (Some found.newest)

@@ -5,9 +5,9 @@ use Rattle.jffs_tree.specs.Origin.{Held}
 use Rattle.jffs_tree.specs.Look.{parent_name_in}
 use Rattle.jffs_tree.specs.Index.{ChildKey, has_child, is_named, IsIndexOf}
 use Rattle.jffs_tree.specs.Marks.{AreMarksOf}
-use Rattle.jffs_tree.proofs.Written.{put_there}
-use Rattle.jffs_tree.proofs.Marked.{same_marks_of}
-use Rattle.jffs_tree.proofs.Reindexed.{tied, by_key, restored, parted, stayed}
+use Rattle.jffs_tree.proofs.trees.Written.{put_there}
+use Rattle.jffs_tree.proofs.versions.Marked.{same_marks_of}
+use Rattle.jffs_tree.proofs.listing.Reindexed.{tied, by_key, restored, parted, stayed}
 use Rattle.jffs_tree.proofs.tree.Tree.write_elsewhere.Goals as goal
 
 pub invariant_of-self-then-is_new : goal.invariant_of-self-then-is_new

@@ -1,4 +1,4 @@
-use Rattle.jffs_tree.proofs.Written.{put_there}
+use Rattle.jffs_tree.proofs.trees.Written.{put_there}
 use Rattle.jffs_tree.proofs.tree.Tree.write_here.Goals as goal
 
 pub returns-clause-ok : goal.returns-clause-ok

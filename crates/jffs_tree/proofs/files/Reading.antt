@@ -1,0 +1,344 @@
+-- What fragments say of a file's bytes: those of the fragment that holds an offset, or zeros.
+use Rattle.std.proofs.Common.{◌≡◌, ℕ, zero, suc, ◌+◌, ◌-◌, ◌<◌, ◌≤◌, Bool, true, false, cond, not, ◌&&◌, leb, ltb, List, [], ◌∷◌, ◌++◌, length, get_or, map, take, drop, replicate, is_some, ◌⊎◌, inl, inr, ⊎_elim, Some, None, refl, sym, ap, subst, ◌∙◌, arith, append_assoc, length-append, length-take, length-drop, nat_cmp}
+use Rattle.std.specs.List.{AllByRecursion, list_all}
+use Rattle.std.specs.Map.{lookup}
+use Rattle.std.specs.BTreeMap.{is_at}
+use Rattle.std.proofs.Math.Seq.{take-append_seam, drop-append_seam, take-add}
+use Rattle.std.proofs.lemmas.Bool.{cases_Bool, cases_lt}
+use Rattle.std.proofs.lemmas.List.{length-map, length-replicate, length-take-le, map-append, drop-append-le, drop-drop, take-append-drop, replicate-append-replicate, get_or-append_right, get_or_append_left, get_or-replicate, get_or_past}
+use Rattle.std.proofs.lemmas.Slice.{drop-append-drop}
+use borrow.Rule.Slice.PartMut.{put_mid}
+use Rattle.jffs_node.proofs.Each.{each_append, each_front}
+use Rattle.jffs_tree.specs.declared.fragment.Fragment.{Fragment}
+use Rattle.jffs_tree.specs.Fragments.{Fragments, Cell, byte_of, writer_of, cells_of, end_of, laid, AreLaid, NoneHolds, Says, outside}
+use Rattle.jffs_tree.proofs.files.Fragments.{laid_bound, laid_append, length-laid}
+use Rattle.jffs_tree.proofs.files.Splitting.{AllFrom, LastBefore, found, laid_parts}
+use Rattle.jffs_tree.proofs.files.Taking.{drop_within}
+
+-- ---- where no fragment is
+pub none_holds_from : (p : ℕ) (es : Fragments) → AllFrom (p + 1) es → NoneHolds p es
+none_holds_from p [] h = tt
+none_holds_from p (e ∷ es) h = let low = h.0 in (inr (omega arith), none_holds_from p es h.1)
+
+none_holds_past : (at size p : ℕ) (es : Fragments) → AreLaid at size es → size ≤ p → NoneHolds p es
+none_holds_past at size p [] h l = tt
+none_holds_past at size p (e ∷ es) h l = let b = laid_bound (end_of e) size es h.2 in (inl (omega arith), none_holds_past (end_of e) size p es h.2 l)
+
+-- The last fragment that begins at p or before it ends there or before it: none holds p.
+pub held_by_last : (size p k : ℕ) (f : Fragment) (es : Fragments) → AreLaid 0 size es → LastBefore (p + 1) k f es → k + length f.bytes ≤ p → NoneHolds p es
+held_by_last size p k f es h l short =
+    let parts = laid_parts 0 size l.front l.back k f (subst (AreLaid 0 size) l.whole h) in
+    subst (NoneHolds p) (sym l.whole)
+    (each_append (λ e. (end_of e ≤ p) ⊎ (p < e.0)) l.front ((k, f) ∷ l.back) (none_holds_past 0 k p l.front parts.0 (omega arith)) (inl short, none_holds_from p l.back l.later))
+
+-- A fragment that begins at p or later, where none holds p, begins later.
+pub begins_later : (size p k : ℕ) (f : Fragment) (es : Fragments) → AreLaid 0 size es → NoneHolds p es → lookup (is_at (nat_cmp k)) es ≡ Some f → p ≤ k → p < k
+begins_later size p k f es h none is low =
+    let at = found k f es is in
+    let parts = laid_parts 0 size at.front at.back k f (subst (AreLaid 0 size) at.whole h) in
+    let split = each_front (λ e. (end_of e ≤ p) ⊎ (p < e.0)) at.front ((k, f) ∷ at.back) (subst (NoneHolds p) at.whole none) in
+    let some = parts.1 in
+    ⊎_elim (λ ends. omega arith) (λ later. later) split.1.0
+
+-- no fragment holds an offset from p on and before r
+abbrev pub IsClear : ℕ → ℕ → Fragments → Type 0
+IsClear p r es = AllByRecursion (λ e. (end_of e ≤ p) ⊎ (r ≤ e.0)) es
+
+length_outside : (p q : ℕ) (es : Fragments) → length (outside p q es) ≤ length es
+length_outside p q [] = omega arith
+length_outside p q (e ∷ es) = by_test (not (leb p e.0 && ltb e.0 q)) (length_outside p q es)
+  where
+    by_test : (b : Bool) → length (outside p q es) ≤ length es → length (cond b (e ∷ outside p q es) (outside p q es)) ≤ length (e ∷ es)
+    by_test true r = omega arith
+    by_test false r = omega arith
+
+stays_outside : (p q : ℕ) (e : ℕ × Fragment) (es : Fragments) → outside p q (e ∷ es) ≡ e ∷ es → not (leb p e.0 && ltb e.0 q) ≡ true
+stays_outside p q e es h = ⊎_elim
+    (λ stays. stays)
+    (λ goes.
+    let n : length (outside p q es) ≡ length (e ∷ es) = ap length (sym (ap (λ b. cond b (e ∷ outside p q es) (outside p q es)) goes) ∙ h) in
+    let m = length_outside p q es in
+    absurd (omega arith))
+    (cases_Bool (not (leb p e.0 && ltb e.0 q)))
+
+rest_outside : (p q : ℕ) (e : ℕ × Fragment) (es : Fragments) → outside p q (e ∷ es) ≡ e ∷ es → outside p q es ≡ es
+rest_outside p q e es h =
+    let r : e ∷ outside p q es ≡ e ∷ es = sym (ap (λ b. cond b (e ∷ outside p q es) (outside p q es)) (stays_outside p q e es h)) ∙ h in
+    cc
+
+pub clear : (p q : ℕ) (es : Fragments) → NoneHolds p es → outside p q es ≡ es → IsClear p q es
+clear p q [] none h = tt
+clear p q (e ∷ es) none h = (
+  ⊎_elim
+      (λ ends. inl ends)
+      (λ later. ⊎_elim
+      (λ before.
+      let t : true ≡ false = sym (stays_outside p q e es h) ∙ drop_within p q e.0 (omega arith) before in
+      absurd (different t))
+      (λ past. inr past)
+      (cases_lt e.0 q))
+      none.0,
+  clear p q es none.1 (rest_outside p q e es h),
+)
+  where
+    different : true ≡ false → ⊥
+    different t = cc
+
+pub clear_here : (p : ℕ) (es : Fragments) → NoneHolds p es → IsClear p (p + 1) es
+clear_here p [] none = tt
+clear_here p (e ∷ es) none = (⊎_elim (λ ends. inl ends) (λ later. inr (omega arith)) none.0, clear_here p es none.1)
+
+-- ---- the cells around a fragment and around a hole
+pub record Beside (at : ℕ) (part : List Cell) (whole : List Cell) : Type 0 where
+  pub front : List Cell
+  pub back : List Cell
+  pub parts : whole ≡ front ++ (part ++ back)
+  pub before : length front ≡ at
+
+pub beside_fragment : (size k : ℕ) (f : Fragment) (es : Fragments) → AreLaid 0 size es → lookup (is_at (nat_cmp k)) es ≡ Some f → Beside k (cells_of f) (laid 0 size es)
+beside_fragment size k f es h is =
+    let at = found k f es is in
+    let parts = laid_parts 0 size at.front at.back k f (subst (AreLaid 0 size) at.whole h) in
+    let here : k ≤ k = omega arith in
+    let gap : k - k ≡ 0 = omega arith in
+    let n = length-laid 0 k at.front parts.0 in
+    record {
+      front = laid 0 k at.front;
+      back = laid (k + length f.bytes) size at.back;
+      parts = ap (laid 0 size) at.whole
+          ∙ laid_append 0 k size at.front ((k, f) ∷ at.back) parts.0 (here, parts.1, parts.2)
+          ∙ ap (λ x. laid 0 k at.front ++ (replicate {A = Cell} x None ++ (cells_of f ++ laid (k + length f.bytes) size at.back))) gap;
+      before = omega arith;
+    }
+
+three_blanks : (a b c n : ℕ) → a + (b + c) ≡ n → replicate {A = Cell} n None ≡ replicate {A = Cell} a None ++ (replicate {A = Cell} b None ++ replicate {A = Cell} c None)
+three_blanks a b c n e =
+    ap (λ k. replicate {A = Cell} k None) (sym e)
+    ∙ sym (replicate-append-replicate {A = Cell} a (b + c) None)
+    ∙ ap (λ x. replicate {A = Cell} a None ++ x) (sym (replicate-append-replicate {A = Cell} b c None))
+
+pub beside_hole : (at size p r : ℕ) (es : Fragments) → AreLaid at size es → IsClear p r es → at ≤ p → p ≤ r → r ≤ size → Beside (p - at) (replicate {A = Cell} (r - p) None) (laid at size es)
+beside_hole at size p r [] h clear low some high =
+    let n = length-replicate {A = Cell} (p - at) None in
+    record {
+      front = replicate {A = Cell} (p - at) None;
+      back = replicate {A = Cell} (size - r) None;
+      parts = three_blanks (p - at) (r - p) (size - r) (size - at) (omega arith);
+      before = n;
+    }
+beside_hole at size p r (e ∷ es) h clear low some high = ⊎_elim
+    (λ ends.
+    let rest = beside_hole (end_of e) size p r es h.2 clear.1 ends some high in
+    let blank = replicate {A = Cell} (e.0 - at) None in
+    let n = length-append blank (cells_of e.1 ++ rest.front) in
+    let m = length-append (cells_of e.1) rest.front in
+    let o = length-replicate {A = Cell} (e.0 - at) None in
+    let q : length (cells_of e.1) ≡ length e.1.bytes = length-map e.1.bytes (λ (x : ℕ). Some (x, e.1.writer)) in
+    let first = h.0 in
+    let there = rest.before in
+    record {
+      front = blank ++ (cells_of e.1 ++ rest.front);
+      back = rest.back;
+      parts = ap (λ x. blank ++ (cells_of e.1 ++ x)) rest.parts
+          ∙ ap (λ x. blank ++ x) (sym (append_assoc (cells_of e.1) rest.front (replicate {A = Cell} (r - p) None ++ rest.back)))
+          ∙ sym (append_assoc blank (cells_of e.1 ++ rest.front) (replicate {A = Cell} (r - p) None ++ rest.back));
+      before = omega arith;
+    })
+    (λ begins.
+    let rest = cells_of e.1 ++ laid (end_of e) size es in
+    let n = length-replicate {A = Cell} (p - at) None in
+    let a = replicate {A = Cell} (p - at) None in
+    let b = replicate {A = Cell} (r - p) None in
+    let c = replicate {A = Cell} (e.0 - r) None in
+    record {
+      front = a;
+      back = c ++ rest;
+      parts = ap (λ x. x ++ rest) (three_blanks (p - at) (r - p) (e.0 - r) (e.0 - at) (omega arith))
+          ∙ append_assoc a (b ++ c) rest
+          ∙ ap (λ x. a ++ x) (append_assoc b c rest);
+      before = n;
+    })
+    clear.0
+
+-- ---- bytes
+part_stands : (whole front part back : List ℕ) (at : ℕ) → whole ≡ front ++ (part ++ back) → length front ≡ at → take (length part) (drop at whole) ≡ part
+part_stands whole front part back at is n =
+    ap (λ x. take (length part) (drop at x)) is
+    ∙ ap (λ k. take (length part) (drop k (front ++ (part ++ back)))) (sym n)
+    ∙ ap (λ x. take (length part) x) (drop-append_seam front (part ++ back))
+    ∙ take-append_seam part back
+
+bytes_of_cells : (v : ℕ) (bs : List ℕ) → map byte_of (map (λ b. Some (b, v)) bs) ≡ bs
+bytes_of_cells v [] = refl
+bytes_of_cells v (b ∷ bs) = ap (λ x. b ∷ x) (bytes_of_cells v bs)
+
+bytes_of_blanks : (n : ℕ) → map byte_of (replicate {A = Cell} n None) ≡ replicate n 0
+bytes_of_blanks zero = refl
+bytes_of_blanks (suc n) = ap (λ x. 0 ∷ x) (bytes_of_blanks n)
+
+bytes_parts : (front part back whole : List Cell) → whole ≡ front ++ (part ++ back) → map byte_of whole ≡ map byte_of front ++ (map byte_of part ++ map byte_of back)
+bytes_parts front part back whole is =
+    ap (λ x. map byte_of x) is ∙ map-append byte_of front (part ++ back) ∙ ap (λ x. map byte_of front ++ x) (map-append byte_of part back)
+
+-- the first bytes of a fragment from an offset within it on
+pub says_fragment : (k at : ℕ) (f : Fragment) (es : Fragments) → lookup (is_at (nat_cmp k)) es ≡ Some f → k ≤ at → at < k + length f.bytes → (n : ℕ) → Says es at (take n (drop (at - k) f.bytes))
+says_fragment k at f es is low high n = λ size h fits.
+    let b = beside_fragment size k f es h is in
+    let early = take (at - k) f.bytes in
+    let late = drop (at - k) f.bytes in
+    let front = map byte_of b.front in
+    let back = map byte_of b.back in
+    let a = length-append front early in
+    let m = length-map b.front byte_of in
+    let o = length-take (at - k) f.bytes in
+    let there = b.before in
+    let cut : f.bytes ≡ early ++ (take n late ++ drop n late) =
+    sym (take-append-drop (at - k) f.bytes) ∙ ap (λ (x : List ℕ). early ++ x) (sym (take-append-drop n late)) in
+    let whole : map byte_of (laid 0 size es) ≡ (front ++ early) ++ (take n late ++ (drop n late ++ back)) =
+    bytes_parts b.front (cells_of f) b.back (laid 0 size es) b.parts
+    ∙ ap (λ (x : List ℕ). front ++ (x ++ back)) (bytes_of_cells f.writer f.bytes ∙ cut)
+    ∙ ap (λ (x : List ℕ). front ++ x) (append_assoc early (take n late ++ drop n late) back ∙ ap (λ (x : List ℕ). early ++ x) (append_assoc (take n late) (drop n late) back))
+    ∙ sym (append_assoc front early (take n late ++ (drop n late ++ back))) in
+    part_stands (map byte_of (laid 0 size es)) (front ++ early) (take n late) (drop n late ++ back) at whole (omega arith)
+
+-- All bytes of a fragment stand in the file from its first offset on.
+pub whole_fragment : (size k : ℕ) (f : Fragment) (es : Fragments) → AreLaid 0 size es → lookup (is_at (nat_cmp k)) es ≡ Some f
+    → (k + length f.bytes ≤ size) × (take (length f.bytes) (drop k (map byte_of (laid 0 size es))) ≡ f.bytes)
+whole_fragment size k f es h is =
+    let b = beside_fragment size k f es h is in
+    let front = map byte_of b.front in
+    let back = map byte_of b.back in
+    let there = b.before in
+    let whole : map byte_of (laid 0 size es) ≡ front ++ (f.bytes ++ back) =
+    bytes_parts b.front (cells_of f) b.back (laid 0 size es) b.parts
+    ∙ ap (λ (x : List ℕ). front ++ (x ++ back)) (bytes_of_cells f.writer f.bytes) in
+    let all = length-laid 0 size es h in
+    let l = length-map (laid 0 size es) byte_of in
+    let m = length-map b.front byte_of in
+    let n : length (map byte_of (laid 0 size es)) ≡ length (front ++ (f.bytes ++ back)) = ap (λ (x : List ℕ). length x) whole in
+    let o = length-append front (f.bytes ++ back) in
+    let p = length-append f.bytes back in
+    (omega arith, part_stands (map byte_of (laid 0 size es)) front f.bytes back k whole (omega arith))
+
+-- zeros in a hole
+pub says_hole : (at n : ℕ) (es : Fragments) → IsClear at (at + n) es → Says es at (replicate n 0)
+says_hole at n es clear = λ size h fits.
+    let len : length (replicate {A = ℕ} n 0) ≡ n = length-replicate {A = ℕ} n 0 in
+    let b = beside_hole 0 size at (at + n) es h clear (omega arith) (omega arith) (omega arith) in
+    let there = b.before in
+    let m = length-map b.front byte_of in
+    let gap : at + n - at ≡ n = omega arith in
+    let whole : map byte_of (laid 0 size es) ≡ map byte_of b.front ++ (replicate n 0 ++ map byte_of b.back) =
+    bytes_parts b.front (replicate {A = Cell} (at + n - at) None) b.back (laid 0 size es) b.parts
+    ∙ ap (λ (x : List ℕ). map byte_of b.front ++ (x ++ map byte_of b.back)) (bytes_of_blanks (at + n - at) ∙ ap (λ k. replicate k 0) gap) in
+    part_stands (map byte_of (laid 0 size es)) (map byte_of b.front) (replicate n 0) (map byte_of b.back) at whole (omega arith)
+
+-- ---- writers
+writers_of_cells : (v : ℕ) (bs : List ℕ) → map writer_of (map (λ b. Some (b, v)) bs) ≡ replicate (length bs) (Some v)
+writers_of_cells v [] = refl
+writers_of_cells v (b ∷ bs) = ap (λ x. Some v ∷ x) (writers_of_cells v bs)
+
+-- the writer of one of the cells beside others
+one_writer : (front part back whole : List Cell) (k at : ℕ) → whole ≡ front ++ (part ++ back) → length front ≡ k → k ≤ at → at < k + length part → get_or (map writer_of whole) at None ≡ get_or (map writer_of part) (at - k) None
+one_writer front part back whole k at is n low high =
+    let m = length-map front writer_of in
+    let o = length-map part writer_of in
+    ap (λ x. get_or (map writer_of x) at None) is
+    ∙ ap (λ x. get_or x at None) (map-append writer_of front (part ++ back) ∙ ap (λ x. map writer_of front ++ x) (map-append writer_of part back))
+    ∙ get_or-append_right (map writer_of front) (map writer_of part ++ map writer_of back) k at None (m ∙ n) low
+    ∙ get_or_append_left (map writer_of part) (map writer_of back) None (at - k) (omega arith)
+
+pub writer_in_fragment : (size k at : ℕ) (f : Fragment) (es : Fragments) → AreLaid 0 size es → lookup (is_at (nat_cmp k)) es ≡ Some f → k ≤ at → at < k + length f.bytes → get_or (map writer_of (laid 0 size es)) at None ≡ Some f.writer
+writer_in_fragment size k at f es h is low high =
+    let b = beside_fragment size k f es h is in
+    let n : length (cells_of f) ≡ length f.bytes = length-map f.bytes (λ (x : ℕ). Some (x, f.writer)) in
+    one_writer b.front (cells_of f) b.back (laid 0 size es) k at b.parts b.before low (omega arith)
+    ∙ ap (λ x. get_or x (at - k) None) (writers_of_cells f.writer f.bytes)
+    ∙ get_or-replicate (length f.bytes) (at - k) (Some f.writer) None (omega arith)
+
+pub writer_in_hole : (size at : ℕ) (es : Fragments) → AreLaid 0 size es → NoneHolds at es → at < size → get_or (map writer_of (laid 0 size es)) at None ≡ None
+writer_in_hole size at es h none inside =
+    let b = beside_hole 0 size at (at + 1) es h (clear_here at es none) (omega arith) (omega arith) (omega arith) in
+    let part = replicate {A = Cell} (at + 1 - at) None in
+    let n = length-replicate {A = Cell} (at + 1 - at) None in
+    let one : at + 1 - at ≡ 1 = omega arith in
+    let start : at - at ≡ 0 = omega arith in
+    let there = b.before in
+    one_writer b.front part b.back (laid 0 size es) at at b.parts (omega arith) (omega arith) (omega arith)
+    ∙ ap (λ k. get_or (map writer_of (replicate {A = Cell} k None)) (at - at) None) one
+    ∙ ap (λ k. get_or (map writer_of (replicate {A = Cell} 1 None)) k None) start
+
+pub writer_past : (size at : ℕ) (es : Fragments) → AreLaid 0 size es → size ≤ at → get_or (map writer_of (laid 0 size es)) at None ≡ None
+writer_past size at es h past =
+    let n = length-laid 0 size es h in
+    let m = length-map (laid 0 size es) writer_of in
+    get_or_past (map writer_of (laid 0 size es)) at None (omega arith)
+
+-- ---- whether all bytes are written
+abbrev pub all_written : List Cell → Bool
+all_written cs = list_all is_some (map writer_of cs)
+
+written_cells : (v : ℕ) (bs : List ℕ) (rest : List Cell) → all_written (map (λ b. Some (b, v)) bs ++ rest) ≡ all_written rest
+written_cells v [] rest = refl
+written_cells v (b ∷ bs) rest = written_cells v bs rest
+
+-- What lies before the first fragment is not written.
+pub gap_unwritten : (end size k : ℕ) (f : Fragment) (es : Fragments) → end < k → all_written (laid end size ((k, f) ∷ es)) ≡ false
+gap_unwritten end size k f es gap =
+    let some : k - end ≡ suc (k - end - 1) = omega (arith, gap) in
+    ap (λ x. all_written (replicate {A = Cell} x None ++ (cells_of f ++ laid (k + length f.bytes) size es))) some
+
+pub written_step : (end size k : ℕ) (f : Fragment) (es : Fragments) → k ≡ end → all_written (laid end size ((k, f) ∷ es)) ≡ all_written (laid (end + length f.bytes) size es)
+written_step end size k f es same =
+    let gap : k - end ≡ 0 = omega arith in
+    ap (λ x. all_written (replicate {A = Cell} x None ++ (cells_of f ++ laid (k + length f.bytes) size es))) gap
+    ∙ written_cells f.writer f.bytes (laid (k + length f.bytes) size es)
+    ∙ ap (λ x. all_written (laid (x + length f.bytes) size es)) same
+
+-- ---- one more piece read
+pub said_next : (es : Fragments) (size start done n : ℕ) (piece : List ℕ) → Says es (start + done) (take n piece) → AreLaid 0 size es → n ≤ length piece → start + done + n ≤ size → take n (drop done (drop start (map byte_of (laid 0 size es)))) ≡ take n piece
+said_next es size start done n piece says h some fits =
+    let bytes = map byte_of (laid 0 size es) in
+    let len = length-take-le n piece some in
+    ap (λ x. take n x) (drop-drop done start bytes)
+    ∙ ap (λ k. take k (drop (start + done) bytes)) (sym len)
+    ∙ says size h (omega arith)
+
+module _ (all old out piece : List ℕ) (done count n : ℕ)
+    (read : out ≡ take done all ++ drop done old)
+    (fits : count ≤ length old) (there : count ≤ length all) (low : done ≤ count)
+    (same_length : length piece ≡ count - done) (some : n ≤ count - done)
+    (copied : take n (drop done all) ≡ take n piece)
+    (kept : drop n piece ≡ drop n (take (count - done) (drop done out))) where
+  so_far : length (take done all) ≡ done
+  so_far = length-take-le done all (omega arith)
+
+  rest_of_old : drop done out ≡ drop done old
+  rest_of_old = ap (λ x. drop done x) read ∙ drop-append-drop done old (take done all) done (omega arith) so_far
+
+  first_of_all : take done out ≡ take done all
+  first_of_all = ap (λ x. take done x) read ∙ ap (λ k. take k (take done all ++ drop done old)) (sym so_far) ∙ take-append_seam (take done all) (drop done old)
+
+  rest_of_piece : drop n piece ++ drop (count - done) (drop done out) ≡ drop (done + n) old
+  rest_of_piece =
+      let m = count - done in
+      let left = drop done old in
+      let len = length-drop done old in
+      let whole = length-take-le m left (omega arith) in
+      ap (λ x. x ++ drop m (drop done out)) kept
+      ∙ ap (λ x. drop n (take m x) ++ drop m x) rest_of_old
+      ∙ sym (drop-append-le n (take m left) (drop m left) (omega arith))
+      ∙ ap (λ x. drop n x) (take-append-drop m left)
+      ∙ drop-drop n done old
+
+  pub read_more : put_mid done (count - done) out piece ≡ take (done + n) all ++ drop (done + n) old
+  read_more =
+      let m = count - done in
+      let after = drop m (drop done out) in
+      ap (λ x. x ++ (piece ++ after)) first_of_all
+      ∙ ap (λ x. take done all ++ (x ++ after)) (sym (take-append-drop n piece))
+      ∙ ap (λ x. take done all ++ x) (append_assoc (take n piece) (drop n piece) after)
+      ∙ ap (λ x. take done all ++ (take n piece ++ x)) rest_of_piece
+      ∙ ap (λ x. take done all ++ (x ++ drop (done + n) old)) (sym copied)
+      ∙ sym (append_assoc (take done all) (take n (drop done all)) (drop (done + n) old))
+      ∙ ap (λ x. x ++ drop (done + n) old) (sym (take-add done n all))

@@ -1,0 +1,10 @@
+-- The index of children, and what is listed of a directory.
+pub mod Apart
+pub mod Directories
+pub mod Indexed
+pub mod KeyOrder
+pub mod Listed
+pub mod Members
+pub mod Near
+pub mod Reindexed
+pub mod Standing

@@ -1,0 +1,22 @@
+-- One node more, in a tree.
+use Rattle.std.proofs.Common.{◌≡◌, T, IsTrue, Result, Ok, Err, sym, ap, subst, ◌∙◌, nat_cmp}
+use Rattle.std.specs.Cmp.{nat_cmp_total}
+use Rattle.std.specs.FinMap.{nat_cmp-IsAntisymmetric}
+use Rattle.std.specs.FinMap.Entries as entries
+use Rattle.std.specs.Result.{OnErr}
+use Rattle.jffs_node.specs.declared.node.Node.{Node}
+use Rattle.jffs_tree.specs.Origin.{Tree}
+use Rattle.jffs_tree.specs.After.{held_in, held_after, put_node, WritesInode}
+use Rattle.jffs_tree.proofs.states.Pointwise.{find_rewritten}
+
+pub at_error : {A E P : Type 0} (r : Result A E) → P → OnErr r P
+at_error (Ok x) p = tt
+at_error (Err e) p = p
+
+-- That is the tree with the node put in.
+pub put_there : (old seen new : Tree) (n : Node) → old ≡ seen → IsTrue (entries.is_sorted nat_cmp old) → WritesInode old new n → new ≡ put_node seen n
+put_there old seen new n is ordered w =
+    entries.same_entries nat_cmp nat_cmp_total nat_cmp-IsAntisymmetric new (put_node old n)
+    (subst T (sym w.ordered) tt) (entries.is_sorted-put nat_cmp nat_cmp_total n.inode (held_after n (held_in old n.inode)) old (subst T (sym ordered) tt))
+    (λ i. w.found i ∙ sym (find_rewritten (λ o. held_after n o) n.inode old i))
+    ∙ ap (λ t. put_node t n) is

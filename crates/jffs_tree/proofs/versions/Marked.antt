@@ -1,0 +1,228 @@
+-- The marks of a tree, after one more node.
+use Rattle.std.proofs.Common.{◌≡◌, ℕ, ◌+◌, ◌≤◌, Bool, true, false, cond, ◌&&◌, eqb, List, ◌∷◌, [], length, flat_map, count_by, Option, Some, None, option_map, refl, sym, ap, subst, ◌∙◌, arith, ⊎_elim}
+use Rattle.std.specs.Option.{option_map_or, option_to_list}
+use Rattle.std.proofs.lemmas.Bool.{cases_Bool, eqb-true, eq-eqb}
+use Rattle.std.proofs.lemmas.Option.{same_Some}
+use Rattle.std.proofs.lemmas.List.Sums.{sum_by-append, sum_by-cons}
+use Rattle.jffs_node.specs.declared.node.Node.{Node}
+use Rattle.jffs_node.specs.Record.{dsize}
+use Rattle.jffs_tree.specs.Origin.{Held, Tree, versions_held}
+use Rattle.jffs_tree.specs.After.{held_in, held_after, without_inode, WritesInode}
+use Rattle.jffs_tree.specs.Marks.{Counts, mark_of, HaveMore, SameMarks, bytes_by, brought_by, bytes_by_in, MovesMarks, MovesMarksIn, HasByteMarks, LosesByteMarks, held_marks, AreMarksOf}
+use Rattle.jffs_tree.proofs.versions.Marking.{turned}
+use Rattle.jffs_tree.proofs.states.Pointwise.{find_without}
+
+-- one for the newest of an inode that is present
+abbrev pub newest_marks : Tree → ℕ → ℕ → ℕ
+newest_marks tree v i = option_map_or (λ h. count_by (λ w. eqb w v) (option_to_list h.newest)) (held_in tree i) 0
+
+pub in_parts : (tree : Tree) (v i : ℕ) → held_marks tree v i ≡ newest_marks tree v i + bytes_by_in tree v i
+in_parts tree v i = by_held (held_in tree i)
+  where
+    by_held : (o : Option Held) → option_map_or (λ h. count_by (λ w. eqb w v) (versions_held (i, h))) o 0 ≡ option_map_or (λ h. count_by (λ w. eqb w v) (option_to_list h.newest)) o 0 + option_map_or (λ h. bytes_by v h) o 0
+    by_held None = refl
+    by_held (Some h) = sum_by-append (λ w. cond (eqb w v) 1 0) (option_to_list h.newest) (flat_map option_to_list h.writers)
+
+one_newest : (v : ℕ) (o : Option ℕ) (k : ℕ) → o ≡ Some k → count_by (λ w. eqb w v) (option_to_list o) ≡ cond (eqb v k) 1 0
+one_newest v o k is =
+    ap (λ x. count_by (λ w. eqb w v) (option_to_list x)) is
+    ∙ sum_by-cons (λ w. cond (eqb w v) 1 0) k [] ∙ by_test (eqb k v) ∙ ap (λ b. cond b 1 0) (turned k v)
+  where
+    by_test : (b : Bool) → cond b 1 0 + 0 ≡ cond b 1 0
+    by_test true = refl
+    by_test false = refl
+
+pub newest_is : (tree : Tree) (v i k : ℕ) → option_map (λ h. h.newest) (held_in tree i) ≡ Some (Some k) → newest_marks tree v i ≡ cond (eqb v k) 1 0
+newest_is tree v i k is = by_held (held_in tree i) is
+  where
+    by_held : (o : Option Held) → option_map (λ h. h.newest) o ≡ Some (Some k) → option_map_or (λ h. count_by (λ w. eqb w v) (option_to_list h.newest)) o 0 ≡ cond (eqb v k) 1 0
+    by_held None e = cc
+    by_held (Some h) e = one_newest v h.newest k (same_Some h.newest (Some k) e)
+
+module _ (old : Tree) (n : Node) (m0 m1 : Counts) (marked : AreMarksOf old m0) (raised : HaveMore m0 m1 n.version n.inode (dsize n + 1)) where
+  -- what a raise leaves in the node's inode
+  raised_here : (v : ℕ) → mark_of m1 v n.inode ≡ newest_marks old v n.inode + bytes_by_in old v n.inode + cond (eqb v n.version) (dsize n + 1) 0
+  raised_here v =
+      let e : mark_of m0 v n.inode + cond (eqb v n.version && eqb n.inode n.inode) (dsize n + 1) 0 ≡ mark_of m1 v n.inode = raised v n.inode in
+      let f : cond (eqb v n.version && eqb n.inode n.inode) (dsize n + 1) 0 ≡ cond (eqb v n.version) (dsize n + 1) 0 = own (eqb v n.version) in
+      let g = marked v n.inode in
+      let h = in_parts old v n.inode in
+      omega (arith, e, f, g, h)
+    where
+      own : (b : Bool) → cond (b && eqb n.inode n.inode) (dsize n + 1) 0 ≡ cond b (dsize n + 1) 0
+      own true = ap (λ b. cond b (dsize n + 1) 0) (eq-eqb n.inode n.inode refl)
+      own false = refl
+
+  by_version : (b : Bool) → cond b (dsize n + 1) 0 ≡ cond b (dsize n) 0 + cond b 1 0
+  by_version true = refl
+  by_version false = refl
+
+  elsewhere : (v i : ℕ) → eqb i n.inode ≡ false → mark_of m1 v i ≡ held_marks old v i
+  elsewhere v i other =
+      let e : mark_of m0 v i + cond (eqb v n.version && eqb i n.inode) (dsize n + 1) 0 ≡ mark_of m1 v i = raised v i in
+      let f : cond (eqb v n.version && eqb i n.inode) (dsize n + 1) 0 ≡ 0 = ap (λ b. cond (eqb v n.version && b) (dsize n + 1) 0) other ∙ none (eqb v n.version) in
+      let g = marked v i in
+      omega (arith, e, f, g)
+    where
+      none : (b : Bool) → cond (b && false) (dsize n + 1) 0 ≡ 0
+      none true = refl
+      none false = refl
+
+  -- The write was done: the marks are those of the new tree, and of the old newest.
+  module _ (new : Tree) (m2 : Counts) (w : WritesInode old new n) (moved : MovesMarksIn m1 m2 n old new) where
+    found_here : held_in new n.inode ≡ Some (held_after n (held_in old n.inode))
+    found_here = w.found n.inode ∙ ap (λ b. cond b (Some (held_after n (held_in old n.inode))) (held_in old n.inode)) (eq-eqb n.inode n.inode refl)
+
+    newest_here : (v : ℕ) → newest_marks new v n.inode ≡ cond (eqb v n.version) 1 0
+    newest_here v = newest_is new v n.inode n.version (ap (λ o. option_map (λ h. h.newest) o) found_here)
+
+    here : (v : ℕ) → mark_of m2 v n.inode ≡ held_marks new v n.inode + newest_marks old v n.inode
+    here v =
+        let same = eq-eqb n.inode n.inode refl in
+        let e : mark_of m2 v n.inode + (bytes_by_in old v n.inode + brought_by v n) ≡ mark_of m1 v n.inode + bytes_by_in new v n.inode =
+        sym (ap (λ b. mark_of m2 v n.inode + cond b (bytes_by_in old v n.inode + brought_by v n) 0) same) ∙ moved v n.inode ∙ ap (λ b. mark_of m1 v n.inode + cond b (bytes_by_in new v n.inode) 0) same in
+        let f = raised_here v in
+        let g = by_version (eqb v n.version) in
+        let h = newest_here v in
+        let k = in_parts new v n.inode in
+        omega (arith, e, f, g, h, k)
+
+    others : (v i : ℕ) → eqb i n.inode ≡ false → mark_of m2 v i ≡ held_marks new v i
+    others v i other =
+        let e : mark_of m2 v i + 0 ≡ mark_of m1 v i + 0 =
+        sym (ap (λ b. mark_of m2 v i + cond b (bytes_by_in old v i + brought_by v n) 0) other) ∙ moved v i ∙ ap (λ b. mark_of m1 v i + cond b (bytes_by_in new v i) 0) other in
+        let f = elsewhere v i other in
+        let same : held_in new i ≡ held_in old i = w.found i ∙ ap (λ b. cond b (Some (held_after n (held_in old i))) (held_in old i)) (turned n.inode i ∙ other) in
+        let g : held_marks new v i ≡ held_marks old v i = ap (λ (o : Option Held). option_map_or (λ h. count_by (λ w. eqb w v) (versions_held (i, h))) o 0) same in
+        omega (arith, e, f, g)
+
+    -- an inode with that newest version was there
+    module _ (k : ℕ) (was : option_map (λ h. h.newest) (held_in old n.inode) ≡ Some (Some k)) where
+      pub has_newest : 1 ≤ mark_of m2 k n.inode
+      has_newest =
+          let e = here k in
+          let f = newest_is old k n.inode k was in
+          let g : ◌≡◌ {A = ℕ} (cond (eqb k k) 1 0) 1 = ap (λ b. cond b 1 0) (eq-eqb k k refl) in
+          omega (arith, e, f, g)
+
+      pub of_old : (m3 : Counts) → HaveMore m3 m2 k n.inode 1 → AreMarksOf new m3
+      of_old m3 less v i = ⊎_elim
+          (λ at.
+          let same : i ≡ n.inode = eqb-true i n.inode at in
+          let e : mark_of m3 v n.inode + cond (eqb v k) 1 0 ≡ mark_of m2 v n.inode = sym (own (eqb v k) n.inode (eq-eqb n.inode n.inode refl)) ∙ less v n.inode in
+          let f = here v in
+          let g = newest_is old v n.inode k was in
+          let h : mark_of m3 v n.inode ≡ held_marks new v n.inode = omega (arith, e, f, g) in
+          subst (λ j. mark_of m3 v j ≡ held_marks new v j) (sym same) h)
+          (λ other.
+          let e : mark_of m3 v i + 0 ≡ mark_of m2 v i = sym (ap (λ b. mark_of m3 v i + cond (eqb v k && b) 1 0) other ∙ none (eqb v k) (mark_of m3 v i)) ∙ less v i in
+          let f = others v i other in
+          omega (arith, e, f))
+          (cases_Bool (eqb i n.inode))
+        where
+          own : (b : Bool) (j : ℕ) → eqb j n.inode ≡ true → mark_of m3 v j + cond (b && eqb j n.inode) 1 0 ≡ mark_of m3 v j + cond b 1 0
+          own true j e = ap (λ t. mark_of m3 v j + cond t 1 0) e
+          own false j e = refl
+
+          none : (b : Bool) (m : ℕ) → m + cond (b && false) 1 0 ≡ m + 0
+          none true m = refl
+          none false m = refl
+
+-- the same marks are marks of the same tree
+pub same_marks_of : (tree : Tree) (m n : Counts) → AreMarksOf tree m → SameMarks m n → AreMarksOf tree n
+same_marks_of tree m n marked same v i = same v i ∙ marked v i
+
+-- An inode that is taken away.
+module _ (old : Tree) (i : ℕ) (h : Held) (k : ℕ) (is : held_in old i ≡ Some h) (newest : h.newest ≡ Some k) (m0 : Counts) (marked : AreMarksOf old m0) where
+  split_here : (v : ℕ) → mark_of m0 v i ≡ cond (eqb v k) 1 0 + bytes_by v h
+  split_here v =
+      let e = marked v i in
+      let f = in_parts old v i in
+      let g = newest_is old v i k (ap (λ o. option_map (λ x. x.newest) o) is ∙ ap (λ o. Some o) newest) in
+      let p : bytes_by_in old v i ≡ bytes_by v h = ap (λ o. option_map_or (λ x. bytes_by v x) o 0) is in
+      omega (arith, e, f, g, p)
+
+  pub has_byte_marks : HasByteMarks m0 i h
+  has_byte_marks v = let e = split_here v in omega (arith, e)
+
+  module _ (m1 : Counts) (lost : LosesByteMarks m0 m1 i h) where
+    lost_here : (v : ℕ) → mark_of m1 v i ≡ cond (eqb v k) 1 0
+    lost_here v =
+        let e : mark_of m1 v i + bytes_by v h ≡ mark_of m0 v i = sym (ap (λ b. mark_of m1 v i + cond b (bytes_by v h) 0) (eq-eqb i i refl)) ∙ lost v i in
+        let f = split_here v in
+        omega (arith, e, f)
+
+    pub one_left : 1 ≤ mark_of m1 k i
+    one_left = let e = lost_here k in let g : ◌≡◌ {A = ℕ} (cond (eqb k k) 1 0) 1 = ap (λ b. cond b 1 0) (eq-eqb k k refl) in omega (arith, e, g)
+
+    pub of_removed : (m2 : Counts) → HaveMore m2 m1 k i 1 → AreMarksOf (without_inode old i) m2
+    of_removed m2 less v j = ⊎_elim
+        (λ at.
+        let same : j ≡ i = eqb-true j i at in
+        let gone : held_in (without_inode old i) i ≡ None = find_without i old i ∙ ap (λ b. cond b None (held_in old i)) (eq-eqb i i refl) in
+        let e : mark_of m2 v i + cond (eqb v k) 1 0 ≡ mark_of m1 v i = sym (own (eqb v k) (eqb i i) (eq-eqb i i refl) (mark_of m2 v i)) ∙ less v i in
+        let f = lost_here v in
+        let g : held_marks (without_inode old i) v i ≡ 0 = ap (λ (o : Option Held). option_map_or (λ x. count_by (λ w. eqb w v) (versions_held (i, x))) o 0) gone in
+        let r : mark_of m2 v i ≡ held_marks (without_inode old i) v i = omega (arith, e, f, g) in
+        subst (λ x. mark_of m2 v x ≡ held_marks (without_inode old i) v x) (sym same) r)
+        (λ other.
+        let kept : held_in (without_inode old i) j ≡ held_in old j = find_without i old j ∙ ap (λ b. cond b None (held_in old j)) (turned i j ∙ other) in
+        let e : mark_of m2 v j + 0 ≡ mark_of m1 v j = sym (ap (λ b. mark_of m2 v j + cond (eqb v k && b) 1 0) other ∙ none (eqb v k) (mark_of m2 v j)) ∙ less v j in
+        let f : mark_of m1 v j + 0 ≡ mark_of m0 v j = sym (ap (λ b. mark_of m1 v j + cond b (bytes_by v h) 0) other) ∙ lost v j in
+        let g : held_marks (without_inode old i) v j ≡ held_marks old v j = ap (λ (o : Option Held). option_map_or (λ x. count_by (λ w. eqb w v) (versions_held (j, x))) o 0) kept in
+        let r = marked v j in
+        omega (arith, e, f, g, r))
+        (cases_Bool (eqb j i))
+      where
+        own : (b t : Bool) → t ≡ true → (m : ℕ) → m + cond (b && t) 1 0 ≡ m + cond b 1 0
+        own true t e m = ap (λ x. m + cond x 1 0) e
+        own false t e m = refl
+
+        none : (b : Bool) (m : ℕ) → m + cond (b && false) 1 0 ≡ m + 0
+        none true m = refl
+        none false m = refl
+
+-- A value that counts only where a test holds.
+pub under : (b : Bool) (x y : ℕ) → (b ≡ true → x ≡ y) → cond b x 0 ≡ cond b y 0
+under true x y h = h refl
+under false x y h = refl
+
+-- An inode that is present, written over.
+module _ (old : Tree) (n : Node) (h : Held) (is : held_in old n.inode ≡ Some h) (m : Counts) where
+  bytes_by_are : (tree : Tree) (x : Held) → held_in tree n.inode ≡ Some x → (v : ℕ) → bytes_by_in tree v n.inode ≡ bytes_by v x
+  bytes_by_are tree x at v = ap (λ o. option_map_or (λ y. bytes_by v y) o 0) at
+
+  pub moved_own : (new : Tree) (x : Held) (k : Counts) → held_in new n.inode ≡ Some x → MovesMarks m k n h x → MovesMarksIn m k n old new
+  moved_own new x k at moved v i =
+      let e = moved v i in
+      let f = under (eqb i n.inode) (bytes_by_in old v i + brought_by v n) (bytes_by v h + brought_by v n)
+      (λ same. ap (λ j. bytes_by_in old v j + brought_by v n) (eqb-true i n.inode same) ∙ ap (λ p. p + brought_by v n) (bytes_by_are old h is v)) in
+      let g = under (eqb i n.inode) (bytes_by_in new v i) (bytes_by v x) (λ same. ap (λ j. bytes_by_in new v j) (eqb-true i n.inode same) ∙ bytes_by_are new x at v) in
+      omega (arith, e, f, g)
+
+-- No version has more marks in an inode than it has bytes, and one.
+few_bytes : (v : ℕ) (ws : List (Option ℕ)) → count_by (λ w. eqb w v) (flat_map option_to_list ws) ≤ length ws
+few_bytes v [] = omega arith
+few_bytes v (None ∷ ws) = let rest = few_bytes v ws in omega (arith, rest)
+few_bytes v (Some w ∷ ws) =
+    let rest = few_bytes v ws in
+    let e = sum_by-cons (λ x. cond (eqb x v) 1 0) w (flat_map option_to_list ws) in
+    let one = at_most_one (eqb w v) in
+    omega (arith, rest, e, one)
+  where
+    at_most_one : (b : Bool) → cond b 1 0 ≤ 1
+    at_most_one true = omega arith
+    at_most_one false = omega arith
+
+pub few_marks : (tree : Tree) (v i : ℕ) (h : Held) (k most : ℕ) → held_in tree i ≡ Some h → h.newest ≡ Some k → length h.writers ≤ most → held_marks tree v i ≤ most + 1
+few_marks tree v i h k most is newest small =
+    let e = in_parts tree v i in
+    let f = newest_is tree v i k (ap (λ o. option_map (λ x. x.newest) o) is ∙ ap (λ o. Some o) newest) in
+    let g = few_bytes v h.writers in
+    let p : bytes_by_in tree v i ≡ bytes_by v h = ap (λ o. option_map_or (λ x. bytes_by v x) o 0) is in
+    let one = at_most_one (eqb v k) in
+    omega (arith, small, e, f, g, p, one)
+  where
+    at_most_one : (b : Bool) → cond b 1 0 ≤ 1
+    at_most_one true = omega arith
+    at_most_one false = omega arith

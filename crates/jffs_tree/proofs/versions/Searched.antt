@@ -1,0 +1,175 @@
+-- Where a search for a key ends, and what the entries on both sides of a place are.
+use Rattle.std.proofs.Common.{◌≡◌, ℕ, true, true≢false, zero, suc, ◌+◌, ◌-◌, ◌<◌, ◌≤◌, ⊎_elim, cond, length, get_or, set, slice_get, nat_lt, Option, Some, None, refl, sym, ap, subst, ◌∙◌, arith}
+use Rattle.std.specs.List.{insert}
+use Rattle.std.specs.Option.{option_map_or, unwrap_or}
+use Rattle.std.specs.Ordering.{is_gt, ordering_reverse}
+use Rattle.std.specs.declared.cmp.Ordering.{Ordering}
+use Rattle.std.specs.declared.cmp.Ordering.TheVariants.{Less, Greater}
+use Rattle.std.specs.Map.{lookup, keys_of}
+use Rattle.std.specs.BTreeMap.{is_at}
+use Rattle.std.proofs.lemmas.Bool.{cases_lt, ltb-true}
+use Rattle.std.proofs.lemmas.Option.{same_Some, slice_get_within, slice_get_read, slice_get-get_or, get_or_from_slice_get}
+use Rattle.std.proofs.lemmas.Map.Entries.{length-keys_of, lookup_at_gap}
+use Rattle.jffs_tree.specs.Marks.{MarkKey, Counts, mark_key, mark_cmp, mark_of, IsKeyAt, BelongsAt, SplitsAt}
+use Rattle.jffs_tree.proofs.versions.Marking.{mark_newer, mark_low, mark_from}
+use Rattle.jffs_tree.proofs.versions.Places.{InOrder, mark_total, key_at, mark_at, before, no_newer, written, still_in_order, inserted, inserted_in_order}
+
+turned_round : (a b : MarkKey) (o : Ordering) → mark_cmp b a ≡ o → mark_cmp a b ≡ ordering_reverse o
+turned_round a b o is = mark_total.antisymm a b ∙ ap ordering_reverse is
+
+module _ (counts : Counts) (ordered : InOrder counts) (key : MarkKey) where
+  -- A version above the newest belongs at the front.
+  pub in_front : (e : MarkKey × ℕ) → slice_get counts 0 ≡ Some e → e.0.0.0 < key.0.0 → BelongsAt counts key 0
+  in_front e is older = record {
+    within = omega arith;
+    between = (λ k d l h. absurd (omega (arith, h)), λ k d l h. turned_round (get_or counts k d).0 key Less (mark_newer key (get_or counts k d).0 (low k d h)));
+  }
+    where
+      low : (k : ℕ) (d : MarkKey × ℕ) → k < length counts → (get_or counts k d).0.0.0 < key.0.0
+      low zero d h = let same = get_or_from_slice_get counts 0 e d is in subst (λ (x : MarkKey × ℕ). x.0.0.0 < key.0.0) (sym same) older
+      low (suc k) d h = let l = no_newer counts ordered 0 (suc k) e (get_or counts (suc k) d) is (slice_get-get_or counts (suc k) d h) (omega arith) in omega (arith, l, older)
+
+  pub before_place : (i : ℕ) → BelongsAt counts key i → (j : ℕ) (e : MarkKey × ℕ) → j < i → slice_get counts j ≡ Some e → mark_cmp e.0 key ≡ Less
+  before_place i b j e l is = subst (λ (x : MarkKey × ℕ). mark_cmp x.0 key ≡ Less) (get_or_from_slice_get counts j e e is) (b.between.0 j e (omega arith) l)
+
+  pub from_place : (i : ℕ) → BelongsAt counts key i → (j : ℕ) (e : MarkKey × ℕ) → i ≤ j → slice_get counts j ≡ Some e → mark_cmp key e.0 ≡ Less
+  from_place i b j e l is =
+      turned_round key e.0 Greater (subst (λ (x : MarkKey × ℕ). mark_cmp x.0 key ≡ Greater) (get_or_from_slice_get counts j e e is) (b.between.1 j e l (slice_get_within counts j e is)))
+
+  -- A key that belongs at a place has no entry.
+  pub absent : (i : ℕ) → BelongsAt counts key i → lookup (is_at (mark_cmp key)) counts ≡ None
+  absent i b = lookup_at_gap mark_total key counts i ordered
+      (λ j e l is. turned_round key e.0 Less (before_place i b j e l is))
+      (λ e is. from_place i b i e (omega arith) is)
+
+  -- A version between those of two neighbours belongs between them.
+  pub belongs_between : (i : ℕ) (e : MarkKey × ℕ) → slice_get counts i ≡ Some e → key.0.0 < e.0.0.0 → option_map_or (λ d. nat_lt d.0.0.0 key.0.0) (slice_get counts (i + 1)) true ≡ true → BelongsAt counts key (i + 1)
+  belongs_between i e at newer older = record {
+    within = inside;
+    between = (
+      λ k d h l. mark_newer (get_or counts k d).0 key (let v = up_to k d l in omega (arith, v, newer)),
+      λ k d l h. turned_round (get_or counts k d).0 key Less (mark_newer key (get_or counts k d).0 (from k d l h)),
+    );
+  }
+    where
+      inside : i + 1 ≤ length counts
+      inside = let l = slice_get_within counts i e at in omega (arith, l)
+
+      up_to : (k : ℕ) (d : MarkKey × ℕ) → k < i + 1 → e.0.0.0 ≤ (get_or counts k d).0.0.0
+      up_to k d l = ⊎_elim
+          (λ below. no_newer counts ordered k i (get_or counts k d) e (slice_get-get_or counts k d (omega (arith, l, inside))) at below)
+          (λ above. let same : k ≡ i = omega (arith, above, l) in
+          let version = ap (λ (x : MarkKey × ℕ). x.0.0.0) (get_or_from_slice_get counts k e d (ap (λ n. slice_get counts n) same ∙ at)) in
+          omega (arith, version))
+          (cases_lt k i)
+
+      next_older : (d : MarkKey × ℕ) → i + 1 < length counts → (get_or counts (i + 1) d).0.0.0 < key.0.0
+      next_older d h = ltb-true (get_or counts (i + 1) d).0.0.0 key.0.0
+          (sym (ap (λ o. option_map_or (λ (x : MarkKey × ℕ). nat_lt x.0.0.0 key.0.0) o true) (slice_get-get_or counts (i + 1) d h)) ∙ older)
+
+      from : (k : ℕ) (d : MarkKey × ℕ) → i + 1 ≤ k → k < length counts → (get_or counts k d).0.0.0 < key.0.0
+      from k d l h = ⊎_elim
+          (λ after. let v = no_newer counts ordered (i + 1) k (get_or counts (i + 1) d) (get_or counts k d) (slice_get-get_or counts (i + 1) d (omega (arith, after, h))) (slice_get-get_or counts k d h) after in
+          let w = next_older d (omega (arith, after, h)) in
+          omega (arith, v, w))
+          (λ here. let same : k ≡ i + 1 = omega (arith, here, l) in
+          subst (λ n. (get_or counts n d).0.0.0 < key.0.0) (sym same) (next_older d (subst (λ n. n < length counts) same h)))
+          (cases_lt (i + 1) k)
+
+-- The entry of a key at an index.
+pub entry_is : (counts : Counts) (i : ℕ) (k : MarkKey) (e : MarkKey × ℕ) → IsKeyAt counts k i → e ≡ get_or counts i e → slice_get counts i ≡ Some (k, e.1)
+entry_is counts i k e key read =
+    let within : i < length counts = subst (λ n. i < n) (length-keys_of counts) (slice_get_within (keys_of counts) i k key) in
+    let at = slice_get_read counts (length counts) i e refl within read in
+    let same = same_Some e.0 k (sym (key_at counts i e at) ∙ key) in
+    at ∙ ap (λ (x : MarkKey). Some (x, e.1)) same
+
+-- A key that is before the first that a version may have is of a newer one.
+newer_than : (q : MarkKey) (v : ℕ) → mark_cmp q (mark_key v 0) ≡ Less → v + 1 ≤ q.0.0
+newer_than q v less = ⊎_elim
+    (λ l. omega (arith, l))
+    (λ low. absurd (true≢false (sym (ap is_gt (turned_round (mark_key v 0) q Less less)) ∙ mark_from v q low)))
+    (cases_lt v q.0.0)
+
+older_from : (q : MarkKey) (v : ℕ) → mark_cmp (mark_key v 0) q ≡ Less → q.0.0 < v + 1
+older_from q v less = let l = mark_low (mark_key v 0) q (ap is_gt less) in omega (arith, l)
+
+module _ (counts : Counts) (ordered : InOrder counts) (v : ℕ) where
+  pub split_at_gap : (i : ℕ) → BelongsAt counts (mark_key v 0) i → SplitsAt counts (v + 1) i
+  split_at_gap i b = record {
+    within = b.within;
+    parts = (
+      λ k d low l. newer_than (get_or counts k d).0 v (b.between.0 k d low l),
+      λ k d l h. older_from (get_or counts k d).0 v (turned_round (mark_key v 0) (get_or counts k d).0 Greater (b.between.1 k d l h)),
+    );
+  }
+
+  pub split_at_key : (i : ℕ) → IsKeyAt counts (mark_key v 0) i → SplitsAt counts (v + 1) i
+  split_at_key i key =
+      let within : i < length counts = subst (λ n. i < n) (length-keys_of counts) (slice_get_within (keys_of counts) i (mark_key v 0) key) in
+      let d : MarkKey × ℕ = (mark_key v 0, 0) in
+      let at = slice_get-get_or counts i d within in
+      let same : (get_or counts i d).0 ≡ mark_key v 0 = same_Some (get_or counts i d).0 (mark_key v 0) (sym (key_at counts i (get_or counts i d) at) ∙ key) in
+      let version : (get_or counts i d).0.0.0 ≡ v = ap (λ (k : MarkKey). k.0.0) same in
+      record {
+        within = omega (arith, within);
+        parts = (
+          λ k e low l. newer_than (get_or counts k e).0 v
+              (subst (λ (x : MarkKey). mark_cmp (get_or counts k e).0 x ≡ Less) same
+              (before counts ordered k i (get_or counts k e) (get_or counts i d) (slice_get-get_or counts k e (omega (arith, l, within))) at l)),
+          λ k e l h. ⊎_elim
+              (λ less. let low = no_newer counts ordered i k (get_or counts i d) (get_or counts k e) at (slice_get-get_or counts k e h) less in omega (arith, low, version))
+              (λ more. let equal : k ≡ i = omega (arith, more, l) in
+              let x = get_or_from_slice_get counts k (get_or counts i d) e (subst (λ n. slice_get counts n ≡ Some (get_or counts i d)) (sym equal) at) in
+              let y : (get_or counts k e).0.0.0 ≡ v = ap (λ (t : MarkKey × ℕ). t.0.0.0) x ∙ version in
+              omega (arith, y))
+              (cases_lt i k),
+        );
+      }
+
+-- All entries are of versions from `first` on where the last one is.
+pub split_at_end : (counts : Counts) → InOrder counts → (first : ℕ) (e : MarkKey × ℕ) → slice_get counts (length counts - 1) ≡ Some e → first ≤ e.0.0.0 → SplitsAt counts first (length counts)
+split_at_end counts ordered first e last low = record {
+  within = omega arith;
+  parts = (
+    λ k d l h. ⊎_elim
+        (λ less. let l = no_newer counts ordered k (length counts - 1) (get_or counts k d) e (slice_get-get_or counts k d h) last less in omega (arith, l, low))
+        (λ more. let equal : k ≡ length counts - 1 = omega (arith, more, h) in
+        let x = get_or_from_slice_get counts k e d (subst (λ n. slice_get counts n ≡ Some e) (sym equal) last) in
+        let y : (get_or counts k d).0.0.0 ≡ e.0.0.0 = ap (λ (t : MarkKey × ℕ). t.0.0.0) x in
+        omega (arith, y, low))
+        (cases_lt k (length counts - 1)),
+    λ k d l h. absurd (omega (arith, l, h)),
+  );
+}
+
+-- Another count for the key at an index.
+module _ (counts : Counts) (ordered : InOrder counts) (i : ℕ) (k : MarkKey) (e : MarkKey × ℕ) (key : IsKeyAt counts k i) (read : e ≡ get_or counts i e) where
+  at_place : slice_get counts i ≡ Some (k, e.1)
+  at_place = entry_is counts i k e key read
+
+  own : k ≡ e.0
+  own =
+      let within : i < length counts = slice_get_within counts i (k, e.1) at_place in
+      ap (λ (x : MarkKey × ℕ). x.0) (same_Some (k, e.1) e (sym at_place ∙ slice_get_read counts (length counts) i e refl within read))
+
+  pub count_is : mark_of counts k.0.0 k.1 ≡ e.1
+  count_is = mark_at counts ordered i k e.1 at_place
+
+  pub rewritten : (w : ℕ) (q : MarkKey) → lookup (is_at (mark_cmp q)) (set counts i (e.0, w)) ≡ cond (is_at (mark_cmp k) q) (Some w) (lookup (is_at (mark_cmp q)) counts)
+  rewritten w q =
+      ap (λ (x : MarkKey). lookup (is_at (mark_cmp q)) (set counts i (x, w))) (sym own) ∙ written counts i k e.1 w ordered at_place q
+
+  pub rewritten_in_order : (w : ℕ) → InOrder (set counts i (e.0, w))
+  rewritten_in_order w = subst (λ (x : MarkKey). InOrder (set counts i (x, w))) own (still_in_order counts i k e.1 w ordered at_place)
+
+-- A new entry where its key belongs.
+module _ (counts : Counts) (ordered : InOrder counts) (i : ℕ) (k : MarkKey) (place : BelongsAt counts k i) (w : ℕ) where
+  pub entered : (q : MarkKey) → lookup (is_at (mark_cmp q)) (insert counts i (k, w)) ≡ cond (is_at (mark_cmp k) q) (Some w) (lookup (is_at (mark_cmp q)) counts)
+  entered q = inserted counts i k w (absent counts ordered k i place) q
+
+  pub entered_in_order : InOrder (insert counts i (k, w))
+  entered_in_order = inserted_in_order counts i k w ordered (before_place counts ordered k i place) (from_place counts ordered k i place)
+
+  pub none_before : mark_of counts k.0.0 k.1 ≡ 0
+  none_before = ap (λ (o : Option ℕ). unwrap_or o 0) (absent counts ordered k i place)

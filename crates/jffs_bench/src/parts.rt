@@ -56,7 +56,8 @@ fn measure_core<R: Clock, W: Write + Drop>(
     measure.part(rt, "copies", start)
 }
 
-/// Asks for copies of a version that no node has.
+/// Asks for copies of a version that no node has. Nothing is erased between them, since a refused
+/// request leaves nothing dead.
 fn ask_copies(volume: &mut Volume) -> Result<(), Fault> {
     let path = Path::parse(volume.alloc, "/x")?;
     let Some(name) = path.names().first() else {
@@ -70,7 +71,7 @@ fn ask_copies(volume: &mut Volume) -> Result<(), Fault> {
             offset: 0,
             bytes: copied(volume.alloc, &[])?,
         };
-        volume.ask(9, seq, wish)?;
+        volume.answer(9, seq, wish)?;
     }
     Ok(())
 }

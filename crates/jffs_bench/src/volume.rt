@@ -28,9 +28,14 @@ impl Volume {
     }
 
     /// Answers a request.
-    pub(crate) fn ask(&mut self, writer: u16, seq: u32, wish: Wish) -> Result<Outcome, Fault> {
+    pub(crate) fn answer(&mut self, writer: u16, seq: u32, wish: Wish) -> Result<Outcome, Fault> {
         self.core.reserve_answer()?;
-        let outcome = self.core.answer(Request { writer, seq, wish });
+        Ok(self.core.answer(Request { writer, seq, wish }))
+    }
+
+    /// Answers a request, and erases what is dead then.
+    pub(crate) fn ask(&mut self, writer: u16, seq: u32, wish: Wish) -> Result<Outcome, Fault> {
+        let outcome = self.answer(writer, seq, wish)?;
         if !self.core.closed() {
             self.core.erase_dead()?;
         }

@@ -88,6 +88,31 @@ fn inodes_that_are_spent_have_their_text(rt: HostRuntime) -> Result<(), Fail> {
     Ok(())
 }
 
+/// Each record here has 64 bytes, and the last byte of its request's number is its fortieth. The control asks for each
+/// unmount.
+#[test]
+fn each_request_of_a_call_has_the_next_number(rt: HostRuntime) -> Result<(), Fail> {
+    let _ = fs::remove_file(&rt, "q.image");
+    plays(
+        &rt,
+        &[
+            ("format q.image 6 1024", "", 0, ""),
+            ("mkdir q.image /d", "", 0, ""),
+            ("mkdir q.image /d/e", "", 0, ""),
+            ("mkdir q.image /d/f", "", 0, ""),
+            ("rm -r q.image /d", "", 0, ""),
+        ],
+    )?;
+    let image = fs::read(&rt, "q.image")?;
+    let mut at = 39usize;
+    for wanted in [1u8, 1, 1, 1, 1, 1, 1, 2, 3, 1] {
+        assert_eq!(rt; image.get(at).copied(), Some(wanted), "at {at}");
+        at = at.saturating_add(64);
+    }
+    fs::remove_file(&rt, "q.image")?;
+    Ok(())
+}
+
 /// A sector whose one byte 0 stands before an open gate is torn: no record, and not erased.
 #[test]
 fn each_image_that_is_no_volume_has_its_text(rt: HostRuntime) -> Result<(), Fail> {

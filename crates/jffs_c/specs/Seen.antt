@@ -1,5 +1,5 @@
 -- What looks see.
-use Rattle.std.specs.Prelude.{◌≡◌, ◌≢◌, ◌⊎◌, ◌-◌, ◌++◌, ℕ, false, List, length}
+use Rattle.std.specs.Prelude.{◌≡◌, ◌≢◌, ◌⊎◌, ◌-◌, ◌++◌, ℕ, false, List, length, IsUtf8}
 use Rattle.std.specs.Prelude.{map, sum, take, drop, min, slice_get, unwrap_or, Some, None, Ok, Err}
 use Rattle.std.specs.List.{filter}
 use Rattle.std.specs.List.Sorted.{IsPermutation, IsSorted}
@@ -29,10 +29,10 @@ code_of_fault fault.Memory = code.Memory
 abbrev pub IsOfPaths : Code → Type 0
 IsOfPaths answer = (answer ≢ code.Done) × (answer ≢ code.NotFound)
 
--- why these bytes spell no path: a byte that no name has, memory, or their first fault
+-- why these bytes spell no path: they are no text, memory was refused, or their first fault
 abbrev pub IsFaultOf : List ℕ → Code → Type 0
 IsFaultOf bytes answer =
-    (answer ≡ code.PathNameByte)
+    ((answer ≡ code.PathNameByte) × (IsUtf8 bytes → ⊥))
     ⊎ (answer ≡ code.Memory)
     ⊎ ((why : PathFault) × (path_of bytes ≡ Err why) × (answer ≡ code_of_fault why))
 

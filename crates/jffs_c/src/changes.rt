@@ -11,7 +11,7 @@ use crate::code::Code;
 use crate::volume::Volume;
 use jffs_core::Cleaned;
 use jffs_line::{CONTROL, Request};
-use jffs_node::{Path, PathFault, copied};
+use jffs_node::{Path, copied};
 use jffs_tree::{Outcome, Wish};
 
 /// The sender's number in the records.
@@ -189,7 +189,6 @@ impl Volume {
         };
         match Path::parse(self.alloc, text) {
             Ok(path) => Ok(path),
-            Err(PathFault::Memory) => Err(Code::Memory),
             Err(fault) => Err(Code::from(fault)),
         }
     }

@@ -154,9 +154,9 @@ impl From<Cause> for Code {
 }
 
 impl From<PathFault> for Code {
-    ghost use Rattle.jffs_c.specs.Seen.{IsOfPaths, code_of_fault};
+    ghost use Rattle.jffs_c.specs.Seen.{code_of_fault};
 
-    ghost from_gives = { λ fault code. (code ≡ code_of_fault fault) × IsOfPaths code };
+    ghost from_gives = { λ fault code. code ≡ code_of_fault fault };
 
     fn from(fault: PathFault) -> Code {
         match fault {

@@ -1,4 +1,5 @@
-//! Images that no command leaves, written by hand from the format's page.
+//! Images byte by byte, by the format's page: some that no command leaves, written by hand, and what
+//! commands leave.
 
 use super::plays;
 use std::alloc::Global;
@@ -88,8 +89,8 @@ fn inodes_that_are_spent_have_their_text(rt: HostRuntime) -> Result<(), Fail> {
     Ok(())
 }
 
-/// Each record here has 64 bytes, and the last byte of its request's number is its fortieth. The control asks for each
-/// unmount.
+/// Each record here has 64 bytes, and the last byte of its request's number is its fortieth. The
+/// control asks for each unmount.
 #[test]
 fn each_request_of_a_call_has_the_next_number(rt: HostRuntime) -> Result<(), Fail> {
     let _ = fs::remove_file(&rt, "q.image");

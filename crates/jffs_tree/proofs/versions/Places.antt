@@ -1,5 +1,5 @@
 -- Counts in order: which entry stands where, and what a change at one place does to the look-ups.
-use Rattle.std.proofs.Common.{◌≡◌, ℕ, zero, suc, ◌<◌, ◌≤◌, Bool, true, false, cond, eqb, ltb, List, [], ◌∷◌, ◌++◌, get_or, set, slice_get, Option, Some, None, refl, sym, ap, subst, ◌∙◌, arith}
+use Rattle.std.proofs.Common.{◌≡◌, ℕ, zero, suc, ◌<◌, ◌≤◌, Bool, true, false, cond, eqb, ltb, List, [], ◌∷◌, ◌++◌, get_or, set, slice_get, length, Option, Some, None, refl, sym, ap, subst, ◌∙◌, arith}
 use Rattle.std.specs.List.{AllByRecursion, filter, insert}
 use Rattle.std.specs.List.Sorted.{IsStrictlySortedBy}
 use Rattle.std.specs.Cmp.{IsTotalOrder, IsEquivalence, nat_cmp_total, then_total, on_total, eq_by_cmp_equiv}
@@ -10,7 +10,7 @@ use Rattle.std.specs.Map.{lookup, keys_of, set_value}
 use Rattle.std.specs.BTreeMap.{is_at}
 use Rattle.std.proofs.lemmas.Bool.{and_parts, and_from, eqb-true, eq-eqb, lt-ltb}
 use Rattle.std.proofs.lemmas.Cmp.{back_total}
-use Rattle.std.proofs.lemmas.Option.{same_Some, slice_get_within, slice_get-map, get_or_from_slice_get}
+use Rattle.std.proofs.lemmas.Option.{same_Some, slice_get_within, slice_get_read, slice_get-map, get_or_from_slice_get}
 use Rattle.std.proofs.lemmas.Map.{lookup-set_value, lookup-insert, keys-set_value, none_passes_from_lookup}
 use Rattle.std.proofs.lemmas.Map.Keys.{IsDistinct-from_sorted, IsDistinct-head, IsDistinct-tail, Less-from_sorted}
 use Rattle.std.proofs.lemmas.Map.Entries.{place_from_lookup, lookup_from_place, lookup-filter-values, option_filter}
@@ -40,6 +40,10 @@ InOrder counts = IsStrictlySortedBy mark_cmp (keys_of counts)
 
 distinct : (counts : Counts) → InOrder counts → IsDistinct (eq_by_cmp mark_cmp) (keys_of counts)
 distinct counts ordered = IsDistinct-from_sorted mark_cmp (keys_of counts) ordered
+
+-- the element that was read at an index
+pub read_at : (counts : Counts) (i : ℕ) (e : MarkKey × ℕ) → i < length counts → e ≡ get_or counts i e → slice_get counts i ≡ Some e
+read_at counts i e within read = slice_get_read counts (length counts) i e refl within read
 
 pub key_at : (counts : Counts) (i : ℕ) (e : MarkKey × ℕ) → slice_get counts i ≡ Some e → slice_get (keys_of counts) i ≡ Some e.0
 key_at counts i e is = slice_get-map (λ (x : MarkKey × ℕ). x.0) counts i ∙ ap (λ (o : Option (MarkKey × ℕ)). option_map (λ x. x.0) o) is

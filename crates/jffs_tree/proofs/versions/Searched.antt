@@ -1,5 +1,5 @@
 -- Where a search for a key ends, and what the entries on both sides of a place are.
-use Rattle.std.proofs.Common.{◌≡◌, ℕ, true, true≢false, zero, suc, ◌+◌, ◌-◌, ◌<◌, ◌≤◌, ⊎_elim, cond, length, get_or, set, slice_get, nat_lt, Option, Some, None, refl, sym, ap, subst, ◌∙◌, arith}
+use Rattle.std.proofs.Common.{◌≡◌, ℕ, true, true≢false, zero, suc, ◌+◌, ◌-◌, ◌<◌, ◌≤◌, ⊎_elim, cond, length, get_or, set, slice_get, nat_lt, Option, Some, None, sym, ap, subst, ◌∙◌, arith}
 use Rattle.std.specs.List.{insert}
 use Rattle.std.specs.Option.{option_map_or, unwrap_or}
 use Rattle.std.specs.Ordering.{is_gt, ordering_reverse}
@@ -8,11 +8,11 @@ use Rattle.std.specs.declared.cmp.Ordering.TheVariants.{Less, Greater}
 use Rattle.std.specs.Map.{lookup, keys_of}
 use Rattle.std.specs.BTreeMap.{is_at}
 use Rattle.std.proofs.lemmas.Bool.{cases_lt, ltb-true}
-use Rattle.std.proofs.lemmas.Option.{same_Some, slice_get_within, slice_get_read, slice_get-get_or, get_or_from_slice_get}
+use Rattle.std.proofs.lemmas.Option.{same_Some, slice_get_within, slice_get-get_or, get_or_from_slice_get}
 use Rattle.std.proofs.lemmas.Map.Entries.{length-keys_of, lookup_at_gap}
-use Rattle.jffs_tree.specs.Marks.{MarkKey, Counts, mark_key, mark_cmp, mark_of, IsKeyAt, BelongsAt, SplitsAt}
-use Rattle.jffs_tree.proofs.versions.Marking.{mark_newer, mark_low, mark_from}
-use Rattle.jffs_tree.proofs.versions.Places.{InOrder, mark_total, key_at, mark_at, before, no_newer, written, still_in_order, inserted, inserted_in_order}
+use Rattle.jffs_tree.specs.Marks.{MarkKey, Counts, mark_key, mark_cmp, mark_of, HaveMore, IsKeyAt, BelongsAt, SplitsAt}
+use Rattle.jffs_tree.proofs.versions.Marking.{mark_newer, mark_low, mark_from, added, taken}
+use Rattle.jffs_tree.proofs.versions.Places.{InOrder, mark_total, key_at, read_at, mark_at, before, no_newer, written, still_in_order, inserted, inserted_in_order}
 
 turned_round : (a b : MarkKey) (o : Ordering) → mark_cmp b a ≡ o → mark_cmp a b ≡ ordering_reverse o
 turned_round a b o is = mark_total.antisymm a b ∙ ap ordering_reverse is
@@ -37,7 +37,7 @@ module _ (counts : Counts) (ordered : InOrder counts) (key : MarkKey) where
       turned_round key e.0 Greater (subst (λ (x : MarkKey × ℕ). mark_cmp x.0 key ≡ Greater) (get_or_from_slice_get counts j e e is) (b.between.1 j e l (slice_get_within counts j e is)))
 
   -- A key that belongs at a place has no entry.
-  pub absent : (i : ℕ) → BelongsAt counts key i → lookup (is_at (mark_cmp key)) counts ≡ None
+  absent : (i : ℕ) → BelongsAt counts key i → lookup (is_at (mark_cmp key)) counts ≡ None
   absent i b = lookup_at_gap mark_total key counts i ordered
       (λ j e l is. turned_round key e.0 Less (before_place i b j e l is))
       (λ e is. from_place i b i e (omega arith) is)
@@ -76,11 +76,13 @@ module _ (counts : Counts) (ordered : InOrder counts) (key : MarkKey) where
           subst (λ n. (get_or counts n d).0.0.0 < key.0.0) (sym same) (next_older d (subst (λ n. n < length counts) same h)))
           (cases_lt (i + 1) k)
 
+pub key_within : (counts : Counts) (i : ℕ) (k : MarkKey) → IsKeyAt counts k i → i < length counts
+key_within counts i k key = subst (λ n. i < n) (length-keys_of counts) (slice_get_within (keys_of counts) i k key)
+
 -- The entry of a key at an index.
-pub entry_is : (counts : Counts) (i : ℕ) (k : MarkKey) (e : MarkKey × ℕ) → IsKeyAt counts k i → e ≡ get_or counts i e → slice_get counts i ≡ Some (k, e.1)
+entry_is : (counts : Counts) (i : ℕ) (k : MarkKey) (e : MarkKey × ℕ) → IsKeyAt counts k i → e ≡ get_or counts i e → slice_get counts i ≡ Some (k, e.1)
 entry_is counts i k e key read =
-    let within : i < length counts = subst (λ n. i < n) (length-keys_of counts) (slice_get_within (keys_of counts) i k key) in
-    let at = slice_get_read counts (length counts) i e refl within read in
+    let at = read_at counts i e (key_within counts i k key) read in
     let same = same_Some e.0 k (sym (key_at counts i e at) ∙ key) in
     at ∙ ap (λ (x : MarkKey). Some (x, e.1)) same
 
@@ -106,7 +108,7 @@ module _ (counts : Counts) (ordered : InOrder counts) (v : ℕ) where
 
   pub split_at_key : (i : ℕ) → IsKeyAt counts (mark_key v 0) i → SplitsAt counts (v + 1) i
   split_at_key i key =
-      let within : i < length counts = subst (λ n. i < n) (length-keys_of counts) (slice_get_within (keys_of counts) i (mark_key v 0) key) in
+      let within = key_within counts i (mark_key v 0) key in
       let d : MarkKey × ℕ = (mark_key v 0, 0) in
       let at = slice_get-get_or counts i d within in
       let same : (get_or counts i d).0 ≡ mark_key v 0 = same_Some (get_or counts i d).0 (mark_key v 0) (sym (key_at counts i (get_or counts i d) at) ∙ key) in
@@ -143,33 +145,55 @@ split_at_end counts ordered first e last low = record {
   );
 }
 
--- Another count for the key at an index.
-module _ (counts : Counts) (ordered : InOrder counts) (i : ℕ) (k : MarkKey) (e : MarkKey × ℕ) (key : IsKeyAt counts k i) (read : e ≡ get_or counts i e) where
-  at_place : slice_get counts i ≡ Some (k, e.1)
-  at_place = entry_is counts i k e key read
+-- Entries that are kept, `items`, and as they are seen, `now`: the key stands at the index.
+module _ (items now : Counts) (seen : items ≡ now) (ordered : InOrder items) (v j i : ℕ) (e : MarkKey × ℕ) (read : e ≡ get_or items i e) (key : IsKeyAt now (mark_key v j) i) where
+  at_place : slice_get items i ≡ Some (mark_key v j, e.1)
+  at_place = entry_is items i (mark_key v j) e (subst (λ (t : Counts). IsKeyAt t (mark_key v j) i) (sym seen) key) read
 
-  own : k ≡ e.0
-  own =
-      let within : i < length counts = slice_get_within counts i (k, e.1) at_place in
-      ap (λ (x : MarkKey × ℕ). x.0) (same_Some (k, e.1) e (sym at_place ∙ slice_get_read counts (length counts) i e refl within read))
+  own : mark_key v j ≡ e.0
+  own = ap (λ (x : MarkKey × ℕ). x.0) (same_Some (mark_key v j, e.1) e (sym at_place ∙ read_at items i e (slice_get_within items i (mark_key v j, e.1) at_place) read))
 
-  pub count_is : mark_of counts k.0.0 k.1 ≡ e.1
-  count_is = mark_at counts ordered i k e.1 at_place
+  count_is : mark_of items v j ≡ e.1
+  count_is = mark_at items ordered i (mark_key v j) e.1 at_place
 
-  pub rewritten : (w : ℕ) (q : MarkKey) → lookup (is_at (mark_cmp q)) (set counts i (e.0, w)) ≡ cond (is_at (mark_cmp k) q) (Some w) (lookup (is_at (mark_cmp q)) counts)
+  pub marks_there : mark_of now v j ≡ e.1
+  marks_there = subst (λ (t : Counts). mark_of t v j ≡ e.1) seen count_is
+
+  -- Another count is written there.
+  rewritten : (w : ℕ) (q : MarkKey) → lookup (is_at (mark_cmp q)) (set items i (e.0, w)) ≡ cond (is_at (mark_cmp (mark_key v j)) q) (Some w) (lookup (is_at (mark_cmp q)) items)
   rewritten w q =
-      ap (λ (x : MarkKey). lookup (is_at (mark_cmp q)) (set counts i (x, w))) (sym own) ∙ written counts i k e.1 w ordered at_place q
+      ap (λ (x : MarkKey). lookup (is_at (mark_cmp q)) (set items i (x, w))) (sym own) ∙ written items i (mark_key v j) e.1 w ordered at_place q
 
-  pub rewritten_in_order : (w : ℕ) → InOrder (set counts i (e.0, w))
-  rewritten_in_order w = subst (λ (x : MarkKey). InOrder (set counts i (x, w))) own (still_in_order counts i k e.1 w ordered at_place)
+  pub rewritten_in_order : (w : ℕ) → InOrder (set items i (e.0, w))
+  rewritten_in_order w = subst (λ (x : MarkKey). InOrder (set items i (x, w))) own (still_in_order items i (mark_key v j) e.1 w ordered at_place)
 
--- A new entry where its key belongs.
-module _ (counts : Counts) (ordered : InOrder counts) (i : ℕ) (k : MarkKey) (place : BelongsAt counts k i) (w : ℕ) where
-  pub entered : (q : MarkKey) → lookup (is_at (mark_cmp q)) (insert counts i (k, w)) ≡ cond (is_at (mark_cmp k) q) (Some w) (lookup (is_at (mark_cmp q)) counts)
-  entered q = inserted counts i k w (absent counts ordered k i place) q
+  pub raised : (count : ℕ) → HaveMore now (set items i (e.0, e.1 + count)) v j count
+  raised count =
+      subst (λ (t : Counts). HaveMore t (set items i (e.0, e.1 + count)) v j count) seen
+      (added items (set items i (e.0, e.1 + count)) v j (Some (e.1 + count)) (rewritten (e.1 + count)) count (omega (arith, count_is)))
 
-  pub entered_in_order : InOrder (insert counts i (k, w))
-  entered_in_order = inserted_in_order counts i k w ordered (before_place counts ordered k i place) (from_place counts ordered k i place)
+  pub lowered : (count : ℕ) → count ≤ mark_of now v j → HaveMore (set items i (e.0, e.1 - count)) now v j count
+  lowered count enough =
+      subst (λ (t : Counts). HaveMore (set items i (e.0, e.1 - count)) t v j count) seen
+      (taken items (set items i (e.0, e.1 - count)) v j (Some (e.1 - count)) (rewritten (e.1 - count)) count (omega (arith, count_is, marks_there, enough)))
 
-  pub none_before : mark_of counts k.0.0 k.1 ≡ 0
-  none_before = ap (λ (o : Option ℕ). unwrap_or o 0) (absent counts ordered k i place)
+-- The same entries, where the key belongs at the index: a new entry is put in there.
+module _ (items now : Counts) (seen : items ≡ now) (ordered : InOrder items) (v j i : ℕ) (place : BelongsAt now (mark_key v j) i) where
+  stored : BelongsAt items (mark_key v j) i
+  stored = subst (λ (t : Counts). BelongsAt t (mark_key v j) i) (sym seen) place
+
+  missing : lookup (is_at (mark_cmp (mark_key v j))) items ≡ None
+  missing = absent items ordered (mark_key v j) i stored
+
+  pub no_marks : mark_of now v j ≡ 0
+  no_marks = subst (λ (t : Counts). mark_of t v j ≡ 0) seen (ap (λ (o : Option ℕ). unwrap_or o 0) missing)
+
+  pub entered_in_order : (count : ℕ) → InOrder (insert items i (mark_key v j, count))
+  entered_in_order count =
+      inserted_in_order items i (mark_key v j) count ordered (before_place items ordered (mark_key v j) i stored) (from_place items ordered (mark_key v j) i stored)
+
+  pub entered : (count : ℕ) → HaveMore now (insert items i (mark_key v j, count)) v j count
+  entered count =
+      subst (λ (t : Counts). HaveMore t (insert items i (mark_key v j, count)) v j count) seen
+      (added items (insert items i (mark_key v j, count)) v j (Some count) (inserted items i (mark_key v j) count missing) count
+      (let none = ap (λ (o : Option ℕ). unwrap_or o 0) missing in omega (arith, none)))

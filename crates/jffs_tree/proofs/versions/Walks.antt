@@ -1,8 +1,8 @@
 -- Walks over the entries from a place on: what is known when they stop.
-use Rattle.std.proofs.Common.{◌≡◌, ◌≢◌, ℕ, suc, ◌+◌, ◌<◌, ◌≤◌, ◌∷◌, length, drop, get_or, slice_get, Some, refl, sym, ap, subst, ◌∙◌, ⊎_elim, arith}
+use Rattle.std.proofs.Common.{◌≡◌, ◌≢◌, ℕ, suc, ◌+◌, ◌-◌, ◌<◌, ◌≤◌, ◌∷◌, length, drop, slice_get, Some, refl, sym, ap, subst, ◌∙◌, ⊎_elim, arith}
 use Rattle.std.specs.Ordering.{is_gt}
 use Rattle.std.proofs.lemmas.Bool.{cases_lt}
-use Rattle.std.proofs.lemmas.Option.{same_Some, slice_get_within, slice_get_read, get_or_from_slice_get}
+use Rattle.std.proofs.lemmas.Option.{same_Some, slice_get_within, get_or_from_slice_get}
 use Rattle.std.proofs.Math.Seq.{drop-cons}
 use Rattle.jffs_tree.specs.Marks.{MarkKey, Counts, mark_key, mark_of, SplitsAt}
 use Rattle.jffs_tree.proofs.versions.Marking.{mark_second, zero_or_more}
@@ -14,10 +14,6 @@ module _ (counts : Counts) (first i : ℕ) (split : SplitsAt counts first i) whe
 
   pub old_at : (j : ℕ) (e : MarkKey × ℕ) → slice_get counts j ≡ Some e → i ≤ j → e.0.0.0 < first
   old_at j e is l = subst (λ (x : MarkKey × ℕ). x.0.0.0 < first) (get_or_from_slice_get counts j e e is) (split.parts.1 j e l (slice_get_within counts j e is))
-
--- the element that was read at an index
-pub read_at : (counts : Counts) (i : ℕ) (e : MarkKey × ℕ) → i < length counts → e ≡ get_or counts i e → slice_get counts i ≡ Some e
-read_at counts i e within read = slice_get_read counts (length counts) i e refl within read
 
 pub drop_at : (counts : Counts) (i : ℕ) (e : MarkKey × ℕ) → slice_get counts i ≡ Some e → drop i counts ≡ e ∷ drop (i + 1) counts
 drop_at counts i e is =
@@ -47,30 +43,30 @@ from_split counts first i split = record {
   spent = λ j e is l low. let old = old_at counts first i split j e is l in absurd (omega (arith, old, low));
 }
 
-module _ (counts : Counts) (ordered : InOrder counts) (first n i : ℕ) (next : i + 1 ≡ n) (e : MarkKey × ℕ) (is : slice_get counts i ≡ Some e) (walk : AreSpentFrom counts first n) where
-  pub one_spent : e.1 ≡ 0 → AreSpentFrom counts first i
+module _ (counts : Counts) (ordered : InOrder counts) (first n : ℕ) (some : 0 < n) (e : MarkKey × ℕ) (is : slice_get counts (n - 1) ≡ Some e) (walk : AreSpentFrom counts first n) where
+  pub one_spent : e.1 ≡ 0 → AreSpentFrom counts first (n - 1)
   one_spent none = record {
-    within = let w = walk.within in omega (arith, w, next);
-    newer = λ j x at l. walk.newer j x at (omega (arith, l, next));
+    within = let w = walk.within in omega (arith, w);
+    newer = λ j x at l. walk.newer j x at (omega (arith, l));
     spent = λ j x at l low. ⊎_elim
-        (λ here. let same : j ≡ i = omega (arith, here, l, next) in
+        (λ here. let same : j ≡ n - 1 = omega (arith, here, l) in
         ap (λ (y : MarkKey × ℕ). y.1) (same_Some x e (sym at ∙ ap (λ k. slice_get counts k) same ∙ is)) ∙ none)
         (λ further. walk.spent j x at further low)
         (cases_lt j n);
   }
 
   pub is_new : first ≤ e.0.0.0
-  is_new = walk.newer i e is (omega (arith, next))
+  is_new = walk.newer (n - 1) e is (omega (arith, some))
 
   -- the version of the entry is the least that may have marks
   pub none_older : (w j : ℕ) → first ≤ w → w < e.0.0.0 → mark_of counts w j ≡ 0
   none_older w j low less = none_of counts ordered w j (λ k at. ⊎_elim
       (λ newer. absurd (⊎_elim
-      (λ newest. let l = no_newer counts ordered k i (mark_key w j, mark_of counts w j) e at is newest in omega (arith, l, less))
-      (λ here. let same : k ≡ i = omega (arith, here, newer, next) in
+      (λ newest. let l = no_newer counts ordered k (n - 1) (mark_key w j, mark_of counts w j) e at is newest in omega (arith, l, less))
+      (λ here. let same : k ≡ n - 1 = omega (arith, here, newer) in
       let own = ap (λ (y : MarkKey × ℕ). y.0.0.0) (same_Some (mark_key w j, mark_of counts w j) e (sym at ∙ ap (λ k. slice_get counts k) same ∙ is)) in
       omega (arith, own, less))
-      (cases_lt k i)))
+      (cases_lt k (n - 1))))
       (λ further. walk.spent k (mark_key w j, mark_of counts w j) at further low)
       (cases_lt k n))
 

@@ -1,60 +1,44 @@
-use Rattle.std.proofs.Common.{◌≡◌, ◌<◌, ◌∙◌, ℕ, length, get_or, subst, ap, arith}
-use Rattle.jffs_tree.specs.Marks.{MarkKey, Counts, mark_of}
-use Rattle.jffs_tree.proofs.versions.Places.{InOrder, mark_at}
-use Rattle.jffs_tree.proofs.versions.Walks.{read_at, to_split, none_there, is_least, spent_too, none_to}
+use Rattle.std.proofs.Common.{◌≡◌, ◌<◌, length, get_or, slice_get, Some, subst, ap, arith}
+use Rattle.jffs_tree.specs.Marks.{Counts, mark_of}
+use Rattle.jffs_tree.proofs.versions.Places.{InOrder, read_at, mark_at}
+use Rattle.jffs_tree.proofs.versions.Walks.{to_split, none_there, is_least, spent_too, none_to}
 use Rattle.jffs_tree.proofs.marks.Marks.holder.Goals as goal
+use Rattle.jffs_tree.proofs.marks.Marks.holder.Goals.{At-loop-index, After-index}
+
+ordered : (c : At-loop-index) → InOrder c.args.self.now
+ordered c = subst InOrder c.self.view_is c.self.invariant.ordered
+
+-- The entry that was read stands at the loop's index.
+read : (c : After-index) → slice_get c.args.self.now c.loop-index.index ≡ Some c.index.result.now
+read c =
+    read_at c.args.self.now c.loop-index.index c.index.result.now (omega (arith, ap length c.self.view_is))
+    (subst (λ (t : Counts). c.index.result.now ≡ get_or t c.loop-index.index c.index.result.now) c.self.view_is c.index.ensures)
 
 pub loop-index-init : goal.loop-index-init
 loop-index-init c = to_split c.args.self.now c.args.version c.start-index.result c.start-index.ensures
 
 pub returns-then-key-version-clause-none : goal.returns-then-key-version-clause-none
 returns-then-key-version-clause-none c =
-    let all = c.args.self.now in
-    let ordered = subst (λ (t : Counts). InOrder t) c.self.view_is c.self.invariant.ordered in
-    let entry : MarkKey × ℕ = c.index.result.now in
-    let i = c.loop-index.index in
-    let long : c.len-index-end.result ≡ length all = c.len-index-end.ensures ∙ c.self.inside.counts.ok.0 ∙ ap (λ (t : Counts). length t) c.self.view_is in
-    let within : i < length all = omega (arith, c.loop-index-test.true, long) in
-    let at = read_at all i entry within (subst (λ (t : Counts). entry ≡ get_or t i entry) c.self.view_is c.index.ensures) in
-    none_there all ordered c.args.version i entry at c.loop-index.invariant c.if-key-version.true
+    let here = goal.at.returns-then-key-version-clause-none c in
+    none_there _ (ordered here.At-loop-index) _ _ c.index.result.now (read here.After-index) c.loop-index.invariant c.if-key-version.true
 
 pub returns-then-count-gt0-clause-there : goal.returns-then-count-gt0-clause-there
 returns-then-count-gt0-clause-there c =
-    let all = c.args.self.now in
-    let ordered = subst (λ (t : Counts). InOrder t) c.self.view_is c.self.invariant.ordered in
-    let entry : MarkKey × ℕ = c.index.result.now in
-    let i = c.loop-index.index in
-    let long : c.len-index-end.result ≡ length all = c.len-index-end.ensures ∙ c.self.inside.counts.ok.0 ∙ ap (λ (t : Counts). length t) c.self.view_is in
-    let within : i < length all = omega (arith, c.loop-index-test.true, long) in
-    let at = read_at all i entry within (subst (λ (t : Counts). entry ≡ get_or t i entry) c.self.view_is c.index.ensures) in
-    let marks = mark_at all ordered i entry.0 entry.1 at in
-    subst (λ v. 0 < mark_of all v entry.0.1) c.if-key-version.false (omega (arith, marks, c.if-count-gt0.true))
+    let here = goal.at.returns-then-count-gt0-clause-there c in
+    let entry = c.index.result.now in
+    let marks = mark_at _ (ordered here.At-loop-index) _ entry.0 entry.1 (read here.After-index) in
+    subst (λ v. 0 < mark_of c.args.self.now v entry.0.1) c.if-key-version.false (omega (arith, marks, c.if-count-gt0.true))
 
 pub returns-then-count-gt0-clause-least : goal.returns-then-count-gt0-clause-least
 returns-then-count-gt0-clause-least c =
-    let all = c.args.self.now in
-    let ordered = subst (λ (t : Counts). InOrder t) c.self.view_is c.self.invariant.ordered in
-    let entry : MarkKey × ℕ = c.index.result.now in
-    let i = c.loop-index.index in
-    let long : c.len-index-end.result ≡ length all = c.len-index-end.ensures ∙ c.self.inside.counts.ok.0 ∙ ap (λ (t : Counts). length t) c.self.view_is in
-    let within : i < length all = omega (arith, c.loop-index-test.true, long) in
-    let at = read_at all i entry within (subst (λ (t : Counts). entry ≡ get_or t i entry) c.self.view_is c.index.ensures) in
-    is_least all ordered c.args.version i entry at c.loop-index.invariant c.if-key-version.false
+    let here = goal.at.returns-then-count-gt0-clause-least c in
+    is_least _ (ordered here.At-loop-index) _ _ c.index.result.now (read here.After-index) c.loop-index.invariant c.if-key-version.false
 
 pub loop-index-preserved : goal.loop-index-preserved
 loop-index-preserved c =
-    let all = c.args.self.now in
-    let ordered = subst (λ (t : Counts). InOrder t) c.self.view_is c.self.invariant.ordered in
-    let entry : MarkKey × ℕ = c.index.result.now in
-    let i = c.loop-index.index in
-    let long : c.len-index-end.result ≡ length all = c.len-index-end.ensures ∙ c.self.inside.counts.ok.0 ∙ ap (λ (t : Counts). length t) c.self.view_is in
-    let within : i < length all = omega (arith, c.loop-index-test.true, long) in
-    let at = read_at all i entry within (subst (λ (t : Counts). entry ≡ get_or t i entry) c.self.view_is c.index.ensures) in
-    spent_too all ordered c.args.version i entry at c.loop-index.invariant (omega (arith, c.if-count-gt0.false))
+    let here = goal.at.loop-index-preserved c in
+    spent_too _ (ordered here.At-loop-index) _ _ c.index.result.now (read here.After-index) c.loop-index.invariant (omega (arith, c.if-count-gt0.false))
 
 pub returns-clause-none : goal.returns-clause-none
 returns-clause-none c =
-    let all = c.args.self.now in
-    let ordered = subst (λ (t : Counts). InOrder t) c.self.view_is c.self.invariant.ordered in
-    let long : c.len-index-end.result ≡ length all = c.len-index-end.ensures ∙ c.self.inside.counts.ok.0 ∙ ap (λ (t : Counts). length t) c.self.view_is in
-    none_to all ordered c.args.version c.loop-index.index (omega (arith, c.loop-index-test.false, long)) c.loop-index.invariant
+    none_to _ (ordered (goal.at.returns-clause-none c).At-loop-index) _ _ (omega (arith, ap length c.self.view_is)) c.loop-index.invariant

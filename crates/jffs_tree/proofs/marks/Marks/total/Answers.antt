@@ -1,7 +1,7 @@
 use Rattle.std.proofs.Common.{◌≡◌, ◌+◌, ◌<◌, ◌∙◌, ℕ, min, drop, length, get_or, ap, subst, arith}
 use Rattle.jffs_tree.specs.Marks.{MarkKey, Counts, marks_of}
-use Rattle.jffs_tree.proofs.versions.Places.{InOrder}
-use Rattle.jffs_tree.proofs.versions.Walks.{read_at, drop_at}
+use Rattle.jffs_tree.proofs.versions.Places.{InOrder, read_at}
+use Rattle.jffs_tree.proofs.versions.Walks.{drop_at}
 use Rattle.jffs_tree.proofs.versions.Totals.{split_from, same_marks, none_left, whole}
 use Rattle.jffs_tree.proofs.marks.Marks.total.Goals as goal
 

@@ -34,7 +34,6 @@ pub(crate) struct Labels {
 }
 
 /// What a header says besides its numbers, or the first rule on it that is broken.
-#[tactic(none)]
 pub(crate) fn labels_of(rest: &[u8]) -> Result<Labels, Why>
     requires { HEADER_LEN ≤ length rest.now }
     ensures { result ≡ labels_or_why rest.now (first_broken (label_rules rest.now)) }

@@ -1,12 +1,12 @@
 -- What is found at an offset, by its parts.
-use Rattle.std.proofs.Common.{◌≡◌, ℕ, ◌^◌, ◌≤◌, ◌<◌, Fits, w8, w32, arith, Bool, true, false, cond, not, ◌||◌, ltb, eqb, List, length, drop, get_or, Option, Some, None, Ok, Err, refl, sym, ap, subst, ◌∙◌}
+use Rattle.std.proofs.Common.{◌≡◌, ℕ, ◌^◌, ◌≤◌, ◌<◌, Fits, w8, w32, arith, Bool, true, cond, not, ◌||◌, ltb, eqb, List, length, drop, get_or, Option, Some, None, Ok, Err, refl, sym, ap, subst, ◌∙◌}
 use Rattle.jffs_node.specs.declared.read.Why.{Why}
 use Rattle.jffs_node.specs.declared.read.Read.{Read}
 use Rattle.jffs_node.specs.declared.read.Read.TheVariants.{Closed, Free, Torn, Bad}
 use Rattle.jffs_node.specs.declared.header.Head.{Head}
 use Rattle.jffs_node.specs.Laws.{IsClosedExactly}
 use Rattle.jffs_node.specs.Reading.{rules, broken_rule, byte_at, data_len, data_at, node_at, is_erased, closed_or_bad, found}
-use Rattle.std.proofs.lemmas.Bool.{and_parts, or_parts, ltb-false, not-true, not-false}
+use Rattle.std.proofs.lemmas.Bool.{and_parts, not-true}
 use Rattle.jffs_node.specs.Record.{numbers_hold, fits_rest, len_of_data, record_len, BeginsWith}
 use Rattle.jffs_node.specs.Header.{head_at, head_or_why}
 use Rattle.jffs_node.proofs.Found.{records_are_found}
@@ -48,14 +48,6 @@ head_refused rest None w h = absurd (ok_differs w (head_at rest) (sym h))
 head_refused rest (Some v) w h = ap (λ x. Some x) (sym (err_same {A = Head} v w h))
 
 -- What is found, by its parts.
-
--- a closed gate stands after a whole header
-pub closed_long : (rest : List ℕ) (closed : Bool) → closed ≡ not (ltb (length rest) 64 || not (eqb (byte_at 7 rest) 0)) → closed ≡ true → 64 ≤ length rest
-closed_long rest closed e h = ltb-false (length rest) 64 (or_parts (ltb (length rest) 64) (not (eqb (byte_at 7 rest) 0)) (not-true _ (sym e ∙ h))).0
-
-pub found_without : (rest : List ℕ) (record_max : ℕ) (closed : Bool) → closed ≡ not (ltb (length rest) 64 || not (eqb (byte_at 7 rest) 0)) → closed ≡ false
-    → cond (is_erased rest) Free Torn ≡ found record_max rest
-found_without rest record_max closed e h = ap (λ t. cond t (cond (is_erased rest) Free Torn) (closed_or_bad rest (broken_rule record_max rest))) (sym (not-false _ (sym e ∙ h)))
 
 pub found_with : (rest : List ℕ) (record_max : ℕ) (closed : Bool) (o : Option Why) → closed ≡ not (ltb (length rest) 64 || not (eqb (byte_at 7 rest) 0)) → closed ≡ true
     → broken_rule record_max rest ≡ o → closed_or_bad rest o ≡ found record_max rest

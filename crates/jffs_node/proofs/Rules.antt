@@ -27,7 +27,7 @@ rule_holds true w x y h = (refl, ok_same y x h)
 rule_holds false w x y h = absurd (ok_differs w y h)
 
 -- the rule that doesn't hold
-pub rule_broken : {A : Type 0} (b : Bool) (w e : Why) (x : A) → Err e ≡ checked b w x → (b ≡ false) × (e ≡ w)
+rule_broken : {A : Type 0} (b : Bool) (w e : Why) (x : A) → Err e ≡ checked b w x → (b ≡ false) × (e ≡ w)
 rule_broken true w e x h = absurd (ok_differs e x (sym h))
 rule_broken {A} false w e x h = (refl, err_same {A = A} w e h)
 
@@ -36,8 +36,15 @@ pub first_later : (front later : List (Bool × Why)) → AllByRecursion (λ r. r
 first_later [] later h = refl
 first_later (rule ∷ front) later h = ap (λ t. cond t (first_broken (front ++ later)) (Some rule.1)) h.0 ∙ first_later front later h.1
 
-pub broken_after : (front later : List (Bool × Why)) (b : Bool) (w : Why) → AllByRecursion (λ r. r.0 ≡ true) front → b ≡ false → first_broken (front ++ (b, w) ∷ later) ≡ Some w
+broken_after : (front later : List (Bool × Why)) (b : Bool) (w : Why) → AllByRecursion (λ r. r.0 ≡ true) front → b ≡ false → first_broken (front ++ (b, w) ∷ later) ≡ Some w
 broken_after front later b w h e = first_later front ((b, w) ∷ later) h ∙ ap (λ t. cond t (first_broken later) (Some w)) e
+
+-- Where a rule is broken and those before it hold, it is the one that is given.
+pub refused : {A B : Type 0} (given : Option Why → Result B Why) (front later : List (Bool × Why)) (b : Bool) (w e : Why) (x : A) (o : Option Why) (r : Result B Why)
+    → o ≡ first_broken (front ++ (b, w) ∷ later) → AllByRecursion (λ rule. rule.0 ≡ true) front → Err e ≡ checked b w x → (v : Why) × (r ≡ Err v) × (v ≡ e) → given (Some w) ≡ Err w → r ≡ given o
+refused given front later b w e x o r others hold broke is told =
+    let q = rule_broken b w e x broke in
+    is.1 ∙ ap (λ v. Err v) (is.2 ∙ q.1) ∙ sym (ap given (others ∙ broken_after front later b w hold q.0) ∙ told)
 
 pub broken_front : (front later : List (Bool × Why)) (w : Why) → first_broken front ≡ Some w → first_broken (front ++ later) ≡ Some w
 broken_front [] later w h = absurd (none-some w h)

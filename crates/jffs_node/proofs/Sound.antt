@@ -165,7 +165,7 @@ module _ (rest : List ℕ) (record_max : ℕ) (bytes : (i : ℕ) → get_or rest
   name_whole =
       let l : length (drop (byte_at 6 rest) (name_field rest)) ≡ 20 - length (name_at rest) = (let d = length-drop (byte_at 6 rest) (name_field rest) in let f = field_len in let n = name_len in omega arith) in
       sym (take-append-drop (byte_at 6 rest) (name_field rest))
-      ∙ ap (λ (xs : List ℕ). name_at rest ++ xs) (only 0 (drop (byte_at 6 rest) (name_field rest)) name_rule.1 ∙ ap (λ k. replicate k 0) l)
+      ∙ ap (λ (xs : List ℕ). name_at rest ++ xs) {y = replicate (20 - length (name_at rest)) 0} (only 0 (drop (byte_at 6 rest) (name_field rest)) name_rule.1 ∙ ap (λ k. replicate k 0) l)
       ∙ ap padded_name (sym named)
 
   flags_rule : (byte_at 5 rest < 3) × ((not (is_unmount (node_at rest).kind) || eqb (byte_at 5 rest) 0) ≡ true)

@@ -22,7 +22,6 @@ use std::alloc::Global;
 /// memory.
 ///
 /// `NoMemory` if allocation failed for the data of a closed record.
-#[tactic(none)]
 pub fn decode(alloc: Global, rest: &[u8], record_max: u32) -> Result<Read, NoMemory>
     ensures read { IfOk result (λ read. read ≡ found record_max rest.now) }
     ensures closed { IfOk result (λ read. IsClosedExactly record_max rest.now read) }
@@ -79,7 +78,6 @@ fn with_data(alloc: Global, rest: &[u8], head: Head) -> Result<Read, NoMemory>
 }
 
 /// The head of a closed record, or the first rule that the record breaks.
-#[tactic(none)]
 pub(crate) fn head_of(rest: &[u8], record_max: u32) -> Result<Head, Why>
     requires { HEADER_LEN ≤ length rest.now }
     ensures { result ≡ head_or_why rest.now (broken_rule record_max rest.now) }

@@ -31,7 +31,6 @@ pub fn decode_shared(sector: &Bytes, at: usize, record_max: u32) -> Result<Read,
 }
 
 /// What begins at position `at` of a sector, whose bytes from there on are `rest`.
-#[tactic(none)]
 fn decode_part(sector: &Bytes, at: usize, rest: &[u8], record_max: u32) -> Result<Read, NoMemory>
     requires inside { at ≤ length sector.now }
     requires rest { rest.now ≡ drop at sector.now }

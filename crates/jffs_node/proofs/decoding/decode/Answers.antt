@@ -1,55 +1,50 @@
-use Rattle.std.proofs.Common.{subst, ◌∙◌, arith}
+use Rattle.std.proofs.Common.{◌≡◌, ◌≤◌, length, subst, ◌∙◌, arith}
 use Rattle.std.proofs.lemmas.Result.{IfOk-weaker, IfErr-weaker}
-use Rattle.jffs_node.specs.Reading.{broken_rule}
+use Rattle.jffs_node.specs.declared.read.Read.TheVariants.{Closed, Bad}
+use Rattle.jffs_node.specs.Record.{len_of_data}
+use Rattle.jffs_node.specs.Reading.{broken_rule, data_len, node_at, found}
 use Rattle.jffs_node.specs.Header.{HasData}
-use Rattle.jffs_node.proofs.Decoded.{small, below, closed_long, found_without, bad_found, record_found, head_read, record_fits, closed_exactly}
+use Rattle.jffs_node.proofs.Decoded.{small, below, bad_found, record_found, head_read, record_fits, closed_exactly}
 use Rattle.jffs_node.proofs.decoding.decode.Goals as goal
+use Rattle.jffs_node.proofs.decoding.decode.Goals.{In-Ok, In-Err}
 
-pub head_of-requires : goal.head_of-requires
-head_of-requires c = closed_long c.args.rest.now c.is_closed.result c.is_closed.ensures c.if-not-is_closed.false
+-- The record of the head is no longer than allowed, and is there whole.
+fits : (c : In-Ok) → (len_of_data (data_len c.args.rest.now) ≤ c.args.record_max) × (len_of_data (data_len c.args.rest.now) ≤ length c.args.rest.now)
+fits c = record_fits c.args.rest.now c.args.record_max (head_read c.args.rest.now (broken_rule c.args.record_max c.args.rest.now) _ c.in-Ok.ensures).0
+
+record_is : (c : In-Ok) → Closed (node_at c.args.rest.now) (len_of_data (data_len c.args.rest.now)) ≡ found c.args.record_max c.args.rest.now
+record_is c = record_found c.args.rest.now c.args.record_max c.is_closed.result _ c.is_closed.ensures c.if-not-is_closed.false c.in-Ok.ensures
+
+bad_is : (c : In-Err) → Bad c.in-Err.why ≡ found c.args.record_max c.args.rest.now
+bad_is c = bad_found c.args.rest.now c.args.record_max c.is_closed.result _ c.is_closed.ensures c.if-not-is_closed.false c.in-Err.ensures
 
 pub with_data-requires-clause-head : goal.with_data-requires-clause-head
 with_data-requires-clause-head c = (head_read c.args.rest.now (broken_rule c.args.record_max c.args.rest.now) _ c.in-Ok.ensures).1
 
 pub with_data-requires-clause-fits : goal.with_data-requires-clause-fits
-with_data-requires-clause-fits c =
-    (record_fits c.args.rest.now c.args.record_max (head_read c.args.rest.now (broken_rule c.args.record_max c.args.rest.now) _ c.in-Ok.ensures).0).1
+with_data-requires-clause-fits c = (fits (goal.at.with_data-requires-clause-fits c).In-Ok).1
 
 pub with_data-requires-clause-short : goal.with_data-requires-clause-short
-with_data-requires-clause-short c =
-    below _ c.args.record_max
-    (record_fits c.args.rest.now c.args.record_max (head_read c.args.rest.now (broken_rule c.args.record_max c.args.rest.now) _ c.in-Ok.ensures).0).0
-    (omega (arith, c.ranges.record_max))
-
-pub returns-then-not-is_closed-clause-read : goal.returns-then-not-is_closed-clause-read
-returns-then-not-is_closed-clause-read c =
-    c.without_record.ensures ∙ found_without c.args.rest.now c.args.record_max c.is_closed.result c.is_closed.ensures c.if-not-is_closed.true
-
-pub returns-then-not-is_closed-clause-closed : goal.returns-then-not-is_closed-clause-closed
-returns-then-not-is_closed-clause-closed c =
-    closed_exactly c.args.rest.now c.args.record_max _ (λ i. small _ (c.type_inv.rest i))
-    (c.without_record.ensures ∙ found_without c.args.rest.now c.args.record_max c.is_closed.result c.is_closed.ensures c.if-not-is_closed.true)
+with_data-requires-clause-short c = below _ c.args.record_max (fits (goal.at.with_data-requires-clause-short c).In-Ok).0 (omega (arith, c.ranges.record_max))
 
 pub returns-in-Err-clause-read : goal.returns-in-Err-clause-read
-returns-in-Err-clause-read c =
-    bad_found c.args.rest.now c.args.record_max c.is_closed.result _ c.is_closed.ensures c.if-not-is_closed.false c.in-Err.ensures
+returns-in-Err-clause-read c = bad_is (goal.at.returns-in-Err-clause-read c).In-Err
 
 pub returns-in-Err-clause-closed : goal.returns-in-Err-clause-closed
 returns-in-Err-clause-closed c =
-    closed_exactly c.args.rest.now c.args.record_max _ (λ i. small _ (c.type_inv.rest i))
-    (bad_found c.args.rest.now c.args.record_max c.is_closed.result _ c.is_closed.ensures c.if-not-is_closed.false c.in-Err.ensures)
+    closed_exactly c.args.rest.now c.args.record_max _ (λ i. small _ (c.type_inv.rest i)) (bad_is (goal.at.returns-in-Err-clause-closed c).In-Err)
 
 pub returns-in-Ok-clause-read : goal.returns-in-Ok-clause-read
 returns-in-Ok-clause-read c =
-    let is = record_found c.args.rest.now c.args.record_max c.is_closed.result _ c.is_closed.ensures c.if-not-is_closed.false c.in-Ok.ensures in
+    let is = record_is (goal.at.returns-in-Ok-clause-read c).In-Ok in
     IfOk-weaker c.with_data.result _ _ (λ read e. e ∙ is) c.with_data.ensures.read
 
 pub returns-in-Ok-clause-closed : goal.returns-in-Ok-clause-closed
 returns-in-Ok-clause-closed c =
-    let is = record_found c.args.rest.now c.args.record_max c.is_closed.result _ c.is_closed.ensures c.if-not-is_closed.false c.in-Ok.ensures in
+    let is = record_is (goal.at.returns-in-Ok-clause-closed c).In-Ok in
     IfOk-weaker c.with_data.result _ _ (λ read e. closed_exactly c.args.rest.now c.args.record_max read (λ i. small _ (c.type_inv.rest i)) (e ∙ is)) c.with_data.ensures.read
 
 pub returns-in-Ok-clause-refused : goal.returns-in-Ok-clause-refused
 returns-in-Ok-clause-refused c =
-    let is = record_found c.args.rest.now c.args.record_max c.is_closed.result _ c.is_closed.ensures c.if-not-is_closed.false c.in-Ok.ensures in
+    let is = record_is (goal.at.returns-in-Ok-clause-refused c).In-Ok in
     IfErr-weaker c.with_data.result _ _ (λ e h. subst HasData is h) c.with_data.ensures.refused

@@ -86,7 +86,7 @@ last_before p (e ∷ es) t k f h = ⊎_elim
     taken more (x ∷ u) g =
         let rest : filter (begins_before p) es ≡ u ++ (k, f) ∷ [] = cc in
         let r = more u rest in
-        record { front = e ∷ r.front; back = r.back; whole = ap (λ y. e ∷ y) r.whole; later = r.later }
+        record { front = e ∷ r.front; back = r.back; whole = ap (λ y. e ∷ y) {y = r.front ++ (k, f) ∷ r.back} r.whole; later = r.later }
 
 -- ---- where fragments are cut
 pub cut_if_all_from : (p : ℕ) (es : Fragments) → AllFrom p es → AreCut p es

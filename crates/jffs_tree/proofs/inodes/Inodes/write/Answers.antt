@@ -9,6 +9,13 @@ use Rattle.jffs_tree.proofs.trees.InOrder.{found_in_order, in_order_ordered, one
 use Rattle.jffs_tree.proofs.versions.Marked.{moved_own}
 use Rattle.jffs_tree.proofs.trees.Written.{at_error}
 use Rattle.jffs_tree.proofs.inodes.Inodes.write.Goals as goal
+use Rattle.jffs_tree.proofs.inodes.Inodes.write.Goals.{In-Some}
+
+-- The tree holds what the look-up found.
+there : (c : In-Some) → held_in c.args.self.now c.args.node.now.inode ≡ Some c.in-Some.inode.now
+there c =
+    ap (λ (t : List (ℕ × Held)). held_in t c.args.node.now.inode) (sym c.self.view_is)
+    ∙ found_in_order c.args.node.now.inode c.self.inside.by_number.entries ∙ sym c.in-Some.ensures.value
 
 pub unreachable-requires : goal.unreachable-requires
 unreachable-requires c =
@@ -18,18 +25,10 @@ unreachable-requires c =
     search rules
 
 pub write-requires-clause-writable : goal.write-requires-clause-writable
-write-requires-clause-writable c =
-    let there : held_in c.args.self.now c.args.node.now.inode ≡ Some c.in-Some.inode.now =
-    ap (λ (t : List (ℕ × Held)). held_in t c.args.node.now.inode) (sym c.self.view_is)
-    ∙ found_in_order c.args.node.now.inode c.self.inside.by_number.entries ∙ sym c.in-Some.ensures.value in
-    search rules
+write-requires-clause-writable c = let held = there (goal.at.write-requires-clause-writable c).In-Some in search rules
 
 pub write-requires-clause-marked : goal.write-requires-clause-marked
-write-requires-clause-marked c =
-    let there : held_in c.args.self.now c.args.node.now.inode ≡ Some c.in-Some.inode.now =
-    ap (λ (t : List (ℕ × Held)). held_in t c.args.node.now.inode) (sym c.self.view_is)
-    ∙ found_in_order c.args.node.now.inode c.self.inside.by_number.entries ∙ sym c.in-Some.ensures.value in
-    search rules
+write-requires-clause-marked c = let held = there (goal.at.write-requires-clause-marked c).In-Some in search rules
 
 pub returns-in_err-write-clause-err : goal.returns-in_err-write-clause-err
 returns-in_err-write-clause-err c =
@@ -46,27 +45,19 @@ returns-in_err-write-clause-err c =
 pub returns-clause-ok : goal.returns-clause-ok
 returns-clause-ok c =
     let n = c.args.node.now in
-    let tree = c.args.self.now in
-    let old = c.self.inside.by_number.entries in
-    let there : held_in tree n.inode ≡ Some c.in-Some.inode.now =
-    ap (λ (t : List (ℕ × Held)). held_in t n.inode) (sym c.self.view_is) ∙ found_in_order n.inode old ∙ sym c.in-Some.ensures.value in
+    let new = (c.get_mut.follows.lender c.write.new.self).entries in
     let written = c.get_mut.follows.holds c.write.new.self in
-    let wrote : c.write.new.self ≡ held_after n (held_in tree n.inode) = c.in_ok-write.ensures.ok ∙ ap (held_after n) (sym there) in
-    let made : in_order (c.get_mut.follows.lender c.write.new.self).entries ≡ put_node tree n =
-    one_put old (c.get_mut.follows.lender c.write.new.self).entries n.inode c.write.new.self (written.3 (ap is_some (sym c.in-Some.ensures.value))).0
+    let wrote = c.in_ok-write.ensures.ok ∙ ap (held_after n) (sym (there (goal.at.returns-clause-ok c).In-Some)) in
+    let made : in_order new ≡ put_node c.args.self.now n =
+    one_put c.self.inside.by_number.entries new n.inode c.write.new.self (written.3 (ap is_some (sym c.in-Some.ensures.value))).0
     ∙ ap (λ (t : List (ℕ × Held)). with_inode t n.inode c.write.new.self) c.self.view_is
-    ∙ ap (λ (h : Held). with_inode tree n.inode h) wrote in
-    put_written tree (in_order (c.get_mut.follows.lender c.write.new.self).entries) n made (in_order_ordered (c.get_mut.follows.lender c.write.new.self).entries)
+    ∙ ap (λ (h : Held). with_inode c.args.self.now n.inode h) wrote in
+    put_written c.args.self.now (in_order new) n made (in_order_ordered new)
 
 pub returns-clause-marks : goal.returns-clause-marks
 returns-clause-marks c =
     let n = c.args.node.now in
-    let tree = c.args.self.now in
-    let old = c.self.inside.by_number.entries in
-    let there : held_in tree n.inode ≡ Some c.in-Some.inode.now =
-    ap (λ (t : List (ℕ × Held)). held_in t n.inode) (sym c.self.view_is) ∙ found_in_order n.inode old ∙ sym c.in-Some.ensures.value in
     let new = (c.get_mut.follows.lender c.write.new.self).entries in
-    let written = c.get_mut.follows.holds c.write.new.self in
-    moved_own tree n c.in-Some.inode.now there c.args.marks.now (in_order new) c.write.new.self c.write.new.marks
-    (found_in_order n.inode new ∙ (written.3 (ap is_some (sym c.in-Some.ensures.value))).1)
+    moved_own c.args.self.now n c.in-Some.inode.now (there (goal.at.returns-clause-marks c).In-Some) c.args.marks.now (in_order new) c.write.new.self c.write.new.marks
+    (found_in_order n.inode new ∙ ((c.get_mut.follows.holds c.write.new.self).3 (ap is_some (sym c.in-Some.ensures.value))).1)
     c.in_ok-write.ensures.marks

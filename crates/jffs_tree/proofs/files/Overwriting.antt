@@ -141,7 +141,7 @@ others_beside size p q es h low far = by_found (lookup (is_at (nat_cmp p)) es) r
     by_found None is l = all_early 0 size (p + 1) q es h (omega arith)
     by_found (Some f) is l =
         let here = found p f es is in
-        let parts = laid_parts 0 size here.front here.back p f (subst (AreLaid 0 size) here.whole h) in
+        let parts = laid_parts size here h in
         subst (Beside (p + 1) q) (sym here.whole)
         (each_append (λ e. (e.0 < p + 1) ⊎ (q ≤ e.0)) here.front ((p, f) ∷ here.back) (all_early 0 p (p + 1) q here.front parts.0 (omega arith))
         (inl (omega arith), all_late (p + length f.bytes) size (p + 1) q here.back parts.2 l))

@@ -11,14 +11,14 @@ use borrow.Rule.Slice.PartMut.{put_mid}
 use Rattle.jffs_node.proofs.Each.{each_append, each_front}
 use Rattle.jffs_tree.specs.declared.fragment.Fragment.{Fragment}
 use Rattle.jffs_tree.specs.Fragments.{Fragments, Cell, byte_of, writer_of, cells_of, end_of, laid, AreLaid, NoneHolds, Says, outside}
-use Rattle.jffs_tree.proofs.files.Fragments.{laid_bound, laid_append, length-laid}
+use Rattle.jffs_tree.proofs.files.Fragments.{blanks, length_cells, laid_bound, laid_append, length-laid}
 use Rattle.jffs_tree.proofs.files.Splitting.{AllFrom, LastBefore, found, laid_parts}
 use Rattle.jffs_tree.proofs.files.Taking.{drop_within}
 
 -- ---- where no fragment is
 pub none_holds_from : (p : ℕ) (es : Fragments) → AllFrom (p + 1) es → NoneHolds p es
 none_holds_from p [] h = tt
-none_holds_from p (e ∷ es) h = let low = h.0 in (inr (omega arith), none_holds_from p es h.1)
+none_holds_from p (e ∷ es) h = (inr (omega (arith, h.0)), none_holds_from p es h.1)
 
 none_holds_past : (at size p : ℕ) (es : Fragments) → AreLaid at size es → size ≤ p → NoneHolds p es
 none_holds_past at size p [] h l = tt
@@ -27,18 +27,15 @@ none_holds_past at size p (e ∷ es) h l = let b = laid_bound (end_of e) size es
 -- The last fragment that begins at p or before it ends there or before it: none holds p.
 pub held_by_last : (size p k : ℕ) (f : Fragment) (es : Fragments) → AreLaid 0 size es → LastBefore (p + 1) k f es → k + length f.bytes ≤ p → NoneHolds p es
 held_by_last size p k f es h l short =
-    let parts = laid_parts 0 size l.front l.back k f (subst (AreLaid 0 size) l.whole h) in
-    subst (NoneHolds p) (sym l.whole)
-    (each_append (λ e. (end_of e ≤ p) ⊎ (p < e.0)) l.front ((k, f) ∷ l.back) (none_holds_past 0 k p l.front parts.0 (omega arith)) (inl short, none_holds_from p l.back l.later))
+    subst (NoneHolds p) (sym l.at.whole)
+    (each_append (λ e. (end_of e ≤ p) ⊎ (p < e.0)) l.at.front ((k, f) ∷ l.at.back) (none_holds_past 0 k p l.at.front (laid_parts size l.at h).0 (omega arith)) (inl short, none_holds_from p l.at.back l.later))
 
 -- A fragment that begins at p or later, where none holds p, begins later.
 pub begins_later : (size p k : ℕ) (f : Fragment) (es : Fragments) → AreLaid 0 size es → NoneHolds p es → lookup (is_at (nat_cmp k)) es ≡ Some f → p ≤ k → p < k
 begins_later size p k f es h none is low =
     let at = found k f es is in
-    let parts = laid_parts 0 size at.front at.back k f (subst (AreLaid 0 size) at.whole h) in
     let split = each_front (λ e. (end_of e ≤ p) ⊎ (p < e.0)) at.front ((k, f) ∷ at.back) (subst (NoneHolds p) at.whole none) in
-    let some = parts.1 in
-    ⊎_elim (λ ends. omega arith) (λ later. later) split.1.0
+    ⊎_elim (λ ends. omega (arith, (laid_parts size at h).1)) (λ later. later) split.1.0
 
 -- no fragment holds an offset from p on and before r
 abbrev pub IsClear : ℕ → ℕ → Fragments → Type 0
@@ -98,7 +95,7 @@ pub record Beside (at : ℕ) (part : List Cell) (whole : List Cell) : Type 0 whe
 pub beside_fragment : (size k : ℕ) (f : Fragment) (es : Fragments) → AreLaid 0 size es → lookup (is_at (nat_cmp k)) es ≡ Some f → Beside k (cells_of f) (laid 0 size es)
 beside_fragment size k f es h is =
     let at = found k f es is in
-    let parts = laid_parts 0 size at.front at.back k f (subst (AreLaid 0 size) at.whole h) in
+    let parts = laid_parts size at h in
     let here : k ≤ k = omega arith in
     let gap : k - k ≡ 0 = omega arith in
     let n = length-laid 0 k at.front parts.0 in
@@ -107,56 +104,51 @@ beside_fragment size k f es h is =
       back = laid (k + length f.bytes) size at.back;
       parts = ap (laid 0 size) at.whole
           ∙ laid_append 0 k size at.front ((k, f) ∷ at.back) parts.0 (here, parts.1, parts.2)
-          ∙ ap (λ x. laid 0 k at.front ++ (replicate {A = Cell} x None ++ (cells_of f ++ laid (k + length f.bytes) size at.back))) gap;
+          ∙ ap (λ x. laid 0 k at.front ++ (blanks x ++ (cells_of f ++ laid (k + length f.bytes) size at.back))) gap;
       before = omega arith;
     }
 
-three_blanks : (a b c n : ℕ) → a + (b + c) ≡ n → replicate {A = Cell} n None ≡ replicate {A = Cell} a None ++ (replicate {A = Cell} b None ++ replicate {A = Cell} c None)
+three_blanks : (a b c n : ℕ) → a + (b + c) ≡ n → blanks n ≡ blanks a ++ (blanks b ++ blanks c)
 three_blanks a b c n e =
-    ap (λ k. replicate {A = Cell} k None) (sym e)
+    ap blanks (sym e)
     ∙ sym (replicate-append-replicate {A = Cell} a (b + c) None)
-    ∙ ap (λ x. replicate {A = Cell} a None ++ x) (sym (replicate-append-replicate {A = Cell} b c None))
+    ∙ ap (λ x. blanks a ++ x) (sym (replicate-append-replicate {A = Cell} b c None))
 
-pub beside_hole : (at size p r : ℕ) (es : Fragments) → AreLaid at size es → IsClear p r es → at ≤ p → p ≤ r → r ≤ size → Beside (p - at) (replicate {A = Cell} (r - p) None) (laid at size es)
+pub beside_hole : (at size p r : ℕ) (es : Fragments) → AreLaid at size es → IsClear p r es → at ≤ p → p ≤ r → r ≤ size → Beside (p - at) (blanks (r - p)) (laid at size es)
 beside_hole at size p r [] h clear low some high =
-    let n = length-replicate {A = Cell} (p - at) None in
     record {
-      front = replicate {A = Cell} (p - at) None;
-      back = replicate {A = Cell} (size - r) None;
+      front = blanks (p - at);
+      back = blanks (size - r);
       parts = three_blanks (p - at) (r - p) (size - r) (size - at) (omega arith);
-      before = n;
+      before = length-replicate {A = Cell} (p - at) None;
     }
 beside_hole at size p r (e ∷ es) h clear low some high = ⊎_elim
     (λ ends.
     let rest = beside_hole (end_of e) size p r es h.2 clear.1 ends some high in
-    let blank = replicate {A = Cell} (e.0 - at) None in
+    let blank = blanks (e.0 - at) in
     let n = length-append blank (cells_of e.1 ++ rest.front) in
     let m = length-append (cells_of e.1) rest.front in
     let o = length-replicate {A = Cell} (e.0 - at) None in
-    let q : length (cells_of e.1) ≡ length e.1.bytes = length-map e.1.bytes (λ (x : ℕ). Some (x, e.1.writer)) in
-    let first = h.0 in
-    let there = rest.before in
     record {
       front = blank ++ (cells_of e.1 ++ rest.front);
       back = rest.back;
       parts = ap (λ x. blank ++ (cells_of e.1 ++ x)) rest.parts
-          ∙ ap (λ x. blank ++ x) (sym (append_assoc (cells_of e.1) rest.front (replicate {A = Cell} (r - p) None ++ rest.back)))
-          ∙ sym (append_assoc blank (cells_of e.1 ++ rest.front) (replicate {A = Cell} (r - p) None ++ rest.back));
-      before = omega arith;
+          ∙ ap (λ x. blank ++ x) (sym (append_assoc (cells_of e.1) rest.front (blanks (r - p) ++ rest.back)))
+          ∙ sym (append_assoc blank (cells_of e.1 ++ rest.front) (blanks (r - p) ++ rest.back));
+      before = omega (arith, length_cells e.1, h.0, rest.before);
     })
     (λ begins.
     let rest = cells_of e.1 ++ laid (end_of e) size es in
-    let n = length-replicate {A = Cell} (p - at) None in
-    let a = replicate {A = Cell} (p - at) None in
-    let b = replicate {A = Cell} (r - p) None in
-    let c = replicate {A = Cell} (e.0 - r) None in
+    let a = blanks (p - at) in
+    let b = blanks (r - p) in
+    let c = blanks (e.0 - r) in
     record {
       front = a;
       back = c ++ rest;
       parts = ap (λ x. x ++ rest) (three_blanks (p - at) (r - p) (e.0 - r) (e.0 - at) (omega arith))
           ∙ append_assoc a (b ++ c) rest
           ∙ ap (λ x. a ++ x) (append_assoc b c rest);
-      before = n;
+      before = length-replicate {A = Cell} (p - at) None;
     })
     clear.0
 
@@ -172,7 +164,7 @@ bytes_of_cells : (v : ℕ) (bs : List ℕ) → map byte_of (map (λ b. Some (b, 
 bytes_of_cells v [] = refl
 bytes_of_cells v (b ∷ bs) = ap (λ x. b ∷ x) (bytes_of_cells v bs)
 
-bytes_of_blanks : (n : ℕ) → map byte_of (replicate {A = Cell} n None) ≡ replicate n 0
+bytes_of_blanks : (n : ℕ) → map byte_of (blanks n) ≡ replicate n 0
 bytes_of_blanks zero = refl
 bytes_of_blanks (suc n) = ap (λ x. 0 ∷ x) (bytes_of_blanks n)
 
@@ -229,7 +221,7 @@ says_hole at n es clear = λ size h fits.
     let m = length-map b.front byte_of in
     let gap : at + n - at ≡ n = omega arith in
     let whole : map byte_of (laid 0 size es) ≡ map byte_of b.front ++ (replicate n 0 ++ map byte_of b.back) =
-    bytes_parts b.front (replicate {A = Cell} (at + n - at) None) b.back (laid 0 size es) b.parts
+    bytes_parts b.front (blanks (at + n - at)) b.back (laid 0 size es) b.parts
     ∙ ap (λ (x : List ℕ). map byte_of b.front ++ (x ++ map byte_of b.back)) (bytes_of_blanks (at + n - at) ∙ ap (λ k. replicate k 0) gap) in
     part_stands (map byte_of (laid 0 size es)) (map byte_of b.front) (replicate n 0) (map byte_of b.back) at whole (omega arith)
 
@@ -251,7 +243,7 @@ one_writer front part back whole k at is n low high =
 pub writer_in_fragment : (size k at : ℕ) (f : Fragment) (es : Fragments) → AreLaid 0 size es → lookup (is_at (nat_cmp k)) es ≡ Some f → k ≤ at → at < k + length f.bytes → get_or (map writer_of (laid 0 size es)) at None ≡ Some f.writer
 writer_in_fragment size k at f es h is low high =
     let b = beside_fragment size k f es h is in
-    let n : length (cells_of f) ≡ length f.bytes = length-map f.bytes (λ (x : ℕ). Some (x, f.writer)) in
+    let n = length_cells f in
     one_writer b.front (cells_of f) b.back (laid 0 size es) k at b.parts b.before low (omega arith)
     ∙ ap (λ x. get_or x (at - k) None) (writers_of_cells f.writer f.bytes)
     ∙ get_or-replicate (length f.bytes) (at - k) (Some f.writer) None (omega arith)
@@ -259,14 +251,14 @@ writer_in_fragment size k at f es h is low high =
 pub writer_in_hole : (size at : ℕ) (es : Fragments) → AreLaid 0 size es → NoneHolds at es → at < size → get_or (map writer_of (laid 0 size es)) at None ≡ None
 writer_in_hole size at es h none inside =
     let b = beside_hole 0 size at (at + 1) es h (clear_here at es none) (omega arith) (omega arith) (omega arith) in
-    let part = replicate {A = Cell} (at + 1 - at) None in
+    let part = blanks (at + 1 - at) in
     let n = length-replicate {A = Cell} (at + 1 - at) None in
     let one : at + 1 - at ≡ 1 = omega arith in
     let start : at - at ≡ 0 = omega arith in
     let there = b.before in
     one_writer b.front part b.back (laid 0 size es) at at b.parts (omega arith) (omega arith) (omega arith)
-    ∙ ap (λ k. get_or (map writer_of (replicate {A = Cell} k None)) (at - at) None) one
-    ∙ ap (λ k. get_or (map writer_of (replicate {A = Cell} 1 None)) k None) start
+    ∙ ap (λ k. get_or (map writer_of (blanks k)) (at - at) None) one
+    ∙ ap (λ k. get_or (map writer_of (blanks 1)) k None) start
 
 pub writer_past : (size at : ℕ) (es : Fragments) → AreLaid 0 size es → size ≤ at → get_or (map writer_of (laid 0 size es)) at None ≡ None
 writer_past size at es h past =
@@ -286,12 +278,12 @@ written_cells v (b ∷ bs) rest = written_cells v bs rest
 pub gap_unwritten : (end size k : ℕ) (f : Fragment) (es : Fragments) → end < k → all_written (laid end size ((k, f) ∷ es)) ≡ false
 gap_unwritten end size k f es gap =
     let some : k - end ≡ suc (k - end - 1) = omega (arith, gap) in
-    ap (λ x. all_written (replicate {A = Cell} x None ++ (cells_of f ++ laid (k + length f.bytes) size es))) some
+    ap (λ x. all_written (blanks x ++ (cells_of f ++ laid (k + length f.bytes) size es))) some
 
 pub written_step : (end size k : ℕ) (f : Fragment) (es : Fragments) → k ≡ end → all_written (laid end size ((k, f) ∷ es)) ≡ all_written (laid (end + length f.bytes) size es)
 written_step end size k f es same =
     let gap : k - end ≡ 0 = omega arith in
-    ap (λ x. all_written (replicate {A = Cell} x None ++ (cells_of f ++ laid (k + length f.bytes) size es))) gap
+    ap (λ x. all_written (blanks x ++ (cells_of f ++ laid (k + length f.bytes) size es))) gap
     ∙ written_cells f.writer f.bytes (laid (k + length f.bytes) size es)
     ∙ ap (λ x. all_written (laid (x + length f.bytes) size es)) same
 

@@ -15,13 +15,17 @@ use Rattle.std.proofs.lemmas.List.{map-append, take-append-drop}
 use Rattle.std.specs.Cmp.{unsigned_tied}
 use Rattle.jffs_tree.specs.declared.fragment.Fragment.{Fragment}
 use Rattle.jffs_tree.specs.Fragments.{Fragments, Cell, cells_of, end_of, before, laid, AreLaid, AreCut, SameCells, part_by, amount_by}
-use Rattle.jffs_tree.proofs.files.Fragments.{are_laid_append, laid_append, laid_bound}
+use Rattle.jffs_tree.proofs.files.Fragments.{blanks, begins_within, are_laid_append, laid_append, laid_bound}
 
 -- where the fragment of a first offset stands
 pub record Found (k : ℕ) (f : Fragment) (es : Fragments) : Type 0 where
   pub front : Fragments
   pub back : Fragments
   pub whole : es ≡ front ++ (k, f) ∷ back
+
+-- behind one more
+abbrev one_on : {k : ℕ} {f : Fragment} {es : Fragments} (e : ℕ × Fragment) → Found k f es → Found k f (e ∷ es)
+one_on e r = record { front = e ∷ r.front; back = r.back; whole = ap (λ x. e ∷ x) r.whole }
 
 pub found : (k : ℕ) (f : Fragment) (es : Fragments) → lookup (is_at (nat_cmp k)) es ≡ Some f → Found k f es
 found k f [] is = absurd (none-some f is)
@@ -32,13 +36,16 @@ found k f (e ∷ es) is = ⊎_elim
     record { front = []; back = es; whole = ap (λ j. (j, e.1) ∷ es) (sym same) ∙ ap (λ x. (k, x) ∷ es) this })
     (λ apart.
     let r = found k f es (sym (ap (λ t. cond t (Some e.1) (lookup (is_at (nat_cmp k)) es)) apart) ∙ is) in
-    record { front = e ∷ r.front; back = r.back; whole = ap (λ x. e ∷ x) r.whole })
+    one_on e r)
     (cases_Bool (is_at (nat_cmp k) e.0))
 
 -- what stands before a fragment, and after it
-pub laid_parts : (at size : ℕ) (a b : Fragments) (k : ℕ) (f : Fragment) → AreLaid at size (a ++ (k, f) ∷ b) → AreLaid at k a × (0 < length f.bytes) × AreLaid (k + length f.bytes) size b
-laid_parts at size [] b k f h = (h.0, h.1, h.2)
-laid_parts at size (e ∷ a) b k f h = let r = laid_parts (end_of e) size a b k f h.2 in ((h.0, h.1, r.0), r.1, r.2)
+parts_around : (at size : ℕ) (a b : Fragments) (k : ℕ) (f : Fragment) → AreLaid at size (a ++ (k, f) ∷ b) → AreLaid at k a × (0 < length f.bytes) × AreLaid (k + length f.bytes) size b
+parts_around at size [] b k f h = (h.0, h.1, h.2)
+parts_around at size (e ∷ a) b k f h = let r = parts_around (end_of e) size a b k f h.2 in ((h.0, h.1, r.0), r.1, r.2)
+
+pub laid_parts : {k : ℕ} {f : Fragment} {es : Fragments} (size : ℕ) (at : Found k f es) → AreLaid 0 size es → AreLaid 0 k at.front × (0 < length f.bytes) × AreLaid (k + length f.bytes) size at.back
+laid_parts {k} {f} size at h = parts_around 0 size at.front at.back k f (subst (AreLaid 0 size) at.whole h)
 
 -- ---- the last fragment that begins before an offset
 abbrev pub begins_before : ℕ → (ℕ × Fragment) → Bool
@@ -63,10 +70,8 @@ at_or_before p es some = ap (λ q. before q es) (omega (arith, some))
 
 -- where the last of those stands: the others that stand after it begin later
 pub record LastBefore (p k : ℕ) (f : Fragment) (es : Fragments) : Type 0 where
-  pub front : Fragments
-  pub back : Fragments
-  pub whole : es ≡ front ++ (k, f) ∷ back
-  pub later : AllFrom p back
+  pub at : Found k f es
+  pub later : AllFrom p at.back
 
 pub last_before : (p : ℕ) (es t : Fragments) (k : ℕ) (f : Fragment) → filter (begins_before p) es ≡ t ++ (k, f) ∷ [] → LastBefore p k f es
 last_before p [] [] k f h = cc
@@ -75,18 +80,18 @@ last_before p (e ∷ es) t k f h = ⊎_elim
     (λ yes. taken (λ u g. last_before p es u k f g) t (sym (ap (λ b. cond b (e ∷ filter (begins_before p) es) (filter (begins_before p) es)) yes) ∙ h))
     (λ no.
     let r = last_before p es t k f (sym (ap (λ b. cond b (e ∷ filter (begins_before p) es) (filter (begins_before p) es)) no) ∙ h) in
-    record { front = e ∷ r.front; back = r.back; whole = ap (λ x. e ∷ x) r.whole; later = r.later })
+    record { at = one_on e r.at; later = r.later })
     (cases_Bool (begins_before p e))
   where
     taken : ((u : Fragments) → filter (begins_before p) es ≡ u ++ (k, f) ∷ [] → LastBefore p k f es) → (u : Fragments) → e ∷ filter (begins_before p) es ≡ u ++ (k, f) ∷ [] → LastBefore p k f (e ∷ es)
     taken more [] g =
         let this : e ≡ (k, f) = cc in
         let rest : filter (begins_before p) es ≡ [] = cc in
-        record { front = []; back = es; whole = ap (λ x. x ∷ es) this; later = none_begins_before p es rest }
+        record { at = record { front = []; back = es; whole = ap (λ x. x ∷ es) this }; later = none_begins_before p es rest }
     taken more (x ∷ u) g =
         let rest : filter (begins_before p) es ≡ u ++ (k, f) ∷ [] = cc in
         let r = more u rest in
-        record { front = e ∷ r.front; back = r.back; whole = ap (λ y. e ∷ y) {y = r.front ++ (k, f) ∷ r.back} r.whole; later = r.later }
+        record { at = one_on e r.at; later = r.later }
 
 -- ---- where fragments are cut
 pub cut_if_all_from : (p : ℕ) (es : Fragments) → AllFrom p es → AreCut p es
@@ -99,19 +104,16 @@ cut_past at size p (e ∷ es) h l = let b = laid_bound (end_of e) size es h.2 in
 
 pub all_later : (at size p : ℕ) (es : Fragments) → AreLaid at size es → p ≤ at → AllFrom p es
 all_later at size p [] h l = tt
-all_later at size p (e ∷ es) h l = let low = h.0 in (omega arith, all_later (end_of e) size p es h.2 (omega arith))
+all_later at size p (e ∷ es) h l = (omega (arith, h.0), all_later (end_of e) size p es h.2 (omega arith))
 
 -- The last fragment before p doesn't reach across it: none does.
 pub cut_by_last : (size p k : ℕ) (f : Fragment) (es : Fragments) → AreLaid 0 size es → LastBefore p k f es → k + length f.bytes ≤ p → AreCut p es
 cut_by_last size p k f es h l short =
-    let parts = laid_parts 0 size l.front l.back k f (subst (AreLaid 0 size) l.whole h) in
-    subst (AreCut p) (sym l.whole)
-    (each_append (λ e. (end_of e ≤ p) ⊎ (p ≤ e.0)) l.front ((k, f) ∷ l.back) (cut_past 0 k p l.front parts.0 (omega arith)) (inl short, cut_if_all_from p l.back l.later))
+    subst (AreCut p) (sym l.at.whole)
+    (each_append (λ e. (end_of e ≤ p) ⊎ (p ≤ e.0)) l.at.front ((k, f) ∷ l.at.back) (cut_past 0 k p l.at.front (laid_parts size l.at h).0 (omega arith)) (inl short, cut_if_all_from p l.at.back l.later))
 
 pub last_fits : (size p k : ℕ) (f : Fragment) (es : Fragments) → AreLaid 0 size es → LastBefore p k f es → k + length f.bytes ≤ size
-last_fits size p k f es h l =
-    let parts = laid_parts 0 size l.front l.back k f (subst (AreLaid 0 size) l.whole h) in
-    laid_bound (k + length f.bytes) size l.back parts.2
+last_fits size p k f es h l = laid_bound (k + length f.bytes) size l.at.back (laid_parts size l.at h).2
 
 -- A fragment that is found lies within the file, and no other reaches across its ends.
 pub record Whole (size k : ℕ) (f : Fragment) (es : Fragments) : Type 0 where
@@ -123,7 +125,7 @@ pub whole_there : (size k : ℕ) (f : Fragment) (es : Fragments) → AreLaid 0 s
 whole_there size k f es h is =
     let at = found k f es is in
     let end = k + length f.bytes in
-    let parts = laid_parts 0 size at.front at.back k f (subst (AreLaid 0 size) at.whole h) in
+    let parts = laid_parts size at h in
     let here : k ≤ k = omega arith in
     let low : k ≤ end = omega arith in
     let there : end ≤ end = omega arith in
@@ -146,22 +148,19 @@ less x y l = sym (nat_cmp_is x y Less l)
 
 put_first : (p : ℕ) (x : Fragment) (at size : ℕ) (b : Fragments) → p < at → AreLaid at size b → insert_entry nat_cmp b p x ≡ (p, x) ∷ b
 put_first p x at size [] l h = refl
-put_first p x at size (e ∷ b) l h = let low = h.0 in ap (λ (o : Ordering). match_ordering o ((p, x) ∷ e ∷ b) ((e.0, x) ∷ b) (e ∷ insert_entry nat_cmp b p x)) (less p e.0 (omega arith))
+put_first p x at size (e ∷ b) l h = ap (λ (o : Ordering). match_ordering o ((p, x) ∷ e ∷ b) ((e.0, x) ∷ b) (e ∷ insert_entry nat_cmp b p x)) (less p e.0 (omega (arith, h.0)))
 
 put_after : (p : ℕ) (x : Fragment) (at : ℕ) (k : ℕ) (f : Fragment) (a b : Fragments) → AreLaid at k a → k < p → insert_entry nat_cmp b p x ≡ (p, x) ∷ b → insert_entry nat_cmp (a ++ (k, f) ∷ b) p x ≡ a ++ (k, f) ∷ (p, x) ∷ b
 put_after p x at k f [] b h l is =
     ap (λ (o : Ordering). match_ordering o ((p, x) ∷ (k, f) ∷ b) ((k, x) ∷ b) ((k, f) ∷ insert_entry nat_cmp b p x)) (greater p k l) ∙ ap (λ y. (k, f) ∷ y) is
 put_after p x at k f (e ∷ a) b h l is =
-    let bound = laid_bound (end_of e) k a h.2 in
-    ap (λ (o : Ordering). match_ordering o ((p, x) ∷ e ∷ (a ++ (k, f) ∷ b)) ((e.0, x) ∷ (a ++ (k, f) ∷ b)) (e ∷ insert_entry nat_cmp (a ++ (k, f) ∷ b) p x)) (greater p e.0 (omega arith))
+    ap (λ (o : Ordering). match_ordering o ((p, x) ∷ e ∷ (a ++ (k, f) ∷ b)) ((e.0, x) ∷ (a ++ (k, f) ∷ b)) (e ∷ insert_entry nat_cmp (a ++ (k, f) ∷ b) p x)) (greater p e.0 (omega (arith, begins_within at k e a h)))
     ∙ ap (λ y. e ∷ y) (put_after p x (end_of e) k f a b h.2 l is)
 
 pub set_after : (k : ℕ) (f x : Fragment) (at : ℕ) (a b : Fragments) → AreLaid at k a → set_value (is_at (nat_cmp k)) (a ++ (k, f) ∷ b) x ≡ a ++ (k, x) ∷ b
 set_after k f x at [] b h = ap (λ t. cond t ((k, x) ∷ b) ((k, f) ∷ set_value (is_at (nat_cmp k)) b x)) (unsigned_tied k k ∙ eq-eqb k k refl)
 set_after k f x at (e ∷ a) b h =
-    let bound = laid_bound (end_of e) k a h.2 in
-    let some = h.1 in
-    ap (λ t. cond t ((e.0, x) ∷ (a ++ (k, f) ∷ b)) (e ∷ set_value (is_at (nat_cmp k)) (a ++ (k, f) ∷ b) x)) (unsigned_tied k e.0 ∙ ne_eqb k e.0 (λ same. omega arith))
+    ap (λ t. cond t ((e.0, x) ∷ (a ++ (k, f) ∷ b)) (e ∷ set_value (is_at (nat_cmp k)) (a ++ (k, f) ∷ b) x)) (unsigned_tied k e.0 ∙ ne_eqb k e.0 (λ same. omega (arith, begins_within at k e a h)))
     ∙ ap (λ y. e ∷ y) (set_after k f x (end_of e) a b h.2)
 
 pub amount_append : (v : ℕ) (a b : Fragments) → amount_by v (a ++ b) ≡ amount_by v a + amount_by v b
@@ -207,9 +206,9 @@ module _ (k p : ℕ) (f : Fragment) (low : k < p) (high : p < k + length f.bytes
       let m = length-drop (p - k) f.bytes in
       let e : p + length (drop (p - k) f.bytes) ≡ k + length f.bytes = omega arith in
       let gap : p - (k + length (take (p - k) f.bytes)) ≡ 0 = omega arith in
-      let start = replicate {A = Cell} (k - k) None in
+      let start = blanks (k - k) in
       let rest : replicate {A = Cell} (p - (k + length (take (p - k) f.bytes))) None ++ (cells_of right ++ laid (p + length (drop (p - k) f.bytes)) size b) ≡ cells_of right ++ laid (k + length f.bytes) size b =
-      ap (λ x. replicate {A = Cell} x None ++ (cells_of right ++ laid (p + length (drop (p - k) f.bytes)) size b)) gap ∙ ap (λ x. cells_of right ++ laid x size b) e in
+      ap (λ x. blanks x ++ (cells_of right ++ laid (p + length (drop (p - k) f.bytes)) size b)) gap ∙ ap (λ x. cells_of right ++ laid x size b) e in
       ap (λ x. start ++ (cells_of left ++ x)) rest
       ∙ ap (λ x. start ++ x) (sym (append_assoc (cells_of left) (cells_of right) (laid (k + length f.bytes) size b)))
       ∙ ap (λ x. start ++ (x ++ laid (k + length f.bytes) size b)) (sym cells_split)
@@ -217,9 +216,9 @@ module _ (k p : ℕ) (f : Fragment) (low : k < p) (high : p < k + length f.bytes
   -- Cut in two, a fragment says of its offsets what it said.
   pub split_same : (a b : Fragments) → SameCells (a ++ (k, f) ∷ b) (a ++ (k, left) ∷ (p, right) ∷ b)
   split_same a b = record {
-    stay = λ size h. let q = laid_parts 0 size a b k f h in are_laid_append 0 k size a ((k, left) ∷ (p, right) ∷ b) q.0 (laid_split size b (omega arith, q.1, q.2));
+    stay = λ size h. let q = parts_around 0 size a b k f h in are_laid_append 0 k size a ((k, left) ∷ (p, right) ∷ b) q.0 (laid_split size b (omega arith, q.1, q.2));
     cells = λ size h.
-        let q = laid_parts 0 size a b k f h in
+        let q = parts_around 0 size a b k f h in
         let whole : AreLaid k size ((k, f) ∷ b) = (omega arith, q.1, q.2) in
         laid_append 0 k size a ((k, left) ∷ (p, right) ∷ b) q.0 (laid_split size b whole)
         ∙ ap (λ x. laid 0 k a ++ x) (cells_stay size b)
@@ -246,7 +245,7 @@ module _ (k p : ℕ) (f : Fragment) (low : k < p) (high : p < k + length f.bytes
   -- And nothing reaches across the cut.
   pub split_cuts : (at size : ℕ) (a b : Fragments) → AreLaid at size (a ++ (k, f) ∷ b) → AreCut p (a ++ (k, left) ∷ (p, right) ∷ b)
   split_cuts at size a b h =
-      let q = laid_parts at size a b k f h in
+      let q = parts_around at size a b k f h in
       let n = length-take (p - k) f.bytes in
       let ends : k + length (take (p - k) f.bytes) ≤ p = omega arith in
       let here : p ≤ p = omega arith in
@@ -257,7 +256,7 @@ module _ (k p : ℕ) (f : Fragment) (low : k < p) (high : p < k + length f.bytes
   pub split_entries : (size : ℕ) (a b es : Fragments) → es ≡ a ++ (k, f) ∷ b → AreLaid 0 size es
       → set_value (is_at (nat_cmp k)) (insert_entry nat_cmp es p right) left ≡ a ++ (k, left) ∷ (p, right) ∷ b
   split_entries size a b es is h =
-      let q = laid_parts 0 size a b k f (subst (AreLaid 0 size) is h) in
+      let q = parts_around 0 size a b k f (subst (AreLaid 0 size) is h) in
       let put : insert_entry nat_cmp es p right ≡ a ++ (k, f) ∷ (p, right) ∷ b =
       ap (λ x. insert_entry nat_cmp x p right) is ∙ put_after p right 0 k f a b q.0 low (put_first p right (k + length f.bytes) size b high q.2) in
       ap (λ x. set_value (is_at (nat_cmp k)) x left) put ∙ set_after k f left 0 a ((p, right) ∷ b) q.0

@@ -1,7 +1,7 @@
 -- Nodes that change an inode, make one or remove one, as decisions give them.
 use Rattle.std.proofs.Common.{◌≡◌, ℕ, min, max, ◌+◌, ◌-◌, ◌<◌, ◌≤◌, ◌^◌, Bool, true, false, cond, not, ◌&&◌, eqb, ltb, List, [], ◌∷◌, length, take, drop, get_or, ◌⊎◌, inl, inr, ⊎_elim, Option, Some, None, refl, sym, ap, subst, ◌∙◌, arith}
 use Rattle.std.specs.List.{AllByRecursion, list_all, list_any}
-use Rattle.std.proofs.lemmas.Bool.{eqb-true, eqb-false, and_parts, cases_Bool, cases_lt, both_ways, not-false}
+use Rattle.std.proofs.lemmas.Bool.{eqb-true, eqb-false, cases_Bool, cases_lt, both_ways, not-false}
 use Rattle.std.proofs.lemmas.List.{get_or_past, get_or-take, get_or-drop, length-take, length-drop}
 use Rattle.jffs_node.specs.declared.node.Node.{Node}
 use Rattle.jffs_node.specs.declared.node.Kind.{Kind}
@@ -10,8 +10,8 @@ use Rattle.jffs_node.specs.Name.{is_name}
 use Rattle.jffs_node.specs.Record.{file_max, is_file, is_directory}
 use Rattle.jffs_tree.specs.declared.wish.NewNode.{NewNode}
 use Rattle.jffs_tree.specs.State.{Entry, at, bytes_of, child, is_directory_in, state_of_past}
-use Rattle.jffs_tree.specs.Origin.{concerns, entry, size_in, stated_size, tree_of}
-use Rattle.jffs_tree.specs.Check.{each_fits, is_within, check}
+use Rattle.jffs_tree.specs.Origin.{concerns, entry, size_in, stated_size}
+use Rattle.jffs_tree.specs.Check.{is_within}
 use Rattle.jffs_tree.specs.Decide.{plain, write_node, truncate_node, copy_node, has_names, with}
 use Rattle.jffs_tree.specs.Deciding.{IsLawfulPast, AreNumbers, IsNewInode}
 use Rattle.jffs_tree.proofs.states.Pointwise.{at-state}
@@ -21,7 +21,7 @@ use Rattle.jffs_tree.proofs.states.States.{none_at}
 use Rattle.jffs_tree.proofs.states.Kept.{IsOrderly, directory_there, which_directory, one_less}
 use Rattle.jffs_tree.proofs.decisions.Resolving.{no_child}
 use Rattle.jffs_tree.proofs.states.Entries.{IsLawfulEntry, lawful_entry}
-use Rattle.jffs_tree.proofs.states.Ruled.{check_parts}
+use Rattle.jffs_tree.proofs.states.Ruled.{kept_rules}
 use Rattle.jffs_tree.proofs.decisions.Putting.{IsFileNode, IsDirectoryNode, put_keeps_past, gone_keeps_past}
 
 -- what is present has an inode below each that is above those of all nodes
@@ -38,10 +38,10 @@ changed i e copy offset rsize size bytes = record (plain i e) { copy = copy; off
 
 module _ (past : List Node) (before : IsLawfulPast past) (version writer seq : ℕ) (v : AreNumbers version writer seq) where
   old : IsOrderly 8 (state_of_past past)
-  old = (check_parts past (and_parts (each_fits past) (check (tree_of past)) before.tree).1).0
+  old = (kept_rules past before).orderly
 
   pub its : (i : ℕ) (e : Entry) → at (state_of_past past) i ≡ Some e → IsLawfulEntry i e
-  its i e is = lawful_entry past i e before.each (and_parts (each_fits past) (check (tree_of past)) before.tree).0 (sym (at-state past i) ∙ is)
+  its i e is = lawful_entry past i e before.each (kept_rules past before).fits (sym (at-state past i) ∙ is)
 
   -- the new node leaves a lawful list
   abbrev pub Keeps : NewNode → Type 0

@@ -1,5 +1,5 @@
 -- A decided node keeps the rules, wish by wish.
-use Rattle.std.proofs.Common.{◌≡◌, ℕ, min, max, ◌+◌, ◌-◌, ◌<◌, ◌≤◌, Bool, true, false, cond, ◌&&◌, ◌||◌, eqb, leb, IsTrue, List, [], ◌∷◌, length, take, drop, get_or, ⊎_elim, Option, Some, None, is_some, unwrap_or, Ok, Err, bytes_eq, refl, sym, ap, subst, ◌∙◌, arith}
+use Rattle.std.proofs.Common.{◌≡◌, ℕ, min, max, ◌+◌, ◌-◌, ◌<◌, ◌≤◌, Bool, true, false, cond, not, ◌&&◌, eqb, leb, IsTrue, List, [], ◌∷◌, length, take, drop, get_or, ⊎_elim, Option, Some, None, is_some, unwrap_or, Ok, Err, bytes_eq, refl, sym, ap, subst, ◌∙◌, arith}
 use Rattle.std.specs.List.{AllByRecursion}
 use Rattle.std.specs.Option.{option_map_or}
 use Rattle.std.proofs.lemmas.Bool.{leb-true, le-leb, ltb-false, eqb-false, and_parts, or_parts, not-false}
@@ -16,7 +16,6 @@ use Rattle.jffs_tree.specs.declared.wish.Wish.{Wish}
 use Rattle.jffs_tree.specs.declared.wish.Wish.TheVariants.{MakeDir, Create, Write, Truncate, Rename, Remove, Copy, Unmount}
 use Rattle.jffs_tree.specs.State.{Entry, State, at, resolve, is_directory_in, state_of_past}
 use Rattle.jffs_tree.specs.Origin.{Held, entry, holder, tree_of}
-use Rattle.jffs_tree.specs.Check.{each_fits, check}
 use Rattle.jffs_tree.specs.Decide.{unless, is_root, last_name, parent_in, has_parent, is_there, inode_at, nobody, entry_of, plain, write_node, copy_node, unmount_node, is_current, held_entry, held_inode, causes_of_new, new_node, decide_new, causes_of_copy, decide_copy, causes_for, node_for, decide, with}
 use Rattle.jffs_node.specs.Path.{IsPath}
 use Rattle.jffs_tree.specs.Deciding.{IsLawfulPast, AreNumbers, IsNewInode, AreLimitsOf, IsWish, DecidedNodesKeepRules, CleaningCopiesKeepRules}
@@ -30,7 +29,7 @@ use Rattle.jffs_node.proofs.Each.{each_at}
 use Rattle.jffs_node.proofs.Rules.{ok_same}
 use Rattle.std.proofs.Math.Nat.{min-le_right}
 use Rattle.jffs_tree.proofs.states.Entries.{each_fits_from, lawful_entry}
-use Rattle.jffs_tree.proofs.states.Ruled.{check_parts, keeps_past}
+use Rattle.jffs_tree.proofs.states.Ruled.{kept_rules, keeps_past}
 use Rattle.jffs_tree.proofs.decisions.Changing.{Keeps, IsHome, its_file, write_keeps, truncate_keeps, copy_keeps, remove_keeps, rename_keeps, create_keeps, make_directory_keeps}
 
 -- a decision that gave a node passed all tests, and gave that node
@@ -68,18 +67,22 @@ module _ (s : State) where
       (λ there. value_of (at s i) nobody there)
       (resolved_there s 1 i path is)
 
-  pub no_directory : (path : List (List ℕ)) → is_there s path ≡ true → is_directory_in s (inode_at s path) ≡ false → at s (inode_at s path) ≡ Some (entry_of s (inode_at s path))
-  no_directory path there file = an_entry path (inode_at s path) (the_inode s path there) (λ top. not_root s (inode_at s path) top.1 file)
+  -- A path that isn't the root's leads to an entry, and so does one that leads to no directory.
+  pub entry_at : (path : List (List ℕ)) → not (is_there s path) ≡ false → is_root path ≡ false → (resolve s path ≡ Some (inode_at s path)) × (at s (inode_at s path) ≡ Some (entry_of s (inode_at s path)))
+  entry_at path there root =
+      let leads = the_inode s path (not-false (is_there s path) there) in
+      (leads, an_entry path (inode_at s path) leads (λ top. eqb-false (length path) 0 root top.0))
 
-  pub below_root : (path : List (List ℕ)) → is_there s path ≡ true → is_root path ≡ false → at s (inode_at s path) ≡ Some (entry_of s (inode_at s path))
-  below_root path there root = an_entry path (inode_at s path) (the_inode s path there) (λ top. eqb-false (length path) 0 root top.0)
+  pub file_at : (path : List (List ℕ)) → not (is_there s path) ≡ false → is_directory_in s (inode_at s path) ≡ false → (resolve s path ≡ Some (inode_at s path)) × (at s (inode_at s path) ≡ Some (entry_of s (inode_at s path)))
+  file_at path there file =
+      let leads = the_inode s path (not-false (is_there s path) there) in
+      (leads, an_entry path (inode_at s path) leads (λ top. not_root s (inode_at s path) top.1 file))
 
 unmount_keeps : (past : List Node) (before : IsLawfulPast past) (version writer seq : ℕ) → AreNumbers version writer seq → IsLawfulPast (with unmount_node version writer seq ∷ past)
 unmount_keeps past before version writer seq v =
     let n = with unmount_node version writer seq in
-    let parts = and_parts (each_fits past) (check (tree_of past)) before.tree in
-    let old = check_parts past parts.1 in
-    keeps_past n past (lawful, before.each) (each_fits_from n past parts.0 (absent (entry past 0) refl) refl refl) (λ file. cc) old.1 old.0
+    let old = kept_rules past before in
+    keeps_past n past (lawful, before.each) (each_fits_from n past old.fits (absent (entry past 0) refl) refl refl) (λ file. cc) old.writers old.orderly
   where
     lawful : is_lawful (with unmount_node version writer seq) ≡ true
     lawful = lawful_from (with unmount_node version writer seq)
@@ -99,33 +102,35 @@ unmount_keeps past before version writer seq v =
 
     absent : (o : Option Entry) → entry past 0 ≡ o → option_map_or (λ e. eqb (kind_byte e.kind) 3) o true ≡ true
     absent None is = refl
-    absent (Some e) is = absurd (let l = (lawful_entry past 0 e before.each (and_parts (each_fits past) (check (tree_of past)) before.tree).0 is).low in omega arith)
+    absent (Some e) is = absurd (omega (arith, (lawful_entry past 0 e before.each (kept_rules past before).fits is).low))
 
 module _ (past : List Node) (limits : Limits) (version writer seq : ℕ) (before : IsLawfulPast past) (v : AreNumbers version writer seq) where
+  abbrev s : State
+  s = state_of_past past
+
   abbrev Good : NewNode → Type 0
   Good n = Keeps past before version writer seq v n × (length n.bytes ≤ limits.data_max)
 
   -- a new path has a home
-  a_home : (path : List (List ℕ)) → IsPath path → is_root path ≡ false → has_parent (state_of_past past) path ≡ true → is_there (state_of_past past) path ≡ false
-      → IsHome past before version writer seq v (unwrap_or (parent_in (state_of_past past) path) 0) (last_name path)
+  a_home : (path : List (List ℕ)) → IsPath path → is_root path ≡ false → has_parent s path ≡ true → is_there s path ≡ false
+      → IsHome past before version writer seq v (unwrap_or (parent_in s path) 0) (last_name path)
   a_home path names root parent free =
-      let p = the_parent (state_of_past past) path parent in
+      let p = the_parent s path parent in
       let some : length path ≡ 0 → ⊥ = eqb-false (length path) 0 root in
       let cut = length-take (length path - 1) path in
       let most = names.short in
       record {
         directory = p.1;
-        within = led_within (state_of_past past) (sorted-state past) (take (length path - 1) path) 0 7 1 (unwrap_or (parent_in (state_of_past past) path) 0) (omega arith) refl p.0;
+        within = led_within s (sorted-state past) (take (length path - 1) path) 0 7 1 (unwrap_or (parent_in s path) 0) (omega arith) refl p.0;
         lawful = each_at (λ name. IsTrue (is_name name)) path (length path - 1) [] (omega arith) names.each;
-        free = sym (led_to_last (state_of_past past) path (unwrap_or (parent_in (state_of_past past) path) 0) root p.0) ∙ nothing_there (state_of_past past) path free;
+        free = sym (led_to_last s path (unwrap_or (parent_in s path) 0) root p.0) ∙ nothing_there s path free;
       }
 
   decided_write : (path : List (List ℕ)) (offset : ℕ) (bytes : List ℕ) (n : NewNode) → ((k : ℕ) → get_or bytes k 0 < 256) → decide past limits (Write path offset bytes) ≡ Ok n → Good n
   decided_write path offset bytes n small is =
-      let s = state_of_past past in
       let i = inode_at s path in
       let passed = nothing_stands past limits (Write path offset bytes) n is in
-      let there = no_directory s path (not-false _ passed.0.0) passed.0.1.0 in
+      let there = (file_at s path passed.0.0 passed.0.1.0).1 in
       let file = its_file past before version writer seq v i (entry_of s i) there passed.0.1.0 in
       let data_fits = ltb-false limits.data_max (length bytes) passed.0.1.1.0 in
       subst Good passed.1 (
@@ -135,51 +140,47 @@ module _ (past : List Node) (limits : Limits) (version writer seq : ℕ) (before
 
   decided_truncate : (path : List (List ℕ)) (size : ℕ) (n : NewNode) → decide past limits (Truncate path size) ≡ Ok n → Good n
   decided_truncate path size n is =
-      let s = state_of_past past in
       let i = inode_at s path in
       let passed = nothing_stands past limits (Truncate path size) n is in
-      let there = no_directory s path (not-false _ passed.0.0) passed.0.1.0 in
+      let there = (file_at s path passed.0.0 passed.0.1.0).1 in
       let file = its_file past before version writer seq v i (entry_of s i) there passed.0.1.0 in
       subst Good passed.1 (truncate_keeps past before version writer seq v i (entry_of s i) there file size (ltb-false file_max size passed.0.1.1.0), omega arith)
 
   decided_rename : (source target : List (List ℕ)) (n : NewNode) → IsPath target → decide past limits (Rename source target) ≡ Ok n → Good n
   decided_rename source target n names is =
-      let s = state_of_past past in
       let i = inode_at s source in
       let e = entry_of s i in
       let parent = unwrap_or (parent_in s target) 0 in
       let passed = nothing_stands past limits (Rename source target) n is in
       let roots = or_parts (is_root source) (is_root target) passed.0.0 in
       let home = a_home target names roots.1 (not-false _ passed.0.1.0) passed.0.1.1.0 in
-      let there = below_root s source (not-false _ passed.0.1.1.1.0) roots.0 in
+      let there = (entry_at s source passed.0.1.1.1.0 roots.0).1 in
       subst Good passed.1 (rename_keeps past before version writer seq v parent (last_name target) home i e there passed.0.1.1.1.1.0, omega arith)
 
   decided_remove : (path : List (List ℕ)) (n : NewNode) → decide past limits (Remove path) ≡ Ok n → Good n
   decided_remove path n is =
-      let s = state_of_past past in
       let i = inode_at s path in
       let passed = nothing_stands past limits (Remove path) n is in
-      let there = below_root s path (not-false _ passed.0.1.0) passed.0.0 in
+      let there = (entry_at s path passed.0.1.0 passed.0.0).1 in
       subst Good passed.1 (remove_keeps past before version writer seq v i (entry_of s i) there passed.0.1.1.0, omega arith)
 
   -- MakeDir and Create
   module _ (path : List (List ℕ)) (names : IsPath path) (fresh : AreLimitsOf past limits) where
-    new_passed : (kind : Kind) (n : NewNode) → decide_new (state_of_past past) limits kind path ≡ Ok n
-        → IsHome past before version writer seq v (unwrap_or (parent_in (state_of_past past) path) 0) (last_name path) × IsNewInode past (unwrap_or limits.next_inode 0) × (new_node (state_of_past past) limits kind path ≡ n)
+    new_passed : (kind : Kind) (n : NewNode) → decide_new s limits kind path ≡ Ok n
+        → IsHome past before version writer seq v (unwrap_or (parent_in s path) 0) (last_name path) × IsNewInode past (unwrap_or limits.next_inode 0) × (new_node s limits kind path ≡ n)
     new_passed kind n is =
-        let s = state_of_past past in
         let passed = all_passed (causes_of_new s limits path) (new_node s limits kind path) n is in
         (a_home path names passed.0.0 (not-false _ passed.0.1.0) passed.0.1.1.0, fresh (unwrap_or limits.next_inode 0) (value_of limits.next_inode 0 (not-false (is_some limits.next_inode) passed.0.1.1.1.0)), passed.1)
 
     decided_make_directory : (n : NewNode) → decide past limits (MakeDir path) ≡ Ok n → Good n
     decided_make_directory n is =
         let new = new_passed Directory n is in
-        subst Good new.2 (make_directory_keeps past before version writer seq v (unwrap_or (parent_in (state_of_past past) path) 0) (last_name path) new.0 (unwrap_or limits.next_inode 0) new.1, omega arith)
+        subst Good new.2 (make_directory_keeps past before version writer seq v (unwrap_or (parent_in s path) 0) (last_name path) new.0 (unwrap_or limits.next_inode 0) new.1, omega arith)
 
     decided_create : (n : NewNode) → decide past limits (Create path) ≡ Ok n → Good n
     decided_create n is =
         let new = new_passed File n is in
-        subst Good new.2 (create_keeps past before version writer seq v (unwrap_or (parent_in (state_of_past past) path) 0) (last_name path) new.0 (unwrap_or limits.next_inode 0) new.1, omega arith)
+        subst Good new.2 (create_keeps past before version writer seq v (unwrap_or (parent_in s path) 0) (last_name path) new.0 (unwrap_or limits.next_inode 0) new.1, omega arith)
 
   decided_copy : (source parent : ℕ) (name : List ℕ) (offset : ℕ) (bytes : List ℕ) (n : NewNode) → decide past limits (Copy source parent name offset bytes) ≡ Ok n → Good n
   decided_copy source parent name offset bytes n is = by_holder (holder (tree_of past) source) refl is

@@ -1,5 +1,5 @@
 -- A decided node does what the wish asks for.
-use Rattle.std.proofs.Common.{◌≡◌, ℕ, min, max, ◌+◌, ◌-◌, ◌<◌, ◌≤◌, Bool, true, false, cond, ◌&&◌, ◌||◌, eqb, List, [], ◌∷◌, ◌++◌, length, take, drop, replicate, get_or, ⊎_elim, Option, Some, None, is_some, unwrap_or, Ok, refl, sym, ap, subst, ◌∙◌, arith, nat_cmp}
+use Rattle.std.proofs.Common.{◌≡◌, ℕ, min, max, ◌+◌, ◌-◌, ◌<◌, ◌≤◌, Bool, true, false, cond, eqb, List, [], ◌++◌, length, take, drop, replicate, get_or, ⊎_elim, Option, Some, None, is_some, unwrap_or, Ok, refl, sym, ap, subst, ◌∙◌, arith, nat_cmp}
 use Rattle.std.specs.Option.{option_map_or}
 use Rattle.std.specs.FinMap.Entries as entries
 use Rattle.std.proofs.lemmas.Bool.{cases_lt, not-false, or_parts}
@@ -14,33 +14,26 @@ use Rattle.jffs_tree.specs.declared.wish.Wish.{Wish}
 use Rattle.jffs_tree.specs.declared.wish.Wish.TheVariants.{MakeDir, Create, Write, Truncate, Rename, Remove, Copy, Unmount}
 use Rattle.jffs_tree.specs.State.{Entry, State, at, apply, sized, written, resolve, state_of_past}
 use Rattle.jffs_tree.specs.Origin.{stated_size}
-use Rattle.jffs_tree.specs.Decide.{is_root, last_name, parent_in, has_parent, is_there, inode_at, entry_of, plain, write_node, truncate_node, causes_of_new, new_node, decide_new, decide, with}
+use Rattle.jffs_tree.specs.Decide.{is_root, last_name, parent_in, has_parent, inode_at, entry_of, plain, write_node, truncate_node, causes_of_new, new_node, decide_new, decide, with}
 use Rattle.jffs_tree.specs.Deciding.{AreLimitsOf}
 use Rattle.jffs_tree.specs.Done.{resized, with_new, with_changed, without, done_at, done, DecidedIsDone, NewInodesAreFree}
 use Rattle.jffs_tree.proofs.states.Pointwise.{at-state}
 use Rattle.jffs_tree.proofs.states.Offsets.{spliced, read_before, read_written, read_after, length-sized, read_sized}
 use Rattle.jffs_tree.proofs.states.TrueCopy.{same_put, stated, true_copy_keeps_state}
 use Rattle.jffs_tree.proofs.decisions.Copies.{never_unmount, accepted_copies_are_true}
-use Rattle.jffs_tree.proofs.decisions.Resolving.{value_of, the_parent, the_inode}
+use Rattle.jffs_tree.proofs.decisions.Resolving.{value_of, the_parent}
 use Rattle.jffs_tree.proofs.decisions.Changing.{below_new}
-use Rattle.jffs_tree.proofs.decisions.Decided.{all_passed, nothing_stands, no_directory, below_root}
+use Rattle.jffs_tree.proofs.decisions.Decided.{all_passed, nothing_stands, file_at, entry_at}
 
 -- The bytes of a file that is cut, or grown with zeros.
 length_resized : (k : ℕ) (c : List ℕ) → length (resized k c) ≡ k
-length_resized k c =
-    let e = length-append (take k c) (replicate (k - length c) 0) in
-    let f = length-take k c in
-    let g : length {A = ℕ} (replicate (k - length c) 0) ≡ k - length c = length-replicate (k - length c) 0 in
-    omega arith
+length_resized k c = omega (arith, length-append (take k c) (replicate (k - length c) 0), length-take k c, length-replicate {A = ℕ} (k - length c) 0)
 
 read_resized : (k : ℕ) (c : List ℕ) (p : ℕ) → p < k → get_or (resized k c) p 0 ≡ get_or c p 0
 read_resized k c p l = ⊎_elim
-    (λ inside.
-    let f = length-take k c in
-    get_or_append_left (take k c) (replicate (k - length c) 0) 0 p (omega arith) ∙ get_or-take k c p 0 l)
+    (λ inside. get_or_append_left (take k c) (replicate (k - length c) 0) 0 p (omega (arith, length-take k c)) ∙ get_or-take k c p 0 l)
     (λ beyond.
-    let f = length-take k c in
-    get_or-append_right (take k c) (replicate (k - length c) 0) (length c) p 0 (omega arith) beyond
+    get_or-append_right (take k c) (replicate (k - length c) 0) (length c) p 0 (omega (arith, length-take k c)) beyond
     ∙ get_or-replicate (k - length c) (p - length c) 0 0 (omega arith)
     ∙ sym (get_or_past c p 0 beyond))
     (cases_lt p (length c))
@@ -65,35 +58,27 @@ module _ (c b : List ℕ) (o : ℕ) where
   abbrev over : List ℕ
   over = resized o c ++ b ++ drop (o + length b) c
 
+  length_front : length (resized o c ++ b) ≡ o + length b
+  length_front = omega (arith, length-append (resized o c) b, length_resized o c)
+
   length_over : length over ≡ (o + length b) + (length c - (o + length b))
-  length_over =
-      let e = length-append (resized o c ++ b) (drop (o + length b) c) in
-      let f = length-append (resized o c) b in
-      let g = length_resized o c in
-      let h = length-drop (o + length b) c in
-      omega arith
+  length_over = omega (arith, length-append (resized o c ++ b) (drop (o + length b) c), length_front, length-drop (o + length b) c)
 
   over_before : (p : ℕ) → p < o → get_or over p 0 ≡ get_or c p 0
   over_before p l =
-      let f = length-append (resized o c) b in
-      let g = length_resized o c in
-      get_or_append_left (resized o c ++ b) (drop (o + length b) c) 0 p (omega arith)
-      ∙ get_or_append_left (resized o c) b 0 p (omega arith)
+      get_or_append_left (resized o c ++ b) (drop (o + length b) c) 0 p (omega (arith, length_front))
+      ∙ get_or_append_left (resized o c) b 0 p (omega (arith, length_resized o c))
       ∙ read_resized o c p l
 
   over_written : (p : ℕ) → o ≤ p → p < o + length b → get_or over p 0 ≡ get_or b (p - o) 0
   over_written p l m =
-      let f = length-append (resized o c) b in
-      let g = length_resized o c in
-      get_or_append_left (resized o c ++ b) (drop (o + length b) c) 0 p (omega arith)
-      ∙ get_or-append_right (resized o c) b o p 0 g l
+      get_or_append_left (resized o c ++ b) (drop (o + length b) c) 0 p (omega (arith, length_front))
+      ∙ get_or-append_right (resized o c) b o p 0 (length_resized o c) l
 
   over_after : (p : ℕ) → o + length b ≤ p → get_or over p 0 ≡ get_or c p 0
   over_after p l =
-      let f = length-append (resized o c) b in
-      let g = length_resized o c in
       let at : (o + length b) + (p - (o + length b)) ≡ p = omega arith in
-      get_or-append_right (resized o c ++ b) (drop (o + length b) c) (o + length b) p 0 (omega arith) l
+      get_or-append_right (resized o c ++ b) (drop (o + length b) c) (o + length b) p 0 length_front l
       ∙ get_or-drop (o + length b) c (p - (o + length b)) 0
       ∙ ap (λ q. get_or c q 0) at
 
@@ -185,24 +170,21 @@ module _ (past : List Node) (limits : Limits) (version writer seq : ℕ) where
 
   done_write : (path : List (List ℕ)) (offset : ℕ) (bytes : List ℕ) (n : NewNode) → decide past limits (Write path offset bytes) ≡ Ok n → Does (Write path offset bytes) n
   done_write path offset bytes n is =
-      let i = inode_at s path in
-      let e = entry_of s i in
       let passed = nothing_stands past limits (Write path offset bytes) n is in
-      let leads = not-false (is_there s path) passed.0.0 in
-      subst (Does (Write path offset bytes)) passed.1 (written_there path offset bytes i e (the_inode s path leads) (no_directory s path leads passed.0.1.0))
+      let file = file_at s path passed.0.0 passed.0.1.0 in
+      subst (Does (Write path offset bytes)) passed.1 (written_there path offset bytes (inode_at s path) (entry_of s (inode_at s path)) file.0 file.1)
 
   done_truncate : (path : List (List ℕ)) (size : ℕ) (n : NewNode) → decide past limits (Truncate path size) ≡ Ok n → Does (Truncate path size) n
   done_truncate path size n is =
       let i = inode_at s path in
       let e = entry_of s i in
       let passed = nothing_stands past limits (Truncate path size) n is in
-      let leads = not-false (is_there s path) passed.0.0 in
-      let there = no_directory s path leads passed.0.1.0 in
+      let file = file_at s path passed.0.0 passed.0.1.0 in
       subst (Does (Truncate path size)) passed.1
-      (put_by s (with (truncate_node i e size) version writer seq) (stands_at i e there) refl (record e { bytes = resized size e.bytes })
-      (ap (λ o. written (with (truncate_node i e size) version writer seq) o) there
+      (put_by s (with (truncate_node i e size) version writer seq) (stands_at i e file.1) refl (record e { bytes = resized size e.bytes })
+      (ap (λ o. written (with (truncate_node i e size) version writer seq) o) file.1
       ∙ (λ j. record { kind = e.kind; parent = e.parent; name = e.name; bytes = cut_bytes e.bytes size j }))
-      ∙ sym (changed_there s path i e (λ x. record x { bytes = resized size x.bytes }) (the_inode s path leads) there))
+      ∙ sym (changed_there s path i e (λ x. record x { bytes = resized size x.bytes }) file.0 file.1))
 
   done_rename : (source target : List (List ℕ)) (n : NewNode) → decide past limits (Rename source target) ≡ Ok n → Does (Rename source target) n
   done_rename source target n is =
@@ -212,16 +194,15 @@ module _ (past : List Node) (limits : Limits) (version writer seq : ℕ) where
       let f : Entry = record e { parent = parent; name = last_name target } in
       let passed = nothing_stands past limits (Rename source target) n is in
       let roots = or_parts (is_root source) (is_root target) passed.0.0 in
-      let leads = not-false (is_there s source) passed.0.1.1.1.0 in
-      let there = below_root s source leads roots.0 in
+      let there = entry_at s source passed.0.1.1.1.0 roots.0 in
       let home = (the_parent s target (not-false (has_parent s target) passed.0.1.0)).0 in
       subst (Does (Rename source target)) passed.1
-      (put_by s (with (plain i f) version writer seq) (stands_at i e there) refl f
-      (ap (λ o. written (with (plain i f) version writer seq) o) there
+      (put_by s (with (plain i f) version writer seq) (stands_at i e there.1) refl f
+      (ap (λ o. written (with (plain i f) version writer seq) o) there.1
       ∙ (λ j. record { kind = e.kind; parent = parent; name = last_name target; bytes = left_bytes f 0 (omega arith) j }))
       ∙ sym
       (ap (λ o. option_map_or (λ p. done_at source s (with_changed (λ x. record x { parent = p; name = last_name target }) s)) o s) home
-      ∙ changed_there s source i e (λ x. record x { parent = parent; name = last_name target }) (the_inode s source leads) there))
+      ∙ changed_there s source i e (λ x. record x { parent = parent; name = last_name target }) there.0 there.1))
 
   done_remove : (path : List (List ℕ)) (n : NewNode) → decide past limits (Remove path) ≡ Ok n → Does (Remove path) n
   done_remove path n is =
@@ -229,10 +210,10 @@ module _ (past : List Node) (limits : Limits) (version writer seq : ℕ) where
       let e = entry_of s i in
       let gone : NewNode = record (plain i e) { deleted = true; size = None } in
       let passed = nothing_stands past limits (Remove path) n is in
-      let leads = not-false (is_there s path) passed.0.1.0 in
+      let there = entry_at s path passed.0.1.0 passed.0.0 in
       subst (Does (Remove path)) passed.1
-      (gone_by s (with gone version writer seq) (stands_at i e (below_root s path leads passed.0.0)) refl
-      ∙ sym (ap (λ o. option_map_or (without s) o s) (the_inode s path leads)))
+      (gone_by s (with gone version writer seq) (stands_at i e there.1) refl
+      ∙ sym (ap (λ o. option_map_or (without s) o s) there.0))
 
   -- MakeDir and Create
   module _ (fresh : AreLimitsOf past limits) (kind : Kind) (stands : is_unmount kind ≡ false) (path : List (List ℕ)) where

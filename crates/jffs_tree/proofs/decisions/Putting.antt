@@ -2,22 +2,22 @@
 use Rattle.std.proofs.Common.{◌≡◌, ℕ, ◌+◌, ◌<◌, ◌≤◌, ◌^◌, true, false, not, ◌&&◌, ◌||◌, eqb, leb, ltb, List, [], ◌∷◌, length, ◌⊎◌, inl, inr, ⊎_elim, Option, Some, None, is_some, is_none, unwrap_or, refl, sym, ap, subst, ◌∙◌, arith}
 use Rattle.std.specs.List.{list_all, list_any}
 use Rattle.std.specs.Option.{option_map_or}
-use Rattle.std.proofs.lemmas.Bool.{eq-eqb, ne_eqb, le-leb, and_parts, and_from, and_right, or_left, or_right}
+use Rattle.std.proofs.lemmas.Bool.{eq-eqb, ne_eqb, le-leb, and_from, and_right, or_left, or_right}
 use Rattle.jffs_node.specs.declared.node.Node.{Node}
 use Rattle.jffs_node.specs.declared.node.Kind.{Kind}
 use Rattle.jffs_node.specs.declared.node.Kind.TheVariants.{File, Directory}
 use Rattle.jffs_node.specs.Name.{is_name}
-use Rattle.jffs_node.specs.Record.{dsize, file_max, is_file, is_unmount, is_directory, kind_byte, kind_numbers, is_lawful, has_no_range}
+use Rattle.jffs_node.specs.Record.{dsize, file_max, is_file, is_unmount, is_directory, kind_byte, kind_numbers, size_numbers, is_lawful, has_no_range}
 use Rattle.jffs_tree.specs.State.{Entry, at, written, state_of_past, is_directory_in}
-use Rattle.jffs_tree.specs.Origin.{entry, size_in, tree_of}
-use Rattle.jffs_tree.specs.Check.{keeps_kind, keeps_offsets, keeps_form, each_fits, is_within, check}
+use Rattle.jffs_tree.specs.Origin.{entry, size_in}
+use Rattle.jffs_tree.specs.Check.{keeps_kind, keeps_offsets, keeps_form, each_fits, is_within}
 use Rattle.jffs_tree.specs.Deciding.{IsLawfulPast, AreNumbers}
 use Rattle.jffs_tree.proofs.states.Pointwise.{at-state}
 use Rattle.jffs_tree.proofs.states.Steps.{entry-other, entry-deleted, entry-written}
 use Rattle.jffs_tree.proofs.states.Kept.{IsPutIn, IsGoneIn, put_keeps, gone_keeps}
 use Rattle.jffs_node.proofs.Lawfulness.{HasRange, HasNoRange, lawful_from, no_range_from, file_numbers_from, directory_numbers_from}
 use Rattle.jffs_tree.proofs.states.Entries.{each_fits_from}
-use Rattle.jffs_tree.proofs.states.Ruled.{check_parts, keeps_past}
+use Rattle.jffs_tree.proofs.states.Ruled.{kept_rules, keeps_past}
 
 -- a file's node, with the size that it states
 pub record IsFileNode (past : List Node) (n : Node) : Type 0 where
@@ -56,65 +56,49 @@ copy_rule : (n : Node) → (n.copy ≡ false) ⊎ (n.rsize ≡ dsize n) → (not
 copy_rule n h = ⊎_elim (λ no. ap (λ b. not b || eqb n.rsize (dsize n)) no) (λ same. or_right (not n.copy) (eqb n.rsize (dsize n)) (eq-eqb n.rsize (dsize n) same)) h
 
 module _ (past : List Node) (n : Node) (h : IsPut past n) where
-  file_lawful : IsFileNode past n → is_lawful n ≡ true
-  file_lawful f =
-      let a = f.range in
-      let m = f.most in
-      let v = h.numbers in
+  -- It is lawful where its range, its form and its size are.
+  lawful_as : (k : Kind) → n.kind ≡ k → is_unmount k ≡ false → (n.offset < 2 ^ 32) × (n.rsize < 2 ^ 32) × (dsize n < 2 ^ 32) → unwrap_or n.size 0 < 2 ^ 32
+      → (is_none n.size || (is_file n.kind && not n.deleted)) ≡ true → kind_numbers k n (dsize n) ≡ true → size_numbers n (dsize n) ≡ true → is_lawful n ≡ true
+  lawful_as k is stands small fits form range size =
       lawful_from n
       (record {
         inode = h.high;
         parent = h.parent_high;
-        version = v.version_fits;
-        offset = (let r = a.range in omega arith);
-        rsize = (let r = a.taken in omega arith);
-        writer = v.writer_fits;
-        seq = v.seq_fits;
-        amount = (let r = a.range in omega arith);
-        size = subst (λ o. unwrap_or o 0 < 2 ^ 32) (sym f.stated) (omega arith);
+        version = h.numbers.version_fits;
+        offset = small.0;
+        rsize = small.1;
+        writer = h.numbers.writer_fits;
+        seq = h.numbers.seq_fits;
+        amount = small.2;
+        size = fits;
         bytes = h.bytes;
       })
       (record {
         flags = ap (λ b. not (b && n.copy)) h.stands;
-        unmount = ap (λ k. not (is_unmount k) || (not n.deleted && not n.copy)) f.file;
-        name = (λ i. option_map_or (λ x. not (is_unmount (f.file i)) && is_name x) (h.named i) (is_unmount (f.file i))) ∙ h.lawful_name;
-        form = λ i. is_none (f.stated i) || (is_file (f.file i) && not (h.stands i));
-        version = le-leb 1 n.version v.first;
-        kind = ap (λ k. kind_numbers k n (dsize n)) f.file ∙ file_numbers_from n a;
+        unmount = ap (λ u. not u || (not n.deleted && not n.copy)) (ap is_unmount is ∙ stands);
+        name = (λ i. option_map_or (λ x. not ((ap is_unmount is ∙ stands) i) && is_name x) (h.named i) (is_unmount n.kind)) ∙ h.lawful_name;
+        form = form;
+        version = le-leb 1 n.version h.numbers.first;
+        kind = ap (λ x. kind_numbers x n (dsize n)) is ∙ range;
         gone = ap (λ b. not b || has_no_range n (dsize n)) h.stands;
         copied = copy_rule n h.copied;
-        size = ap (λ o. option_map_or (λ size. leb size file_max && leb (n.offset + dsize n) size) o true) f.stated
-            ∙ and_from (leb f.size file_max) (leb (n.offset + dsize n) f.size) (le-leb f.size file_max m) (le-leb (n.offset + dsize n) f.size f.reaches);
+        size = size;
       })
+
+  file_lawful : IsFileNode past n → is_lawful n ≡ true
+  file_lawful f =
+      let range = f.range in
+      lawful_as File f.file refl (omega (arith, range.range), omega (arith, range.taken), omega (arith, range.range)) (subst (λ o. unwrap_or o 0 < 2 ^ 32) (sym f.stated) (omega (arith, f.most)))
+      (λ i. is_none (f.stated i) || (is_file (f.file i) && not (h.stands i))) (file_numbers_from n range)
+      (ap (λ o. option_map_or (λ size. leb size file_max && leb (n.offset + dsize n) size) o true) f.stated
+      ∙ and_from (leb f.size file_max) (leb (n.offset + dsize n) f.size) (le-leb f.size file_max f.most) (le-leb (n.offset + dsize n) f.size f.reaches))
 
   directory_lawful : IsDirectoryNode n → is_lawful n ≡ true
   directory_lawful f =
-      let a = f.range in
-      let v = h.numbers in
-      lawful_from n
-      (record {
-        inode = h.high;
-        parent = h.parent_high;
-        version = v.version_fits;
-        offset = (let r = a.offset in omega arith);
-        rsize = (let r = a.rsize in omega arith);
-        writer = v.writer_fits;
-        seq = v.seq_fits;
-        amount = (let r = a.amount in omega arith);
-        size = subst (λ o. unwrap_or o 0 < 2 ^ 32) (sym f.stated) (omega arith);
-        bytes = h.bytes;
-      })
-      (record {
-        flags = ap (λ b. not (b && n.copy)) h.stands;
-        unmount = ap (λ k. not (is_unmount k) || (not n.deleted && not n.copy)) f.directory;
-        name = (λ i. option_map_or (λ x. not (is_unmount (f.directory i)) && is_name x) (h.named i) (is_unmount (f.directory i))) ∙ h.lawful_name;
-        form = ap (λ o. is_none o || (is_file n.kind && not n.deleted)) f.stated;
-        version = le-leb 1 n.version v.first;
-        kind = ap (λ k. kind_numbers k n (dsize n)) f.directory ∙ directory_numbers_from n a;
-        gone = ap (λ b. not b || has_no_range n (dsize n)) h.stands;
-        copied = copy_rule n h.copied;
-        size = ap (λ o. option_map_or (λ size. leb size file_max && leb (n.offset + dsize n) size) o true) f.stated;
-      })
+      let range = f.range in
+      lawful_as Directory f.directory refl (omega (arith, range.offset), omega (arith, range.rsize), omega (arith, range.amount)) (subst (λ o. unwrap_or o 0 < 2 ^ 32) (sym f.stated) (omega arith))
+      (ap (λ o. is_none o || (is_file n.kind && not n.deleted)) f.stated) (directory_numbers_from n range)
+      (ap (λ o. option_map_or (λ size. leb size file_max && leb (n.offset + dsize n) size) o true) f.stated)
 
   put_lawful : is_lawful n ≡ true
   put_lawful = ⊎_elim (λ f. file_lawful f) (λ d. directory_lawful d) h.kind
@@ -166,10 +150,9 @@ module _ (past : List Node) (n : Node) (h : IsPut past n) where
 
   pub put_keeps_past : IsLawfulPast past → IsLawfulPast (n ∷ past)
   put_keeps_past before =
-      let parts = and_parts (each_fits past) (check (tree_of past)) before.tree in
-      let old = check_parts past parts.1 in
-      keeps_past n past (put_lawful, before.each) (each_fits_from n past parts.0 put_kind put_offsets put_form) put_sized old.1
-      (put_keeps 7 (state_of_past past) (state_of_past (n ∷ past)) n.inode (written n (entry past n.inode)) old.0 put_in)
+      let old = kept_rules past before in
+      keeps_past n past (put_lawful, before.each) (each_fits_from n past old.fits put_kind put_offsets put_form) put_sized old.writers
+      (put_keeps 7 (state_of_past past) (state_of_past (n ∷ past)) n.inode (written n (entry past n.inode)) old.orderly put_in)
 
 -- A node that removes an inode without children.
 pub record IsGone (past : List Node) (n : Node) : Type 0 where
@@ -196,20 +179,16 @@ module _ (past : List Node) (n : Node) (h : IsGone past n) where
 
   gone_suits : (k : Kind) → n.kind ≡ k → is_unmount k ≡ false → kind_numbers k n (dsize n) ≡ true → is_lawful n ≡ true
   gone_suits k is stands numbers =
-      let a = nothing in
-      let o = h.offset in
-      let r = h.rsize in
-      let v = h.numbers in
       lawful_from n
       (record {
         inode = h.high;
         parent = h.parent_high;
-        version = v.version_fits;
-        offset = omega arith;
-        rsize = omega arith;
-        writer = v.writer_fits;
-        seq = v.seq_fits;
-        amount = omega arith;
+        version = h.numbers.version_fits;
+        offset = omega (arith, h.offset);
+        rsize = omega (arith, h.rsize);
+        writer = h.numbers.writer_fits;
+        seq = h.numbers.seq_fits;
+        amount = omega (arith, nothing);
         size = subst (λ x. unwrap_or x 0 < 2 ^ 32) (sym h.size) (omega arith);
         bytes = ap (λ x. list_all (λ b. ltb b 256) x) h.bytes;
       })
@@ -218,21 +197,18 @@ module _ (past : List Node) (n : Node) (h : IsGone past n) where
         unmount = ap (λ u. not u || (not n.deleted && not n.copy)) (ap is_unmount is ∙ stands);
         name = (λ i. option_map_or (λ x. not ((ap is_unmount is ∙ stands) i) && is_name x) (h.named i) (is_unmount n.kind)) ∙ h.lawful_name;
         form = ap (λ x. is_none x || (is_file n.kind && not n.deleted)) h.size;
-        version = le-leb 1 n.version v.first;
+        version = le-leb 1 n.version h.numbers.first;
         kind = ap (λ x. kind_numbers x n (dsize n)) is ∙ numbers;
-        gone = or_right (not n.deleted) (has_no_range n (dsize n)) (no_range_from n o a r);
+        gone = or_right (not n.deleted) (has_no_range n (dsize n)) (no_range_from n h.offset nothing h.rsize);
         copied = copy_rule n (inl h.plain);
         size = ap (λ x. option_map_or (λ size. leb size file_max && leb (n.offset + dsize n) size) x true) h.size;
       })
 
   gone_lawful : is_lawful n ≡ true
   gone_lawful =
-      let a = nothing in
-      let o = h.offset in
-      let r = h.rsize in
       ⊎_elim
-      (λ file. gone_suits File file refl (file_numbers_from n (record { low = h.low; parent = h.parent_low; range = omega arith; taken = omega arith; fills = inr a })))
-      (λ directory. gone_suits Directory directory.0 refl (directory_numbers_from n (record { low = h.low; parent = h.parent_low; below = directory.1; offset = o; amount = a; rsize = r })))
+      (λ file. gone_suits File file refl (file_numbers_from n (record { low = h.low; parent = h.parent_low; range = omega (arith, h.offset, nothing); taken = omega (arith, h.offset, h.rsize); fills = inr nothing })))
+      (λ directory. gone_suits Directory directory.0 refl (directory_numbers_from n (record { low = h.low; parent = h.parent_low; below = directory.1; offset = h.offset; amount = nothing; rsize = h.rsize })))
       h.kind
 
   not_unmounted : is_unmount n.kind ≡ false
@@ -257,7 +233,6 @@ module _ (past : List Node) (n : Node) (h : IsGone past n) where
 
   pub gone_keeps_past : IsLawfulPast past → IsLawfulPast (n ∷ past)
   gone_keeps_past before =
-      let parts = and_parts (each_fits past) (check (tree_of past)) before.tree in
-      let old = check_parts past parts.1 in
-      keeps_past n past (gone_lawful, before.each) (gone_fits parts.0) gone_sized old.1
-      (gone_keeps 8 (state_of_past past) (state_of_past (n ∷ past)) n.inode old.0 gone_in)
+      let old = kept_rules past before in
+      keeps_past n past (gone_lawful, before.each) (gone_fits old.fits) gone_sized old.writers
+      (gone_keeps 8 (state_of_past past) (state_of_past (n ∷ past)) n.inode old.orderly gone_in)

@@ -29,7 +29,7 @@ checked s past = parents_are_there s && names_differ s && list_all (λ (h : ℕ 
 same_check : (past : List Node) → check (tree_of past) ≡ checked (state_of_past past) past
 same_check past = ap (λ s. checked s past) (state_of_tree past (state_of_past past))
 
-pub check_parts : (past : List Node) → check (tree_of past) ≡ true → IsOrderly 8 (state_of_past past) × HasWriters past
+check_parts : (past : List Node) → check (tree_of past) ≡ true → IsOrderly 8 (state_of_past past) × HasWriters past
 check_parts past h =
     let s = state_of_past past in
     let within = list_all (λ (e : ℕ × Entry). is_within 8 s e.0) s in
@@ -40,6 +40,18 @@ check_parts past h =
       orderly 8 s c.0 c.1 a.1,
       λ i e is. all_at (λ (x : ℕ × Entry). bytes_are_written (held past x).1) s i e (sym (list_all-map (λ (g : ℕ × Held). bytes_are_written g.1) (held past) s) ∙ b.1) (at-state past i ∙ is),
     )
+
+-- what the rules of a tree say of a lawful list
+pub record KeepsRules (past : List Node) : Type 0 where
+  pub fits : each_fits past ≡ true
+  pub orderly : IsOrderly 8 (state_of_past past)
+  pub writers : HasWriters past
+
+pub kept_rules : (past : List Node) → IsLawfulPast past → KeepsRules past
+kept_rules past before =
+    let parts = and_parts (each_fits past) (check (tree_of past)) before.tree in
+    let checked = check_parts past parts.1 in
+    record { fits = parts.0; orderly = checked.0; writers = checked.1 }
 
 pub check_from : (past : List Node) → IsOrderly 8 (state_of_past past) → HasWriters past → check (tree_of past) ≡ true
 check_from past o w =

@@ -99,17 +99,21 @@ byte_outside n c p w l = read_sized 0 n.size (splice c n) p l ∙ ⊎_elim
     (λ behind. read_after 0 c n.offset n.rsize n.bytes p behind.0 ∙ ap (λ q. get_or c q 0) (sym behind.1))
     w.1
 
+-- A stated size is the length, whatever the bytes were.
+stated_length : (k : ℕ) (c d : List ℕ) → length (sized (Some k) c) ≡ length (sized (Some k) d)
+stated_length k c d = length-sized 0 k c ∙ sym (length-sized 0 k d)
+
 -- Lengths, by what the node says of the size.
 longer_by : (size : Option ℕ) (c d : List ℕ) (o r : ℕ) (b : List ℕ) → length c ≤ length d → length (sized size (spliced c o r b)) ≤ length (sized size (spliced d o r b))
-longer_by None c d o r b h = let e = length-spliced 0 c o r b in let f = length-spliced 0 d o r b in omega arith
-longer_by (Some k) c d o r b h = let e = length-sized 0 k (spliced c o r b) in let f = length-sized 0 k (spliced d o r b) in omega arith
+longer_by None c d o r b h = omega (arith, length-spliced 0 c o r b, length-spliced 0 d o r b)
+longer_by (Some k) c d o r b h = omega (arith, stated_length k (spliced c o r b) (spliced d o r b))
 
 pub rewritten_longer : (n : Node) (c d : List ℕ) → length c ≤ length d → length (rewritten n c) ≤ length (rewritten n d)
 rewritten_longer n c d h = longer_by n.size c d n.offset n.rsize n.bytes h
 
 written_there : (size : Option ℕ) (c d : List ℕ) (o r : ℕ) (b : List ℕ) (p : ℕ) → p < o + length b → p < length (sized size (spliced d o r b)) → p < length (sized size (spliced c o r b))
-written_there None c d o r b p h l = let e = length-spliced 0 c o r b in omega arith
-written_there (Some k) c d o r b p h l = let e = length-sized 0 k (spliced c o r b) in let f = length-sized 0 k (spliced d o r b) in omega arith
+written_there None c d o r b p h l = omega (arith, length-spliced 0 c o r b)
+written_there (Some k) c d o r b p h l = omega (arith, stated_length k (spliced c o r b) (spliced d o r b))
 
 pub inside_both : (n : Node) (c d : List ℕ) (p : ℕ) → Inside n p → p < length (rewritten n d) → p < length (rewritten n c)
 inside_both n c d p w l = written_there n.size c d n.offset n.rsize n.bytes p w.2 l
@@ -118,8 +122,8 @@ moved_there : (size : Option ℕ) (c d : List ℕ) (o r : ℕ) (b : List ℕ) (p
     → q < length c → p < length (sized size (spliced d o r b)) → p < length (sized size (spliced c o r b))
 moved_there None c d o r b p q w h l =
     let e = length-spliced 0 c o r b in
-    ⊎_elim (λ before. let k = before.0 in omega arith) (λ behind. let k = behind.0 in let m = behind.1 in omega arith) w
-moved_there (Some k) c d o r b p q w h l = let e = length-sized 0 k (spliced c o r b) in let f = length-sized 0 k (spliced d o r b) in omega arith
+    ⊎_elim (λ before. omega (arith, before.0)) (λ behind. omega (arith, behind.0, behind.1)) w
+moved_there (Some k) c d o r b p q w h l = omega (arith, stated_length k (spliced c o r b) (spliced d o r b))
 
 pub outside_both : (n : Node) (c d : List ℕ) (p : ℕ) → Outside n p → offset_before n p < length c → p < length (rewritten n d) → p < length (rewritten n c)
 outside_both n c d p w h l = moved_there n.size c d n.offset n.rsize n.bytes p (offset_before n p) w.1 h l
@@ -129,7 +133,7 @@ outside_both n c d p w h l = moved_there n.size c d n.offset n.rsize n.bytes p (
 outside_part : (size : Option ℕ) (c d : List ℕ) (o r : ℕ) (b : List ℕ) (p q : ℕ) → ((p < o) × (q ≡ p)) ⊎ ((o + length b ≤ p) × (q ≡ (p - length b) + r))
     → p < length (sized size (spliced d o r b)) → get_or (sized size (spliced c o r b)) p 0 ≡ get_or (spliced c o r b) p 0
 outside_part None c d o r b p q w l = refl
-outside_part (Some k) c d o r b p q w l = read_sized 0 (Some k) (spliced c o r b) p (let e = length-sized 0 k (spliced c o r b) in let f = length-sized 0 k (spliced d o r b) in omega arith)
+outside_part (Some k) c d o r b p q w l = read_sized 0 (Some k) (spliced c o r b) p (omega (arith, stated_length k (spliced c o r b) (spliced d o r b)))
 
 pub byte_outside_part : (n : Node) (c d : List ℕ) (p : ℕ) → Outside n p → p < length (rewritten n d) → get_or (rewritten n c) p 0 ≡ get_or c (offset_before n p) 0
 byte_outside_part n c d p w l = outside_part n.size c d n.offset n.rsize n.bytes p (offset_before n p) w.1 l ∙ ⊎_elim

@@ -86,9 +86,9 @@ clear_here p [] none = tt
 clear_here p (e ∷ es) none = (⊎_elim (λ ends. inl ends) (λ later. inr (omega arith)) none.0, clear_here p es none.1)
 
 -- ---- the cells around a fragment and around a hole
-pub record Beside (at : ℕ) (part : List Cell) (whole : List Cell) : Type 0 where
-  pub front : List Cell
-  pub back : List Cell
+pub record Beside {A : Type 0} (at : ℕ) (part whole : List A) : Type 0 where
+  pub front : List A
+  pub back : List A
   pub parts : whole ≡ front ++ (part ++ back)
   pub before : length front ≡ at
 
@@ -152,13 +152,21 @@ beside_hole at size p r (e ∷ es) h clear low some high = ⊎_elim
     })
     clear.0
 
+-- a hole in a whole file
+hole_cells : (size p n : ℕ) (es : Fragments) → AreLaid 0 size es → IsClear p (p + n) es → p + n ≤ size → Beside p (blanks n) (laid 0 size es)
+hole_cells size p n es h free high =
+    let start : p - 0 ≡ p = omega arith in
+    let gap : p + n - p ≡ n = omega arith in
+    subst (λ k. Beside k (blanks n) (laid 0 size es)) start
+    (subst (λ k. Beside (p - 0) (blanks k) (laid 0 size es)) gap (beside_hole 0 size p (p + n) es h free (omega arith) (omega arith) high))
+
 -- ---- bytes
-part_stands : (whole front part back : List ℕ) (at : ℕ) → whole ≡ front ++ (part ++ back) → length front ≡ at → take (length part) (drop at whole) ≡ part
-part_stands whole front part back at is n =
-    ap (λ x. take (length part) (drop at x)) is
-    ∙ ap (λ k. take (length part) (drop k (front ++ (part ++ back)))) (sym n)
-    ∙ ap (λ x. take (length part) x) (drop-append_seam front (part ++ back))
-    ∙ take-append_seam part back
+part_stands : (at : ℕ) (part whole : List ℕ) → Beside at part whole → take (length part) (drop at whole) ≡ part
+part_stands at part whole b =
+    ap (λ x. take (length part) (drop at x)) b.parts
+    ∙ ap (λ k. take (length part) (drop k (b.front ++ (part ++ b.back)))) (sym b.before)
+    ∙ ap (λ x. take (length part) x) (drop-append_seam b.front (part ++ b.back))
+    ∙ take-append_seam part b.back
 
 bytes_of_cells : (v : ℕ) (bs : List ℕ) → map byte_of (map (λ b. Some (b, v)) bs) ≡ bs
 bytes_of_cells v [] = refl
@@ -168,62 +176,53 @@ bytes_of_blanks : (n : ℕ) → map byte_of (blanks n) ≡ replicate n 0
 bytes_of_blanks zero = refl
 bytes_of_blanks (suc n) = ap (λ x. 0 ∷ x) (bytes_of_blanks n)
 
-bytes_parts : (front part back whole : List Cell) → whole ≡ front ++ (part ++ back) → map byte_of whole ≡ map byte_of front ++ (map byte_of part ++ map byte_of back)
-bytes_parts front part back whole is =
-    ap (λ x. map byte_of x) is ∙ map-append byte_of front (part ++ back) ∙ ap (λ x. map byte_of front ++ x) (map-append byte_of part back)
+bytes_beside : (at : ℕ) (part whole : List Cell) (bytes : List ℕ) → map byte_of part ≡ bytes → Beside at part whole → Beside at bytes (map byte_of whole)
+bytes_beside at part whole bytes are b = record {
+  front = map byte_of b.front;
+  back = map byte_of b.back;
+  parts = ap (map byte_of) b.parts
+      ∙ map-append byte_of b.front (part ++ b.back)
+      ∙ ap (λ x. map byte_of b.front ++ x) (map-append byte_of part b.back ∙ ap (λ x. x ++ map byte_of b.back) are);
+  before = length-map b.front byte_of ∙ b.before;
+}
+
+fragment_bytes : (size k : ℕ) (f : Fragment) (es : Fragments) → AreLaid 0 size es → lookup (is_at (nat_cmp k)) es ≡ Some f → Beside k f.bytes (map byte_of (laid 0 size es))
+fragment_bytes size k f es h is = bytes_beside k (cells_of f) (laid 0 size es) f.bytes (bytes_of_cells f.writer f.bytes) (beside_fragment size k f es h is)
 
 -- the first bytes of a fragment from an offset within it on
 pub says_fragment : (k at : ℕ) (f : Fragment) (es : Fragments) → lookup (is_at (nat_cmp k)) es ≡ Some f → k ≤ at → at < k + length f.bytes → (n : ℕ) → Says es at (take n (drop (at - k) f.bytes))
 says_fragment k at f es is low high n = λ size h fits.
-    let b = beside_fragment size k f es h is in
+    let b = fragment_bytes size k f es h is in
     let early = take (at - k) f.bytes in
     let late = drop (at - k) f.bytes in
-    let front = map byte_of b.front in
-    let back = map byte_of b.back in
-    let a = length-append front early in
-    let m = length-map b.front byte_of in
-    let o = length-take (at - k) f.bytes in
-    let there = b.before in
     let cut : f.bytes ≡ early ++ (take n late ++ drop n late) =
     sym (take-append-drop (at - k) f.bytes) ∙ ap (λ (x : List ℕ). early ++ x) (sym (take-append-drop n late)) in
-    let whole : map byte_of (laid 0 size es) ≡ (front ++ early) ++ (take n late ++ (drop n late ++ back)) =
-    bytes_parts b.front (cells_of f) b.back (laid 0 size es) b.parts
-    ∙ ap (λ (x : List ℕ). front ++ (x ++ back)) (bytes_of_cells f.writer f.bytes ∙ cut)
-    ∙ ap (λ (x : List ℕ). front ++ x) (append_assoc early (take n late ++ drop n late) back ∙ ap (λ (x : List ℕ). early ++ x) (append_assoc (take n late) (drop n late) back))
-    ∙ sym (append_assoc front early (take n late ++ (drop n late ++ back))) in
-    part_stands (map byte_of (laid 0 size es)) (front ++ early) (take n late) (drop n late ++ back) at whole (omega arith)
+    part_stands at (take n late) (map byte_of (laid 0 size es))
+    (record {
+      front = b.front ++ early;
+      back = drop n late ++ b.back;
+      parts = b.parts
+          ∙ ap (λ (x : List ℕ). b.front ++ (x ++ b.back)) cut
+          ∙ ap (λ (x : List ℕ). b.front ++ x) (append_assoc early (take n late ++ drop n late) b.back ∙ ap (λ (x : List ℕ). early ++ x) (append_assoc (take n late) (drop n late) b.back))
+          ∙ sym (append_assoc b.front early (take n late ++ (drop n late ++ b.back)));
+      before = omega (arith, length-append b.front early, length-take (at - k) f.bytes, b.before);
+    })
 
 -- All bytes of a fragment stand in the file from its first offset on.
 pub whole_fragment : (size k : ℕ) (f : Fragment) (es : Fragments) → AreLaid 0 size es → lookup (is_at (nat_cmp k)) es ≡ Some f
     → (k + length f.bytes ≤ size) × (take (length f.bytes) (drop k (map byte_of (laid 0 size es))) ≡ f.bytes)
 whole_fragment size k f es h is =
-    let b = beside_fragment size k f es h is in
-    let front = map byte_of b.front in
-    let back = map byte_of b.back in
-    let there = b.before in
-    let whole : map byte_of (laid 0 size es) ≡ front ++ (f.bytes ++ back) =
-    bytes_parts b.front (cells_of f) b.back (laid 0 size es) b.parts
-    ∙ ap (λ (x : List ℕ). front ++ (x ++ back)) (bytes_of_cells f.writer f.bytes) in
+    let b = fragment_bytes size k f es h is in
     let all = length-laid 0 size es h in
     let l = length-map (laid 0 size es) byte_of in
-    let m = length-map b.front byte_of in
-    let n : length (map byte_of (laid 0 size es)) ≡ length (front ++ (f.bytes ++ back)) = ap (λ (x : List ℕ). length x) whole in
-    let o = length-append front (f.bytes ++ back) in
-    let p = length-append f.bytes back in
-    (omega arith, part_stands (map byte_of (laid 0 size es)) front f.bytes back k whole (omega arith))
+    let n : length (map byte_of (laid 0 size es)) ≡ length (b.front ++ (f.bytes ++ b.back)) = ap length b.parts in
+    (omega (arith, length-append b.front (f.bytes ++ b.back), length-append f.bytes b.back, b.before), part_stands k f.bytes (map byte_of (laid 0 size es)) b)
 
 -- zeros in a hole
 pub says_hole : (at n : ℕ) (es : Fragments) → IsClear at (at + n) es → Says es at (replicate n 0)
 says_hole at n es clear = λ size h fits.
-    let len : length (replicate {A = ℕ} n 0) ≡ n = length-replicate {A = ℕ} n 0 in
-    let b = beside_hole 0 size at (at + n) es h clear (omega arith) (omega arith) (omega arith) in
-    let there = b.before in
-    let m = length-map b.front byte_of in
-    let gap : at + n - at ≡ n = omega arith in
-    let whole : map byte_of (laid 0 size es) ≡ map byte_of b.front ++ (replicate n 0 ++ map byte_of b.back) =
-    bytes_parts b.front (blanks (at + n - at)) b.back (laid 0 size es) b.parts
-    ∙ ap (λ (x : List ℕ). map byte_of b.front ++ (x ++ map byte_of b.back)) (bytes_of_blanks (at + n - at) ∙ ap (λ k. replicate k 0) gap) in
-    part_stands (map byte_of (laid 0 size es)) (map byte_of b.front) (replicate n 0) (map byte_of b.back) at whole (omega arith)
+    part_stands at (replicate n 0) (map byte_of (laid 0 size es))
+    (bytes_beside at (blanks n) (laid 0 size es) (replicate n 0) (bytes_of_blanks n) (hole_cells size at n es h clear (omega (arith, length-replicate {A = ℕ} n 0))))
 
 -- ---- writers
 writers_of_cells : (v : ℕ) (bs : List ℕ) → map writer_of (map (λ b. Some (b, v)) bs) ≡ replicate (length bs) (Some v)
@@ -231,33 +230,23 @@ writers_of_cells v [] = refl
 writers_of_cells v (b ∷ bs) = ap (λ x. Some v ∷ x) (writers_of_cells v bs)
 
 -- the writer of one of the cells beside others
-one_writer : (front part back whole : List Cell) (k at : ℕ) → whole ≡ front ++ (part ++ back) → length front ≡ k → k ≤ at → at < k + length part → get_or (map writer_of whole) at None ≡ get_or (map writer_of part) (at - k) None
-one_writer front part back whole k at is n low high =
-    let m = length-map front writer_of in
-    let o = length-map part writer_of in
-    ap (λ x. get_or (map writer_of x) at None) is
-    ∙ ap (λ x. get_or x at None) (map-append writer_of front (part ++ back) ∙ ap (λ x. map writer_of front ++ x) (map-append writer_of part back))
-    ∙ get_or-append_right (map writer_of front) (map writer_of part ++ map writer_of back) k at None (m ∙ n) low
-    ∙ get_or_append_left (map writer_of part) (map writer_of back) None (at - k) (omega arith)
+one_writer : (part whole : List Cell) (k at : ℕ) → Beside k part whole → k ≤ at → at < k + length part → get_or (map writer_of whole) at None ≡ get_or (map writer_of part) (at - k) None
+one_writer part whole k at b low high =
+    ap (λ x. get_or (map writer_of x) at None) b.parts
+    ∙ ap (λ x. get_or x at None) (map-append writer_of b.front (part ++ b.back) ∙ ap (λ x. map writer_of b.front ++ x) (map-append writer_of part b.back))
+    ∙ get_or-append_right (map writer_of b.front) (map writer_of part ++ map writer_of b.back) k at None (length-map b.front writer_of ∙ b.before) low
+    ∙ get_or_append_left (map writer_of part) (map writer_of b.back) None (at - k) (omega (arith, length-map part writer_of))
 
 pub writer_in_fragment : (size k at : ℕ) (f : Fragment) (es : Fragments) → AreLaid 0 size es → lookup (is_at (nat_cmp k)) es ≡ Some f → k ≤ at → at < k + length f.bytes → get_or (map writer_of (laid 0 size es)) at None ≡ Some f.writer
 writer_in_fragment size k at f es h is low high =
-    let b = beside_fragment size k f es h is in
-    let n = length_cells f in
-    one_writer b.front (cells_of f) b.back (laid 0 size es) k at b.parts b.before low (omega arith)
+    one_writer (cells_of f) (laid 0 size es) k at (beside_fragment size k f es h is) low (omega (arith, length_cells f))
     ∙ ap (λ x. get_or x (at - k) None) (writers_of_cells f.writer f.bytes)
     ∙ get_or-replicate (length f.bytes) (at - k) (Some f.writer) None (omega arith)
 
 pub writer_in_hole : (size at : ℕ) (es : Fragments) → AreLaid 0 size es → NoneHolds at es → at < size → get_or (map writer_of (laid 0 size es)) at None ≡ None
 writer_in_hole size at es h none inside =
-    let b = beside_hole 0 size at (at + 1) es h (clear_here at es none) (omega arith) (omega arith) (omega arith) in
-    let part = blanks (at + 1 - at) in
-    let n = length-replicate {A = Cell} (at + 1 - at) None in
-    let one : at + 1 - at ≡ 1 = omega arith in
     let start : at - at ≡ 0 = omega arith in
-    let there = b.before in
-    one_writer b.front part b.back (laid 0 size es) at at b.parts (omega arith) (omega arith) (omega arith)
-    ∙ ap (λ k. get_or (map writer_of (blanks k)) (at - at) None) one
+    one_writer (blanks 1) (laid 0 size es) at at (hole_cells size at 1 es h (clear_here at es none) (omega arith)) (omega arith) (omega arith)
     ∙ ap (λ k. get_or (map writer_of (blanks 1)) k None) start
 
 pub writer_past : (size at : ℕ) (es : Fragments) → AreLaid 0 size es → size ≤ at → get_or (map writer_of (laid 0 size es)) at None ≡ None

@@ -1,5 +1,5 @@
 -- Fragments found by their first offset, and one of them cut in two.
-use Rattle.std.proofs.Common.{◌≡◌, ℕ, ◌+◌, ◌-◌, ◌<◌, ◌≤◌, Bool, true, false, cond, eqb, ltb, [], ◌∷◌, ◌++◌, length, map, take, drop, replicate, sum_by, ◌⊎◌, inl, inr, ⊎_elim, Some, None, refl, sym, ap, subst, ◌∙◌, arith, append_assoc, length-take, length-drop, nat_cmp}
+use Rattle.std.proofs.Common.{◌≡◌, ℕ, ◌+◌, ◌-◌, ◌<◌, ◌≤◌, Bool, true, false, cond, eqb, ltb, [], ◌∷◌, ◌++◌, length, map, take, drop, sum_by, ◌⊎◌, inl, inr, ⊎_elim, Some, refl, sym, ap, subst, ◌∙◌, arith, append_assoc, length-take, length-drop, nat_cmp}
 use Rattle.std.specs.List.{AllByRecursion, filter}
 use Rattle.std.specs.Ordering.{match_ordering}
 use Rattle.std.specs.Cmp.{nat_cmp_is}
@@ -14,7 +14,7 @@ use Rattle.std.proofs.lemmas.Option.{none-some, same_Some}
 use Rattle.std.proofs.lemmas.List.{map-append, take-append-drop}
 use Rattle.std.specs.Cmp.{unsigned_tied}
 use Rattle.jffs_tree.specs.declared.fragment.Fragment.{Fragment}
-use Rattle.jffs_tree.specs.Fragments.{Fragments, Cell, cells_of, end_of, before, laid, AreLaid, AreCut, SameCells, part_by, amount_by}
+use Rattle.jffs_tree.specs.Fragments.{Fragments, cells_of, end_of, before, laid, AreLaid, AreCut, SameCells, part_by, amount_by}
 use Rattle.jffs_tree.proofs.files.Fragments.{blanks, begins_within, are_laid_append, laid_append, laid_bound}
 
 -- where the fragment of a first offset stands
@@ -176,12 +176,14 @@ module _ (k p : ℕ) (f : Fragment) (low : k < p) (high : p < k + length f.bytes
   abbrev pub right : Fragment
   right = record { bytes = drop (p - k) f.bytes; writer = f.writer }
 
+  left_end : k + length left.bytes ≡ p
+  left_end = omega (arith, length-take (p - k) f.bytes)
+
+  right_end : p + length right.bytes ≡ k + length f.bytes
+  right_end = omega (arith, length-drop (p - k) f.bytes)
+
   parts_sum : (v : ℕ) → part_by v f ≡ part_by v left + part_by v right
-  parts_sum v =
-      let a = length-take (p - k) f.bytes in
-      let b = length-drop (p - k) f.bytes in
-      let n : length f.bytes ≡ length (take (p - k) f.bytes) + length (drop (p - k) f.bytes) = omega arith in
-      by_test (eqb f.writer v) n
+  parts_sum v = by_test (eqb f.writer v) (omega (arith, left_end, right_end))
     where
       by_test : (t : Bool) → length f.bytes ≡ length (take (p - k) f.bytes) + length (drop (p - k) f.bytes) → cond t (length f.bytes) 0 ≡ cond t (length (take (p - k) f.bytes)) 0 + cond t (length (drop (p - k) f.bytes)) 0
       by_test true n = n
@@ -191,24 +193,14 @@ module _ (k p : ℕ) (f : Fragment) (low : k < p) (high : p < k + length f.bytes
   cells_split = ap (λ x. map (λ b. Some (b, f.writer)) x) (sym (take-append-drop (p - k) f.bytes)) ∙ map-append (λ b. Some (b, f.writer)) (take (p - k) f.bytes) (drop (p - k) f.bytes)
 
   laid_split : (size : ℕ) (b : Fragments) → AreLaid k size ((k, f) ∷ b) → AreLaid k size ((k, left) ∷ (p, right) ∷ b)
-  laid_split size b h =
-      let n = length-take (p - k) f.bytes in
-      let m = length-drop (p - k) f.bytes in
-      let e : k + length f.bytes ≡ p + length (drop (p - k) f.bytes) = omega arith in
-      let some : 0 < length (take (p - k) f.bytes) = omega arith in
-      let more : 0 < length (drop (p - k) f.bytes) = omega arith in
-      let touch : k + length (take (p - k) f.bytes) ≤ p = omega arith in
-      (h.0, some, (touch, more, subst (λ x. AreLaid x size b) e h.2))
+  laid_split size b h = (h.0, omega (arith, left_end), (omega (arith, left_end), omega (arith, right_end), subst (λ x. AreLaid x size b) (sym right_end) h.2))
 
   cells_stay : (size : ℕ) (b : Fragments) → laid k size ((k, left) ∷ (p, right) ∷ b) ≡ laid k size ((k, f) ∷ b)
   cells_stay size b =
-      let n = length-take (p - k) f.bytes in
-      let m = length-drop (p - k) f.bytes in
-      let e : p + length (drop (p - k) f.bytes) ≡ k + length f.bytes = omega arith in
-      let gap : p - (k + length (take (p - k) f.bytes)) ≡ 0 = omega arith in
+      let gap : p - (k + length left.bytes) ≡ 0 = omega (arith, left_end) in
       let start = blanks (k - k) in
-      let rest : replicate {A = Cell} (p - (k + length (take (p - k) f.bytes))) None ++ (cells_of right ++ laid (p + length (drop (p - k) f.bytes)) size b) ≡ cells_of right ++ laid (k + length f.bytes) size b =
-      ap (λ x. blanks x ++ (cells_of right ++ laid (p + length (drop (p - k) f.bytes)) size b)) gap ∙ ap (λ x. cells_of right ++ laid x size b) e in
+      let rest : blanks (p - (k + length left.bytes)) ++ (cells_of right ++ laid (p + length right.bytes) size b) ≡ cells_of right ++ laid (k + length f.bytes) size b =
+      ap (λ x. blanks x ++ (cells_of right ++ laid (p + length right.bytes) size b)) gap ∙ ap (λ x. cells_of right ++ laid x size b) right_end in
       ap (λ x. start ++ (cells_of left ++ x)) rest
       ∙ ap (λ x. start ++ x) (sym (append_assoc (cells_of left) (cells_of right) (laid (k + length f.bytes) size b)))
       ∙ ap (λ x. start ++ (x ++ laid (k + length f.bytes) size b)) (sym cells_split)
@@ -237,17 +229,16 @@ module _ (k p : ℕ) (f : Fragment) (low : k < p) (high : p < k + length f.bytes
   }
     where
       cut_left : (q : ℕ) → ((k + length f.bytes) ≤ q) ⊎ (q ≤ k) → ((k + length left.bytes) ≤ q) ⊎ (q ≤ k)
-      cut_left q h = let n = length-take (p - k) f.bytes in ⊎_elim (λ x. inl (omega arith)) (λ x. inr x) h
+      cut_left q h = ⊎_elim (λ x. inl (omega (arith, left_end))) (λ x. inr x) h
 
       cut_right : (q : ℕ) → ((k + length f.bytes) ≤ q) ⊎ (q ≤ k) → ((p + length right.bytes) ≤ q) ⊎ (q ≤ p)
-      cut_right q h = let n = length-drop (p - k) f.bytes in ⊎_elim (λ x. inl (omega arith)) (λ x. inr (omega arith)) h
+      cut_right q h = ⊎_elim (λ x. inl (omega (arith, right_end))) (λ x. inr (omega arith)) h
 
   -- And nothing reaches across the cut.
   pub split_cuts : (at size : ℕ) (a b : Fragments) → AreLaid at size (a ++ (k, f) ∷ b) → AreCut p (a ++ (k, left) ∷ (p, right) ∷ b)
   split_cuts at size a b h =
       let q = parts_around at size a b k f h in
-      let n = length-take (p - k) f.bytes in
-      let ends : k + length (take (p - k) f.bytes) ≤ p = omega arith in
+      let ends : k + length left.bytes ≤ p = omega (arith, left_end) in
       let here : p ≤ p = omega arith in
       each_append (λ e. (end_of e ≤ p) ⊎ (p ≤ e.0)) a ((k, left) ∷ (p, right) ∷ b) (cut_past at k p a q.0 (omega arith))
       (inl ends, (inr here, cut_if_all_from p b (all_later (k + length f.bytes) size p b q.2 (omega arith))))

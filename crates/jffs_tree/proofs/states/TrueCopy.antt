@@ -15,7 +15,7 @@ use Rattle.std.proofs.lemmas.List.{get_or-take, get_or-drop}
 pub same_put : (c b : List ℕ) (o : ℕ) → o + length b ≤ length c → b ≡ take (length b) (drop o c) → spliced c o (length b) b ≡ c
 same_put c b o within is =
     let len : length (spliced c o (length b) b) ≡ length c = (let e = length-spliced 0 c o (length b) b in omega arith) in
-    ext_get_or 0 _ _ len (λ p l. ⊎_elim
+    ext_get_or 0 _ _ len (λ p l. ⊎_elim {C = get_or (spliced c o (length b) b) p 0 ≡ get_or c p 0}
     (λ before. read_before 0 c o (length b) b p before)
     (λ from. ⊎_elim
     (λ inside. let back : o + (p - o) ≡ p = omega arith in

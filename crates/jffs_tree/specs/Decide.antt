@@ -222,7 +222,8 @@ node_for s holds limits Unmount = unmount_node
 
 -- the first cause that stands against a wish, else its node
 abbrev pub decide_in : State → (ℕ → Option (ℕ × Held)) → Limits → Wish → Result NewNode Cause
-decide_in s holds limits wish = unless (causes_for s holds limits wish) (node_for s holds limits wish)
+decide_in s holds limits wish =
+    unless (causes_for s holds limits wish) (node_for s holds limits wish)
 
 -- whether an accepted wish's node carries bytes, and so needs memory
 abbrev pub carries_bytes : Wish → Bool

@@ -3,15 +3,14 @@ use Rattle.std.proofs.Common.{◌≡◌, ℕ, zero, suc, ◌+◌, ◌-◌, ◌�
 use Rattle.std.specs.List.{AllByRecursion}
 use Rattle.std.specs.Option.{option_map_or, option_to_list}
 use Rattle.std.proofs.lemmas.Grind.{flat_map-append}
-use Rattle.std.proofs.lemmas.Bool.{eqb-true}
 use Rattle.std.proofs.lemmas.List.Sums.{sum_by-append, sum_by-cons}
 use Rattle.jffs_node.specs.declared.node.Node.{Node}
 use Rattle.jffs_node.specs.Record.{dsize}
 use Rattle.jffs_tree.specs.Origin.{Held, Tree}
 use Rattle.jffs_tree.specs.After.{held_in, padded_with, sized_with, writers_after}
-use Rattle.jffs_tree.specs.Marks.{Counts, SameMarks, bytes_by, brought_by, bytes_by_in, MovesMarks, MovesMarksIn}
+use Rattle.jffs_tree.specs.Marks.{Counts, SameMarks, bytes_by, brought_by, MovesMarks, MovesMarksIn}
 use Rattle.jffs_tree.proofs.versions.Marking.{turned}
-use Rattle.jffs_tree.proofs.versions.Marked.{under}
+use Rattle.jffs_tree.proofs.versions.Marked.{moved_in}
 
 abbrev counted : ℕ → List (Option ℕ) → ℕ
 counted v ws = count_by (λ w. eqb w v) (flat_map option_to_list ws)
@@ -134,15 +133,8 @@ first_same n h x old new inside none first moved v i =
 
 -- and they are moved in the tree.
 pub first_moved : (n : Node) (h x : Held) (before after : Tree) (old new : Counts) → h.writers ≡ [] → held_in before n.inode ≡ None → held_in after n.inode ≡ Some x → MovesMarks old new n h x → MovesMarksIn old new n before after
-first_moved n h x before after old new none absent found moved v i =
-    let e = moved v i in
-    let f = under (eqb i n.inode) (bytes_by_in before v i + brought_by v n) (bytes_by v h + brought_by v n)
-    (λ same. ap (λ m. m + brought_by v n) (ap (λ j. bytes_by_in before v j) (eqb-true i n.inode same) ∙ by_held absent ∙ sym (ap (counted v) none))) in
-    let g = under (eqb i n.inode) (bytes_by_in after v i) (bytes_by v x) (λ same. ap (λ j. bytes_by_in after v j) (eqb-true i n.inode same) ∙ by_held found) in
-    omega (arith, e, f, g)
-  where
-    by_held : {o p : Option Held} → o ≡ p → option_map_or (λ y. bytes_by v y) o 0 ≡ option_map_or (λ y. bytes_by v y) p 0
-    by_held is = ap (λ o. option_map_or (λ y. bytes_by v y) o 0) is
+first_moved n h x before after old new none absent found =
+    moved_in n h x before after old new (λ v. ap (λ o. option_map_or (λ y. bytes_by v y) o 0) absent ∙ sym (ap (counted v) none)) (λ v. ap (λ o. option_map_or (λ y. bytes_by v y) o 0) found)
 
 pub absent_none : (o : Option Held) → is_some o ≡ false → o ≡ None
 absent_none None h = refl

@@ -182,23 +182,24 @@ module _ (old : Tree) (i : ℕ) (h : Held) (k : ℕ) (is : held_in old i ≡ Som
         none true m = refl
         none false m = refl
 
--- A value that counts only where a test holds.
-pub under : (b : Bool) (x y : ℕ) → (b ≡ true → x ≡ y) → cond b x 0 ≡ cond b y 0
-under true x y h = h refl
-under false x y h = refl
+-- Marks that move for an inode's bytes move in trees where the inode has those bytes.
+pub moved_in : (n : Node) (h x : Held) (old new : Tree) (m k : Counts) → ((v : ℕ) → bytes_by_in old v n.inode ≡ bytes_by v h) → ((v : ℕ) → bytes_by_in new v n.inode ≡ bytes_by v x)
+    → MovesMarks m k n h x → MovesMarksIn m k n old new
+moved_in n h x old new m k before after moved v i =
+    let e = moved v i in
+    let f = under (eqb i n.inode) (bytes_by_in old v i + brought_by v n) (bytes_by v h + brought_by v n)
+    (λ same. ap (λ j. bytes_by_in old v j + brought_by v n) (eqb-true i n.inode same) ∙ ap (λ p. p + brought_by v n) (before v)) in
+    let g = under (eqb i n.inode) (bytes_by_in new v i) (bytes_by v x) (λ same. ap (λ j. bytes_by_in new v j) (eqb-true i n.inode same) ∙ after v) in
+    omega (arith, e, f, g)
+  where
+    under : (b : Bool) (p q : ℕ) → (b ≡ true → p ≡ q) → cond b p 0 ≡ cond b q 0
+    under true p q is = is refl
+    under false p q is = refl
 
 -- An inode that is present, written over.
-module _ (old : Tree) (n : Node) (h : Held) (is : held_in old n.inode ≡ Some h) (m : Counts) where
-  bytes_by_are : (tree : Tree) (x : Held) → held_in tree n.inode ≡ Some x → (v : ℕ) → bytes_by_in tree v n.inode ≡ bytes_by v x
-  bytes_by_are tree x at v = ap (λ o. option_map_or (λ y. bytes_by v y) o 0) at
-
-  pub moved_own : (new : Tree) (x : Held) (k : Counts) → held_in new n.inode ≡ Some x → MovesMarks m k n h x → MovesMarksIn m k n old new
-  moved_own new x k at moved v i =
-      let e = moved v i in
-      let f = under (eqb i n.inode) (bytes_by_in old v i + brought_by v n) (bytes_by v h + brought_by v n)
-      (λ same. ap (λ j. bytes_by_in old v j + brought_by v n) (eqb-true i n.inode same) ∙ ap (λ p. p + brought_by v n) (bytes_by_are old h is v)) in
-      let g = under (eqb i n.inode) (bytes_by_in new v i) (bytes_by v x) (λ same. ap (λ j. bytes_by_in new v j) (eqb-true i n.inode same) ∙ bytes_by_are new x at v) in
-      omega (arith, e, f, g)
+pub moved_own : (old : Tree) (n : Node) (h : Held) → held_in old n.inode ≡ Some h → (m : Counts) (new : Tree) (x : Held) (k : Counts) → held_in new n.inode ≡ Some x → MovesMarks m k n h x → MovesMarksIn m k n old new
+moved_own old n h is m new x k at =
+    moved_in n h x old new m k (λ v. ap (λ o. option_map_or (λ y. bytes_by v y) o 0) is) (λ v. ap (λ o. option_map_or (λ y. bytes_by v y) o 0) at)
 
 -- No version has more marks in an inode than it has bytes, and one.
 few_bytes : (v : ℕ) (ws : List (Option ℕ)) → count_by (λ w. eqb w v) (flat_map option_to_list ws) ≤ length ws

@@ -10,11 +10,16 @@ use Rattle.jffs_tree.proofs.files.Replacing.{amount_set, node_data_set}
 use Rattle.jffs_tree.proofs.files.Splitting.{whole_there}
 use Rattle.jffs_tree.proofs.files.Taking.{one_put, part_of_all}
 use Rattle.jffs_tree.proofs.fragment.replace.Goals as goal
+use Rattle.jffs_tree.proofs.fragment.replace.Goals.{In-Some}
+
+-- The node's fragment stands where the covered one stood.
+swaps : (c : In-Some) → Swaps c.args.node.now c.args.fragments.now c.swap.new.self c.in-Some.covered
+swaps c = subst (λ o. IfSome o (Swaps c.args.node.now c.args.fragments.now c.swap.new.self)) c.in-Some.is c.in_ok-covered.ensures.swapped
 
 pub lower-requires : goal.lower-requires
 lower-requires c =
     let n = c.args.node.now in
-    let swapped = subst (λ o. IfSome o (Swaps n c.args.fragments.now c.swap.new.self)) c.in-Some.is c.in_ok-covered.ensures.swapped in
+    let swapped = swaps (goal.at.lower-requires c).In-Some in
     let a = part_of_all (is_at (nat_cmp n.offset)) c.args.fragments.now.entries c.in-Some.covered swapped.there in
     let b = c.requires.marked c.in-Some.covered.writer in
     let l = c.len-2.ensures in
@@ -25,7 +30,7 @@ returns-clause-replaced c =
     let n = c.args.node.now in
     let was = c.args.fragments.now.entries in
     let covered : Fragment = c.in-Some.covered in
-    let swapped = subst (λ o. IfSome o (Swaps n c.args.fragments.now c.swap.new.self)) c.in-Some.is c.in_ok-covered.ensures.swapped in
+    let swapped = swaps (goal.at.returns-clause-replaced c).In-Some in
     let same : dsize n ≡ n.rsize = sym c.len.ensures.value ∙ c.if-len-node.false in
     file_replaced n c.args.size c.unwrap_or-after.result covered was c.swap.new.self.entries c.requires.fits.0 c.requires.fits.1
     (whole_there c.args.size n.offset covered was c.requires.fits.0 swapped.there) swapped.long same
@@ -39,7 +44,7 @@ returns-clause-moved c = λ v i.
     let part : Fragment = record { bytes = n.bytes; writer = n.version } in
     let covered : Fragment = c.in-Some.covered in
     let now = c.swap.new.self.entries in
-    let swapped = subst (λ o. IfSome o (Swaps n c.args.fragments.now c.swap.new.self)) c.in-Some.is c.in_ok-covered.ensures.swapped in
+    let swapped = swaps (goal.at.returns-clause-moved c).In-Some in
     let set = ap (amount_by v) swapped.entries in
     let moved = amount_set c.args.size n.offset covered part was c.requires.fits.0 swapped.there v in
     let brought : part_by v part ≡ brought_by v n = brought_part v n in

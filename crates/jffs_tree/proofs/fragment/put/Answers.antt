@@ -1,12 +1,12 @@
-use Rattle.std.proofs.Common.{◌≡◌, ◌+◌, ◌∙◌, ◌&&◌, cond, eqb, Option, Some, None, unwrap_or, option_map, length, sym, ap, arith, nat_cmp}
+use Rattle.std.proofs.Common.{◌≡◌, ◌+◌, ◌∙◌, ◌&&◌, ℕ, cond, eqb, Option, unwrap_or, option_map, length, sym, ap, arith, nat_cmp}
 use Rattle.std.specs.Option.{option_map_or}
-use Rattle.std.specs.Map.{lookup}
 use Rattle.std.specs.BTreeMap.{is_at, insert_entry}
 use Rattle.jffs_tree.specs.Marks.{mark_of}
 use Rattle.jffs_tree.specs.declared.fragment.Fragment.{Fragment}
-use Rattle.jffs_tree.specs.Fragments.{part_by, amount_by}
+use Rattle.jffs_tree.specs.Fragments.{Fragments, part_by, amount_by}
 use Rattle.jffs_tree.proofs.files.Taking.{short_found, part_of_all, amount_inserted, one_put, same_in}
 use Rattle.jffs_tree.proofs.fragment.put.Goals as goal
+use Rattle.jffs_tree.proofs.fragment.put.Goals.{In_ok-covered}
 
 pub len-amount-requires : goal.len-amount-requires
 len-amount-requires c = short_found (is_at (nat_cmp c.args.offset)) c.args.fragments.now.entries c.in-Some.covered c.requires.short (sym c.in_ok-covered.ensures.old ∙ c.in-Some.is)
@@ -17,18 +17,22 @@ lower-requires c =
     let b = c.requires.marked c.in-Some.covered.writer in
     omega arith
 
+-- How many bytes of a version there are now, with those that were covered.
+counted : (c : In_ok-covered) (v : ℕ) → amount_by v c.insert.new.self.entries + unwrap_or (option_map (part_by v) c.in_ok-covered.field-0) 0 ≡ amount_by v c.args.fragments.now.entries + part_by v c.args.fragment
+counted c v =
+    ap (λ (es : Fragments). amount_by v es + unwrap_or (option_map (part_by v) c.in_ok-covered.field-0) 0) c.in_ok-covered.ensures.entries
+    ∙ ap (λ (o : Option Fragment). amount_by v (insert_entry nat_cmp c.args.fragments.now.entries c.args.offset c.args.fragment) + unwrap_or (option_map (part_by v) o) 0) c.in_ok-covered.ensures.old
+    ∙ amount_inserted v c.args.offset c.args.fragment c.args.fragments.now.entries c.insert.ensures.was_ordered
+
 pub returns-in-Some-clause-moved : goal.returns-in-Some-clause-moved
 returns-in-Some-clause-moved c = λ v i.
-    let was = c.args.fragments.now.entries in
-    let now = c.insert.new.self.entries in
-    let found : lookup (is_at (nat_cmp c.args.offset)) was ≡ Some c.in-Some.covered = sym c.in_ok-covered.ensures.old ∙ c.in-Some.is in
-    let counted : amount_by v (insert_entry nat_cmp was c.args.offset c.args.fragment) + part_by v c.in-Some.covered ≡ amount_by v was + part_by v c.args.fragment =
-    ap (λ (o : Option Fragment). amount_by v (insert_entry nat_cmp was c.args.offset c.args.fragment) + unwrap_or (option_map (part_by v) o) 0) (sym found)
-    ∙ amount_inserted v c.args.offset c.args.fragment was c.insert.ensures.was_ordered in
-    let same : amount_by v now ≡ amount_by v (insert_entry nat_cmp was c.args.offset c.args.fragment) = ap (amount_by v) c.in_ok-covered.ensures.entries in
-    let put : amount_by v now + part_by v c.in-Some.covered ≡ amount_by v was + part_by v c.args.fragment = omega arith in
-    let lowered = ap (λ n. mark_of c.lower.new.self v i + cond (eqb v c.in-Some.covered.writer && eqb i c.args.inode) n 0) (sym c.len-amount.ensures) ∙ c.lower.ensures v i in
-    one_put v i c.args.inode c.in-Some.covered (mark_of c.args.marks.now v i) (mark_of c.lower.new.self v i) (amount_by v was) (amount_by v now) (part_by v c.args.fragment) lowered put
+    let f = c.in-Some.covered in
+    let was = amount_by v c.args.fragments.now.entries in
+    let now = amount_by v c.insert.new.self.entries in
+    let put : now + part_by v f ≡ was + part_by v c.args.fragment =
+    ap (λ (o : Option Fragment). now + unwrap_or (option_map (part_by v) o) 0) (sym c.in-Some.is) ∙ counted (goal.at.returns-in-Some-clause-moved c).In_ok-covered v in
+    let lowered = ap (λ n. mark_of c.lower.new.self v i + cond (eqb v f.writer && eqb i c.args.inode) n 0) (sym c.len-amount.ensures) ∙ c.lower.ensures v i in
+    one_put v i c.args.inode f (mark_of c.args.marks.now v i) (mark_of c.lower.new.self v i) was now (part_by v c.args.fragment) lowered put
 
 pub returns-in-Some-clause-covered : goal.returns-in-Some-clause-covered
 returns-in-Some-clause-covered c =
@@ -36,12 +40,8 @@ returns-in-Some-clause-covered c =
 
 pub returns-clause-moved : goal.returns-clause-moved
 returns-clause-moved c = λ v i.
-    let was = c.args.fragments.now.entries in
-    let now = c.insert.new.self.entries in
-    let none : lookup (is_at (nat_cmp c.args.offset)) was ≡ None = sym c.in_ok-covered.ensures.old ∙ c.in_default.is in
-    let counted : amount_by v (insert_entry nat_cmp was c.args.offset c.args.fragment) + 0 ≡ amount_by v was + part_by v c.args.fragment =
-    ap (λ (o : Option Fragment). amount_by v (insert_entry nat_cmp was c.args.offset c.args.fragment) + unwrap_or (option_map (part_by v) o) 0) (sym none)
-    ∙ amount_inserted v c.args.offset c.args.fragment was c.insert.ensures.was_ordered in
-    let same : amount_by v now ≡ amount_by v (insert_entry nat_cmp was c.args.offset c.args.fragment) = ap (amount_by v) c.in_ok-covered.ensures.entries in
-    let put : amount_by v was + part_by v c.args.fragment ≡ amount_by v now = omega arith in
-    ap (λ n. mark_of c.args.marks.now v i + n) (same_in (eqb i c.args.inode) (amount_by v was + part_by v c.args.fragment) (amount_by v now) put)
+    let was = amount_by v c.args.fragments.now.entries in
+    let now = amount_by v c.insert.new.self.entries in
+    let all : now + 0 ≡ was + part_by v c.args.fragment =
+    ap (λ (o : Option Fragment). now + unwrap_or (option_map (part_by v) o) 0) (sym c.in_default.is) ∙ counted (goal.at.returns-clause-moved c).In_ok-covered v in
+    ap (λ n. mark_of c.args.marks.now v i + n) (same_in (eqb i c.args.inode) (was + part_by v c.args.fragment) now (omega (arith, all)))

@@ -7,16 +7,17 @@ use Rattle.std.proofs.lemmas.Grind.{flat_map-append}
 use Rattle.jffs_tree.specs.After.{padded_with, spliced_with, sized_with}
 use Rattle.jffs_tree.specs.Fragments.{Fragments, Cell, byte_of, writer_of, cells_of, end_of, laid, part_by, amount_by}
 use Rattle.jffs_tree.proofs.files.Splitting.{amount_cons}
+use Rattle.jffs_tree.proofs.files.Fragments.{blanks}
 
 -- ---- what a function of cells makes of a write
 module _ {A : Type 0} (f : Cell → A) where
-  pub map_blanks : (n : ℕ) → map f (replicate {A = Cell} n None) ≡ replicate n (f None)
+  pub map_blanks : (n : ℕ) → map f (blanks n) ≡ replicate n (f None)
   map_blanks zero = refl
   map_blanks (suc n) = ap (λ x. f None ∷ x) (map_blanks n)
 
   pub map_padded : (k : ℕ) (c : List Cell) → map f (padded_with None k c) ≡ padded_with (f None) k (map f c)
   map_padded k c =
-      map-append f c (replicate {A = Cell} (k - length c) None)
+      map-append f c (blanks (k - length c))
       ∙ ap (λ x. map f c ++ x) (map_blanks (k - length c) ∙ ap (λ n. replicate (k - n) (f None)) (sym (length-map c f)))
 
   pub map_spliced : (o r : ℕ) (b c : List Cell) → map f (spliced_with None o r b c) ≡ spliced_with (f None) o r (map f b) (map f c)
@@ -51,10 +52,10 @@ counted_append v a b =
     ∙ ap (count_by (λ w. eqb w v)) (flat_map-append option_to_list (map writer_of a) (map writer_of b))
     ∙ sum_by-append (λ w. cond (eqb w v) 1 0) (flat_map option_to_list (map writer_of a)) (flat_map option_to_list (map writer_of b))
 
-none_counted : (v n : ℕ) → counted v (replicate {A = Cell} n None) ≡ 0
+none_counted : (v n : ℕ) → counted v (blanks n) ≡ 0
 none_counted v n = ap (count_by (λ w. eqb w v)) (nothing n)
   where
-    nothing : (k : ℕ) → flat_map option_to_list (map writer_of (replicate {A = Cell} k None)) ≡ []
+    nothing : (k : ℕ) → flat_map option_to_list (map writer_of (blanks k)) ≡ []
     nothing zero = refl
     nothing (suc k) = nothing k
 
@@ -76,7 +77,7 @@ fragment_counted v w (b ∷ bytes) =
 pub amount_counted : (v at size : ℕ) (es : Fragments) → counted v (laid at size es) ≡ amount_by v es
 amount_counted v at size [] = none_counted v (size - at)
 amount_counted v at size (e ∷ es) =
-    let a = counted_append v (replicate {A = Cell} (e.0 - at) None) (cells_of e.1 ++ laid (end_of e) size es) in
+    let a = counted_append v (blanks (e.0 - at)) (cells_of e.1 ++ laid (end_of e) size es) in
     let b = none_counted v (e.0 - at) in
     let c = counted_append v (cells_of e.1) (laid (end_of e) size es) in
     let d : counted v (cells_of e.1) ≡ part_by v e.1 = fragment_counted v e.1.writer e.1.bytes in

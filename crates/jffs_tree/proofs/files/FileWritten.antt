@@ -1,5 +1,5 @@
 -- A node written over a file of fragments: the cells are spliced and sized as it says.
-use Rattle.std.proofs.Common.{◌≡◌, ◌≢◌, ℕ, max, ◌+◌, ◌-◌, ◌<◌, ◌≤◌, true, false, cond, eqb, List, [], ◌∷◌, ◌++◌, Bool, length, map, take, drop, replicate, ◌⊎◌, inl, ⊎_elim, Option, Some, None, unwrap_or, refl, sym, ap, subst, ◌∙◌, arith, append_assoc, length-append}
+use Rattle.std.proofs.Common.{◌≡◌, ◌≢◌, ℕ, max, ◌+◌, ◌-◌, ◌<◌, ◌≤◌, true, false, cond, eqb, List, [], ◌∷◌, ◌++◌, Bool, length, map, take, drop, ◌⊎◌, inl, ⊎_elim, Option, Some, None, unwrap_or, refl, sym, ap, subst, ◌∙◌, arith, append_assoc, length-append}
 use Rattle.std.specs.List.{filter}
 use Rattle.std.proofs.lemmas.Bool.{cases_Bool, cases_lt, eqb-true, eqb-false}
 use Rattle.std.proofs.lemmas.List.{append-nil, nil_from_length, length-replicate, length-drop}
@@ -9,7 +9,7 @@ use Rattle.jffs_node.proofs.Each.{each_append}
 use Rattle.jffs_tree.specs.declared.fragment.Fragment.{Fragment}
 use Rattle.jffs_tree.specs.After.{padded_with, spliced_with, sized_with}
 use Rattle.jffs_tree.specs.Fragments.{Fragments, Cell, end_of, laid, AreLaid, AreCut, FitsFile, IsFileAfter, SameCells, before, from, outside, with_node_data, fragment_of}
-use Rattle.jffs_tree.proofs.files.Fragments.{laid_from_earlier, are_laid_append, laid_append, length-laid, all_before, none_from, parted, front_cells, back_cells}
+use Rattle.jffs_tree.proofs.files.Fragments.{blanks, laid_from_earlier, are_laid_append, laid_append, length-laid, all_before, none_from, parted, front_cells, back_cells}
 use Rattle.jffs_tree.proofs.files.Overwriting.{outside_parts}
 use Rattle.jffs_tree.proofs.files.SameCells.{same_cells}
 use Rattle.jffs_tree.proofs.files.Splitting.{Whole, cut_past}
@@ -54,7 +54,7 @@ module _ (n : Node) (size end after : ℕ) (es : Fragments) (h : AreLaid 0 size 
       (λ something.
       let gap : n.offset - n.offset ≡ 0 = omega arith in
       ap (λ t. laid n.offset after (cond t [] ((n.offset, record { bytes = n.bytes; writer = n.version }) ∷ []) ++ from end es)) something
-      ∙ ap (λ k. replicate {A = Cell} k None ++ (node_cells n ++ laid (n.offset + dsize n) after (from end es))) gap)
+      ∙ ap (λ k. blanks k ++ (node_cells n ++ laid (n.offset + dsize n) after (from end es))) gap)
       (cases_Bool (eqb (dsize n) 0))
 
   pub node_data_laid : AreLaid 0 after (with_node_data end n es)
@@ -72,7 +72,7 @@ drop_past : {A : Type 0} (k : ℕ) (xs : List A) → length xs ≤ k → drop k 
 drop_past k xs l = nil_from_length (drop k xs) (let e = length-drop k xs in omega arith)
 
 length_padded : (k : ℕ) (c : List Cell) → length (padded_with None k c) ≡ length c + (k - length c)
-length_padded k c = length-append c (replicate {A = Cell} (k - length c) None) ∙ ap (λ n. length c + n) (length-replicate {A = Cell} (k - length c) None)
+length_padded k c = length-append c (blanks (k - length c)) ∙ ap (λ n. length c + n) (length-replicate {A = Cell} (k - length c) None)
 
 -- Where no byte after the range moves: the data cover as much as they remove.
 module _ (n : Node) (size : ℕ) (es : Fragments) (h : AreLaid 0 size es) (same : dsize n ≡ n.rsize) (cut : AreCut (n.offset + dsize n) es) where
@@ -91,7 +91,7 @@ module _ (n : Node) (size : ℕ) (es : Fragments) (h : AreLaid 0 size es) (same 
       let none = none_from 0 size (n.offset + dsize n) es h (omega arith) in
       let gap : max (n.offset + dsize n) size - (n.offset + dsize n) ≡ 0 = omega arith in
       ap (laid (n.offset + dsize n) (max (n.offset + dsize n) size)) none
-      ∙ ap (λ k. replicate {A = Cell} k None) gap
+      ∙ ap blanks gap
       ∙ sym (drop_past (n.offset + n.rsize) (padded_with None n.offset (laid 0 size es)) (omega arith)))
       (λ long.
       let gap : n.offset - length (laid 0 size es) ≡ 0 = omega arith in
@@ -99,7 +99,7 @@ module _ (n : Node) (size : ℕ) (es : Fragments) (h : AreLaid 0 size es) (same 
       ap (λ k. laid (n.offset + dsize n) k (from (n.offset + dsize n) es)) reach
       ∙ sym (back_cells size (n.offset + dsize n) es h cut long)
       ∙ ap (λ k. drop k (laid 0 size es)) (omega arith)
-      ∙ ap (drop (n.offset + n.rsize)) (sym (ap (λ k. laid 0 size es ++ replicate {A = Cell} k None) gap ∙ append-nil (laid 0 size es))))
+      ∙ ap (drop (n.offset + n.rsize)) (sym (ap (λ k. laid 0 size es ++ blanks k) gap ∙ append-nil (laid 0 size es))))
       (cases_lt size (n.offset + dsize n))
 
 -- Where the range reaches the end of the file: nothing is after it.
@@ -116,7 +116,7 @@ module _ (n : Node) (size : ℕ) (es : Fragments) (h : AreLaid 0 size es) (small
       let padded = length_padded n.offset (laid 0 size es) in
       let gap : (n.offset + dsize n) - (n.offset + dsize n) ≡ 0 = omega arith in
       ap (laid (n.offset + dsize n) (n.offset + dsize n)) none_left
-      ∙ ap (λ k. replicate {A = Cell} k None) gap
+      ∙ ap blanks gap
       ∙ sym (drop_past (n.offset + n.rsize) (padded_with None n.offset (laid 0 size es)) (omega arith))
 
 -- The data don't reach across the size that the node states.

@@ -9,7 +9,7 @@ use Rattle.jffs_node.specs.Record.{dsize}
 use Rattle.jffs_tree.specs.Origin.{Held, Tree, versions_held}
 use Rattle.jffs_tree.specs.After.{held_in, held_after, without_inode, WritesInode}
 use Rattle.jffs_tree.specs.Marks.{Counts, mark_of, HaveMore, SameMarks, bytes_by, brought_by, bytes_by_in, MovesMarks, MovesMarksIn, HasByteMarks, LosesByteMarks, held_marks, AreMarksOf}
-use Rattle.jffs_tree.proofs.versions.Marking.{turned}
+use Rattle.jffs_tree.proofs.versions.Marking.{turned, more_here, more_elsewhere}
 use Rattle.jffs_tree.proofs.states.Pointwise.{find_without}
 
 -- one for the newest of an inode that is present
@@ -42,31 +42,14 @@ newest_is tree v i k is = by_held (held_in tree i) is
 module _ (old : Tree) (n : Node) (m0 m1 : Counts) (marked : AreMarksOf old m0) (raised : HaveMore m0 m1 n.version n.inode (dsize n + 1)) where
   -- what a raise leaves in the node's inode
   raised_here : (v : ℕ) → mark_of m1 v n.inode ≡ newest_marks old v n.inode + bytes_by_in old v n.inode + cond (eqb v n.version) (dsize n + 1) 0
-  raised_here v =
-      let e : mark_of m0 v n.inode + cond (eqb v n.version && eqb n.inode n.inode) (dsize n + 1) 0 ≡ mark_of m1 v n.inode = raised v n.inode in
-      let f : cond (eqb v n.version && eqb n.inode n.inode) (dsize n + 1) 0 ≡ cond (eqb v n.version) (dsize n + 1) 0 = own (eqb v n.version) in
-      let g = marked v n.inode in
-      let h = in_parts old v n.inode in
-      omega (arith, e, f, g, h)
-    where
-      own : (b : Bool) → cond (b && eqb n.inode n.inode) (dsize n + 1) 0 ≡ cond b (dsize n + 1) 0
-      own true = ap (λ b. cond b (dsize n + 1) 0) (eq-eqb n.inode n.inode refl)
-      own false = refl
+  raised_here v = omega (arith, more_here m0 m1 n.version n.inode (dsize n + 1) raised v, marked v n.inode, in_parts old v n.inode)
 
   by_version : (b : Bool) → cond b (dsize n + 1) 0 ≡ cond b (dsize n) 0 + cond b 1 0
   by_version true = refl
   by_version false = refl
 
   elsewhere : (v i : ℕ) → eqb i n.inode ≡ false → mark_of m1 v i ≡ held_marks old v i
-  elsewhere v i other =
-      let e : mark_of m0 v i + cond (eqb v n.version && eqb i n.inode) (dsize n + 1) 0 ≡ mark_of m1 v i = raised v i in
-      let f : cond (eqb v n.version && eqb i n.inode) (dsize n + 1) 0 ≡ 0 = ap (λ b. cond (eqb v n.version && b) (dsize n + 1) 0) other ∙ none (eqb v n.version) in
-      let g = marked v i in
-      omega (arith, e, f, g)
-    where
-      none : (b : Bool) → cond (b && false) (dsize n + 1) 0 ≡ 0
-      none true = refl
-      none false = refl
+  elsewhere v i other = sym (more_elsewhere m0 m1 n.version n.inode (dsize n + 1) raised v i other) ∙ marked v i
 
   -- The write was done: the marks are those of the new tree, and of the old newest.
   module _ (new : Tree) (m2 : Counts) (w : WritesInode old new n) (moved : MovesMarksIn m1 m2 n old new) where
@@ -109,24 +92,10 @@ module _ (old : Tree) (n : Node) (m0 m1 : Counts) (marked : AreMarksOf old m0) (
       of_old m3 less v i = ⊎_elim
           (λ at.
           let same : i ≡ n.inode = eqb-true i n.inode at in
-          let e : mark_of m3 v n.inode + cond (eqb v k) 1 0 ≡ mark_of m2 v n.inode = sym (own (eqb v k) n.inode (eq-eqb n.inode n.inode refl)) ∙ less v n.inode in
-          let f = here v in
-          let g = newest_is old v n.inode k was in
-          let h : mark_of m3 v n.inode ≡ held_marks new v n.inode = omega (arith, e, f, g) in
+          let h : mark_of m3 v n.inode ≡ held_marks new v n.inode = omega (arith, more_here m3 m2 k n.inode 1 less v, here v, newest_is old v n.inode k was) in
           subst (λ j. mark_of m3 v j ≡ held_marks new v j) (sym same) h)
-          (λ other.
-          let e : mark_of m3 v i + 0 ≡ mark_of m2 v i = sym (ap (λ b. mark_of m3 v i + cond (eqb v k && b) 1 0) other ∙ none (eqb v k) (mark_of m3 v i)) ∙ less v i in
-          let f = others v i other in
-          omega (arith, e, f))
+          (λ other. more_elsewhere m3 m2 k n.inode 1 less v i other ∙ others v i other)
           (cases_Bool (eqb i n.inode))
-        where
-          own : (b : Bool) (j : ℕ) → eqb j n.inode ≡ true → mark_of m3 v j + cond (b && eqb j n.inode) 1 0 ≡ mark_of m3 v j + cond b 1 0
-          own true j e = ap (λ t. mark_of m3 v j + cond t 1 0) e
-          own false j e = refl
-
-          none : (b : Bool) (m : ℕ) → m + cond (b && false) 1 0 ≡ m + 0
-          none true m = refl
-          none false m = refl
 
 -- the same marks are marks of the same tree
 pub same_marks_of : (tree : Tree) (m n : Counts) → AreMarksOf tree m → SameMarks m n → AreMarksOf tree n
@@ -160,27 +129,15 @@ module _ (old : Tree) (i : ℕ) (h : Held) (k : ℕ) (is : held_in old i ≡ Som
         (λ at.
         let same : j ≡ i = eqb-true j i at in
         let gone : held_in (without_inode old i) i ≡ None = find_without i old i ∙ ap (λ b. cond b None (held_in old i)) (eq-eqb i i refl) in
-        let e : mark_of m2 v i + cond (eqb v k) 1 0 ≡ mark_of m1 v i = sym (own (eqb v k) (eqb i i) (eq-eqb i i refl) (mark_of m2 v i)) ∙ less v i in
-        let f = lost_here v in
         let g : held_marks (without_inode old i) v i ≡ 0 = ap (λ (o : Option Held). option_map_or (λ x. count_by (λ w. eqb w v) (versions_held (i, x))) o 0) gone in
-        let r : mark_of m2 v i ≡ held_marks (without_inode old i) v i = omega (arith, e, f, g) in
+        let r : mark_of m2 v i ≡ held_marks (without_inode old i) v i = omega (arith, more_here m2 m1 k i 1 less v, lost_here v, g) in
         subst (λ x. mark_of m2 v x ≡ held_marks (without_inode old i) v x) (sym same) r)
         (λ other.
         let kept : held_in (without_inode old i) j ≡ held_in old j = find_without i old j ∙ ap (λ b. cond b None (held_in old j)) (turned i j ∙ other) in
-        let e : mark_of m2 v j + 0 ≡ mark_of m1 v j = sym (ap (λ b. mark_of m2 v j + cond (eqb v k && b) 1 0) other ∙ none (eqb v k) (mark_of m2 v j)) ∙ less v j in
         let f : mark_of m1 v j + 0 ≡ mark_of m0 v j = sym (ap (λ b. mark_of m1 v j + cond b (bytes_by v h) 0) other) ∙ lost v j in
         let g : held_marks (without_inode old i) v j ≡ held_marks old v j = ap (λ (o : Option Held). option_map_or (λ x. count_by (λ w. eqb w v) (versions_held (j, x))) o 0) kept in
-        let r = marked v j in
-        omega (arith, e, f, g, r))
+        omega (arith, more_elsewhere m2 m1 k i 1 less v j other, f, g, marked v j))
         (cases_Bool (eqb j i))
-      where
-        own : (b t : Bool) → t ≡ true → (m : ℕ) → m + cond (b && t) 1 0 ≡ m + cond b 1 0
-        own true t e m = ap (λ x. m + cond x 1 0) e
-        own false t e m = refl
-
-        none : (b : Bool) (m : ℕ) → m + cond (b && false) 1 0 ≡ m + 0
-        none true m = refl
-        none false m = refl
 
 -- Marks that move for an inode's bytes move in trees where the inode has those bytes.
 pub moved_in : (n : Node) (h x : Held) (old new : Tree) (m k : Counts) → ((v : ℕ) → bytes_by_in old v n.inode ≡ bytes_by v h) → ((v : ℕ) → bytes_by_in new v n.inode ≡ bytes_by v x)

@@ -68,6 +68,22 @@ none_more m v i c none w j = ap (λ x. mark_of m w j + cond (eqb w v && eqb j i)
     nothing true x = omega arith
     nothing false x = omega arith
 
+-- More marks of a version in an inode, seen from that inode and from another.
+module _ (m n : Counts) (v0 i0 c : ℕ) (more : HaveMore m n v0 i0 c) where
+  pub more_here : (v : ℕ) → mark_of m v i0 + cond (eqb v v0) c 0 ≡ mark_of n v i0
+  more_here v = sym (own (eqb v v0) (eqb i0 i0) (eq-eqb i0 i0 refl)) ∙ more v i0
+    where
+      own : (b t : Bool) → t ≡ true → mark_of m v i0 + cond (b && t) c 0 ≡ mark_of m v i0 + cond b c 0
+      own true t e = ap (λ x. mark_of m v i0 + cond x c 0) e
+      own false t e = refl
+
+  pub more_elsewhere : (v i : ℕ) → eqb i i0 ≡ false → mark_of m v i ≡ mark_of n v i
+  more_elsewhere v i other = sym (none (eqb v v0) (eqb i i0) other) ∙ more v i
+    where
+      none : (b t : Bool) → t ≡ false → mark_of m v i + cond (b && t) c 0 ≡ mark_of m v i
+      none true t e = ap (λ x. mark_of m v i + cond x c 0) e ∙ omega arith
+      none false t e = omega arith
+
 -- The order of keys.
 pub mark_low : (a b : MarkKey) → is_gt (mark_cmp a b) ≡ false → b.0.0 ≤ a.0.0
 mark_low a b h = nat_low b.0.0 a.0.0 (then_low (nat_cmp b.0.0 a.0.0) (nat_cmp a.1 b.1) h)

@@ -89,20 +89,20 @@ abbrev pub HasMarks : Counts → Node → Held → Type 0
 HasMarks counts n h = (v : ℕ) → bytes_by v h + brought_by v n ≤ mark_of counts v n.inode
 
 -- In the node's inode the marks for its bytes before and for the node's data have become those for
--- its bytes after.
-abbrev pub MovesMarks : Counts → Counts → Node → Held → Held → Type 0
-MovesMarks old new n before after =
-    (v i : ℕ) → mark_of new v i + (if i == n.inode then bytes_by v before + brought_by v n else 0)
-    ≡ mark_of old v i + (if i == n.inode then bytes_by v after else 0)
+-- its bytes after. Elsewhere they are the same.
+pub record MovesMarks (old new : Counts) (n : Node) (before after : Held) : Type 0 where
+  pub here : (v : ℕ) → mark_of new v n.inode + (bytes_by v before + brought_by v n)
+      ≡ mark_of old v n.inode + bytes_by v after
+  pub elsewhere : (v i : ℕ) → (i == n.inode) ≡ false → mark_of new v i ≡ mark_of old v i
 
 -- There are marks for all bytes of an inode.
 abbrev pub HasByteMarks : Counts → ℕ → Held → Type 0
 HasByteMarks counts inode h = (v : ℕ) → bytes_by v h ≤ mark_of counts v inode
 
--- The marks for all bytes of an inode are gone.
-abbrev pub LosesByteMarks : Counts → Counts → ℕ → Held → Type 0
-LosesByteMarks old new inode h =
-    (v i : ℕ) → mark_of new v i + (if i == inode then bytes_by v h else 0) ≡ mark_of old v i
+-- The marks for all bytes of an inode are gone. Elsewhere they are the same.
+pub record LosesByteMarks (old new : Counts) (inode : ℕ) (h : Held) : Type 0 where
+  pub here : (v : ℕ) → mark_of new v inode + bytes_by v h ≡ mark_of old v inode
+  pub elsewhere : (v i : ℕ) → (i == inode) ≡ false → mark_of new v i ≡ mark_of old v i
 
 -- how many bytes of an inode in a tree the version wrote
 abbrev pub bytes_by_in : Tree → ℕ → ℕ → ℕ
@@ -113,11 +113,10 @@ abbrev pub HasMarksIn : Counts → Node → Tree → Type 0
 HasMarksIn counts n tree =
     (v : ℕ) → bytes_by_in tree v n.inode + brought_by v n ≤ mark_of counts v n.inode
 
-abbrev pub MovesMarksIn : Counts → Counts → Node → Tree → Tree → Type 0
-MovesMarksIn old new n before after =
-    (v i : ℕ) → mark_of new v i
-    + (if i == n.inode then bytes_by_in before v i + brought_by v n else 0)
-    ≡ mark_of old v i + (if i == n.inode then bytes_by_in after v i else 0)
+pub record MovesMarksIn (old new : Counts) (n : Node) (before after : Tree) : Type 0 where
+  pub here : (v : ℕ) → mark_of new v n.inode + (bytes_by_in before v n.inode + brought_by v n)
+      ≡ mark_of old v n.inode + bytes_by_in after v n.inode
+  pub elsewhere : (v i : ℕ) → (i == n.inode) ≡ false → mark_of new v i ≡ mark_of old v i
 
 -- how often the tree holds the version in an inode: once as its newest, once for each byte
 abbrev pub held_marks : Tree → ℕ → ℕ → ℕ

@@ -1,14 +1,15 @@
 -- What the first node of an inode brings: its data, and nothing else.
-use Rattle.std.proofs.Common.{◌≡◌, ℕ, zero, suc, ◌+◌, ◌-◌, ◌≤◌, Bool, true, false, cond, eqb, List, [], ◌∷◌, ◌++◌, length, take, drop, replicate, flat_map, count_by, Option, Some, None, is_some, IfSome, append_assoc, length-append, refl, sym, ap, ◌∙◌, arith}
+use Rattle.std.proofs.Common.{◌≡◌, ℕ, zero, suc, ◌+◌, ◌-◌, ◌≤◌, Bool, true, false, cond, eqb, List, [], ◌∷◌, ◌++◌, length, take, drop, replicate, flat_map, count_by, Option, Some, None, is_some, IfSome, append_assoc, length-append, refl, sym, ap, ◌∙◌, ⊎_elim, subst, arith}
 use Rattle.std.specs.List.{AllByRecursion}
 use Rattle.std.specs.Option.{option_map_or, option_to_list}
+use Rattle.std.proofs.lemmas.Bool.{cases_Bool, eqb-true}
 use Rattle.std.proofs.lemmas.Grind.{flat_map-append}
 use Rattle.std.proofs.lemmas.List.Sums.{sum_by-append, sum_by-cons}
 use Rattle.jffs_node.specs.declared.node.Node.{Node}
 use Rattle.jffs_node.specs.Record.{dsize}
 use Rattle.jffs_tree.specs.Origin.{Held, Tree}
 use Rattle.jffs_tree.specs.After.{held_in, padded_with, sized_with, writers_after}
-use Rattle.jffs_tree.specs.Marks.{Counts, SameMarks, bytes_by, brought_by, MovesMarks, MovesMarksIn}
+use Rattle.jffs_tree.specs.Marks.{Counts, mark_of, SameMarks, bytes_by, brought_by, MovesMarks, MovesMarksIn}
 use Rattle.jffs_tree.proofs.versions.Marking.{turned}
 use Rattle.jffs_tree.proofs.versions.Marked.{moved_in}
 
@@ -125,11 +126,12 @@ module _ (n : Node) (v : ℕ) (inside : IfSome n.size (λ s. n.offset + dsize n 
 -- So its marks stay as they are,
 pub first_same : (n : Node) (h x : Held) (old new : Counts) → IfSome n.size (λ s. n.offset + dsize n ≤ s) → h.writers ≡ [] → x.writers ≡ writers_after n [] → MovesMarks old new n h x → SameMarks old new
 first_same n h x old new inside none first moved v i =
-    let e = moved v i in
     let f : bytes_by v h ≡ 0 = ap (counted v) none in
     let g : bytes_by v x ≡ brought_by v n = ap (counted v) first ∙ first_brought n v inside in
-    let k : cond (eqb i n.inode) (bytes_by v h + brought_by v n) 0 ≡ cond (eqb i n.inode) (bytes_by v x) 0 = ap (λ m. cond (eqb i n.inode) m 0) (omega (arith, f, g)) in
-    omega (arith, e, k)
+    ⊎_elim
+    (λ at. subst (λ j. mark_of new v j ≡ mark_of old v j) (sym (eqb-true i n.inode at)) (omega (arith, moved.here v, f, g)))
+    (λ other. moved.elsewhere v i other)
+    (cases_Bool (eqb i n.inode))
 
 -- and they are moved in the tree.
 pub first_moved : (n : Node) (h x : Held) (before after : Tree) (old new : Counts) → h.writers ≡ [] → held_in before n.inode ≡ None → held_in after n.inode ≡ Some x → MovesMarks old new n h x → MovesMarksIn old new n before after

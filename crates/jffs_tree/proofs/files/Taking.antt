@@ -170,11 +170,13 @@ one_put v i inode f before after was now new lowered put =
     let c = sum_in (eqb i inode) now (part_by v f) in
     omega arith
 
+-- A count of one inode, in that inode and elsewhere.
+pub own_count : (inode x : ℕ) → cond (eqb inode inode) x 0 ≡ x
+own_count inode x = ap (λ b. cond b x 0) (eq-eqb inode inode refl)
+
+pub other_count : (b : Bool) (x : ℕ) → b ≡ false → cond b x 0 ≡ 0
+other_count b x other = ap (λ t. cond t x 0) other
+
 pub still_marked : (old new : Counts) (inode : ℕ) (was now : Fragments) → MovesAmounts old new inode was now → HasAmounts old inode was → HasAmounts new inode now
 still_marked old new inode was now moved has v =
-    let t = eq-eqb inode inode refl in
-    let m = moved v inode in
-    let a : cond (eqb inode inode) (amount_by v was) 0 ≡ amount_by v was = ap (λ b. cond b (amount_by v was) 0) t in
-    let b : cond (eqb inode inode) (amount_by v now) 0 ≡ amount_by v now = ap (λ b. cond b (amount_by v now) 0) t in
-    let h = has v in
-    omega arith
+    omega (arith, moved v inode, own_count inode (amount_by v was), own_count inode (amount_by v now), has v)

@@ -1,5 +1,5 @@
 -- The marks of a tree, after one more node.
-use Rattle.std.proofs.Common.{◌≡◌, ℕ, ◌+◌, ◌≤◌, Bool, true, false, cond, ◌&&◌, eqb, List, ◌∷◌, [], length, flat_map, count_by, Option, Some, None, option_map, refl, sym, ap, subst, ◌∙◌, arith, ⊎_elim}
+use Rattle.std.proofs.Common.{◌≡◌, ℕ, ◌+◌, ◌≤◌, Bool, true, false, cond, eqb, List, ◌∷◌, [], length, flat_map, count_by, Option, Some, None, option_map, refl, sym, ap, subst, ◌∙◌, arith, ⊎_elim}
 use Rattle.std.specs.Option.{option_map_or, option_to_list}
 use Rattle.std.proofs.lemmas.Bool.{cases_Bool, eqb-true, eq-eqb}
 use Rattle.std.proofs.lemmas.Option.{same_Some}
@@ -8,7 +8,7 @@ use Rattle.jffs_node.specs.declared.node.Node.{Node}
 use Rattle.jffs_node.specs.Record.{dsize}
 use Rattle.jffs_tree.specs.Origin.{Held, Tree, versions_held}
 use Rattle.jffs_tree.specs.After.{held_in, held_after, without_inode, WritesInode}
-use Rattle.jffs_tree.specs.Marks.{Counts, mark_of, HaveMore, SameMarks, bytes_by, brought_by, bytes_by_in, MovesMarks, MovesMarksIn, HasByteMarks, LosesByteMarks, held_marks, AreMarksOf}
+use Rattle.jffs_tree.specs.Marks.{Counts, mark_of, HaveMore, SameMarks, bytes_by, bytes_by_in, MovesMarks, MovesMarksIn, HasByteMarks, LosesByteMarks, held_marks, AreMarksOf}
 use Rattle.jffs_tree.proofs.versions.Marking.{turned, more_here, more_elsewhere}
 use Rattle.jffs_tree.proofs.states.Pointwise.{find_without}
 
@@ -61,23 +61,16 @@ module _ (old : Tree) (n : Node) (m0 m1 : Counts) (marked : AreMarksOf old m0) (
 
     here : (v : ℕ) → mark_of m2 v n.inode ≡ held_marks new v n.inode + newest_marks old v n.inode
     here v =
-        let same = eq-eqb n.inode n.inode refl in
-        let e : mark_of m2 v n.inode + (bytes_by_in old v n.inode + brought_by v n) ≡ mark_of m1 v n.inode + bytes_by_in new v n.inode =
-        sym (ap (λ b. mark_of m2 v n.inode + cond b (bytes_by_in old v n.inode + brought_by v n) 0) same) ∙ moved v n.inode ∙ ap (λ b. mark_of m1 v n.inode + cond b (bytes_by_in new v n.inode) 0) same in
         let f = raised_here v in
         let g = by_version (eqb v n.version) in
         let h = newest_here v in
         let k = in_parts new v n.inode in
-        omega (arith, e, f, g, h, k)
+        omega (arith, moved.here v, f, g, h, k)
 
     others : (v i : ℕ) → eqb i n.inode ≡ false → mark_of m2 v i ≡ held_marks new v i
     others v i other =
-        let e : mark_of m2 v i + 0 ≡ mark_of m1 v i + 0 =
-        sym (ap (λ b. mark_of m2 v i + cond b (bytes_by_in old v i + brought_by v n) 0) other) ∙ moved v i ∙ ap (λ b. mark_of m1 v i + cond b (bytes_by_in new v i) 0) other in
-        let f = elsewhere v i other in
         let same : held_in new i ≡ held_in old i = w.found i ∙ ap (λ b. cond b (Some (held_after n (held_in old i))) (held_in old i)) (turned n.inode i ∙ other) in
-        let g : held_marks new v i ≡ held_marks old v i = ap (λ (o : Option Held). option_map_or (λ h. count_by (λ w. eqb w v) (versions_held (i, h))) o 0) same in
-        omega (arith, e, f, g)
+        moved.elsewhere v i other ∙ elsewhere v i other ∙ sym (ap (λ (o : Option Held). option_map_or (λ h. count_by (λ w. eqb w v) (versions_held (i, h))) o 0) same)
 
     -- an inode with that newest version was there
     module _ (k : ℕ) (was : option_map (λ h. h.newest) (held_in old n.inode) ≡ Some (Some k)) where
@@ -116,10 +109,7 @@ module _ (old : Tree) (i : ℕ) (h : Held) (k : ℕ) (is : held_in old i ≡ Som
 
   module _ (m1 : Counts) (lost : LosesByteMarks m0 m1 i h) where
     lost_here : (v : ℕ) → mark_of m1 v i ≡ cond (eqb v k) 1 0
-    lost_here v =
-        let e : mark_of m1 v i + bytes_by v h ≡ mark_of m0 v i = sym (ap (λ b. mark_of m1 v i + cond b (bytes_by v h) 0) (eq-eqb i i refl)) ∙ lost v i in
-        let f = split_here v in
-        omega (arith, e, f)
+    lost_here v = omega (arith, lost.here v, split_here v)
 
     pub one_left : 1 ≤ mark_of m1 k i
     one_left = let e = lost_here k in let g : ◌≡◌ {A = ℕ} (cond (eqb k k) 1 0) 1 = ap (λ b. cond b 1 0) (eq-eqb k k refl) in omega (arith, e, g)
@@ -134,24 +124,16 @@ module _ (old : Tree) (i : ℕ) (h : Held) (k : ℕ) (is : held_in old i ≡ Som
         subst (λ x. mark_of m2 v x ≡ held_marks (without_inode old i) v x) (sym same) r)
         (λ other.
         let kept : held_in (without_inode old i) j ≡ held_in old j = find_without i old j ∙ ap (λ b. cond b None (held_in old j)) (turned i j ∙ other) in
-        let f : mark_of m1 v j + 0 ≡ mark_of m0 v j = sym (ap (λ b. mark_of m1 v j + cond b (bytes_by v h) 0) other) ∙ lost v j in
-        let g : held_marks (without_inode old i) v j ≡ held_marks old v j = ap (λ (o : Option Held). option_map_or (λ x. count_by (λ w. eqb w v) (versions_held (j, x))) o 0) kept in
-        omega (arith, more_elsewhere m2 m1 k i 1 less v j other, f, g, marked v j))
+        more_elsewhere m2 m1 k i 1 less v j other
+        ∙ lost.elsewhere v j other
+        ∙ marked v j
+        ∙ sym (ap (λ (o : Option Held). option_map_or (λ x. count_by (λ w. eqb w v) (versions_held (j, x))) o 0) kept))
         (cases_Bool (eqb j i))
 
 -- Marks that move for an inode's bytes move in trees where the inode has those bytes.
 pub moved_in : (n : Node) (h x : Held) (old new : Tree) (m k : Counts) → ((v : ℕ) → bytes_by_in old v n.inode ≡ bytes_by v h) → ((v : ℕ) → bytes_by_in new v n.inode ≡ bytes_by v x)
     → MovesMarks m k n h x → MovesMarksIn m k n old new
-moved_in n h x old new m k before after moved v i =
-    let e = moved v i in
-    let f = under (eqb i n.inode) (bytes_by_in old v i + brought_by v n) (bytes_by v h + brought_by v n)
-    (λ same. ap (λ j. bytes_by_in old v j + brought_by v n) (eqb-true i n.inode same) ∙ ap (λ p. p + brought_by v n) (before v)) in
-    let g = under (eqb i n.inode) (bytes_by_in new v i) (bytes_by v x) (λ same. ap (λ j. bytes_by_in new v j) (eqb-true i n.inode same) ∙ after v) in
-    omega (arith, e, f, g)
-  where
-    under : (b : Bool) (p q : ℕ) → (b ≡ true → p ≡ q) → cond b p 0 ≡ cond b q 0
-    under true p q is = is refl
-    under false p q is = refl
+moved_in n h x old new m k before after moved = record { here = λ v. omega (arith, moved.here v, before v, after v); elsewhere = moved.elsewhere }
 
 -- An inode that is present, written over.
 pub moved_own : (old : Tree) (n : Node) (h : Held) → held_in old n.inode ≡ Some h → (m : Counts) (new : Tree) (x : Held) (k : Counts) → held_in new n.inode ≡ Some x → MovesMarks m k n h x → MovesMarksIn m k n old new

@@ -1,10 +1,11 @@
-use Rattle.std.proofs.Common.{◌≡◌, ◌+◌, ◌∙◌, ◌<◌, length, cond, eqb, refl, sym, ap, subst, arith, nat_cmp}
+use Rattle.std.proofs.Common.{◌≡◌, ◌+◌, ◌∙◌, ◌<◌, length, sym, ap, subst, arith, nat_cmp}
 use Rattle.std.specs.BTreeMap.{insert_entry}
-use Rattle.std.proofs.lemmas.Bool.{eq-eqb, eqb-false}
+use Rattle.std.proofs.lemmas.Bool.{eqb-false}
 use Rattle.jffs_tree.specs.declared.fragment.Fragment.{Fragment}
 use Rattle.jffs_tree.specs.Marks.{brought_by}
 use Rattle.jffs_tree.specs.Fragments.{AreShort, outside, part_by, amount_by}
 use Rattle.jffs_tree.proofs.files.Overwriting.{short_from_laid, short_inserted, outside_parts, insert_outside, covered_short, covers_all, no_data, some_data, brought_part}
+use Rattle.jffs_tree.proofs.files.Taking.{own_count}
 use Rattle.jffs_tree.proofs.fragment.overwrite.Goals as goal
 use Rattle.jffs_tree.proofs.fragment.overwrite.Goals.{In_ok-covered}
 
@@ -33,10 +34,9 @@ take_out-requires-2-clause-marked c = λ v.
     let part : Fragment = c.in_ok-fragment.fragment in
     let was = amount_by v c.args.fragments.now.entries in
     let now = amount_by v c.put.new.fragments.entries in
-    let t = eq-eqb i i refl in
     let moved = c.in_ok-covered.ensures.moved v i in
-    let a : cond (eqb i i) (was + part_by v part) 0 ≡ was + part_by v part = ap (λ b. cond b (was + part_by v part) 0) t in
-    let b : cond (eqb i i) now 0 ≡ now = ap (λ b. cond b now 0) t in
+    let a = own_count i (was + part_by v part) in
+    let b = own_count i now in
     let same : part_by v part ≡ brought_by v c.args.node.now =
     ap (part_by v) c.in_ok-fragment.ensures ∙ brought_part v c.args.node.now in
     let has = c.requires.marked v in

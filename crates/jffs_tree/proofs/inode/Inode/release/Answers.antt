@@ -1,9 +1,10 @@
-use Rattle.std.proofs.Common.{◌≡◌, ◌∙◌, Bool, true, false, cond, eqb, ℕ, refl, sym, ap, arith}
+use Rattle.std.proofs.Common.{◌≡◌, ◌∙◌, eqb, sym, ap, arith}
 use Rattle.jffs_tree.specs.Marks.{bytes_by}
 use Rattle.jffs_tree.specs.Shown.{held_of}
 use Rattle.jffs_tree.specs.Fragments.{amount_by}
 use Rattle.jffs_tree.proofs.files.Counted.{amount_counted}
 use Rattle.jffs_tree.proofs.files.Overwriting.{short_from_laid}
+use Rattle.jffs_tree.proofs.files.Taking.{own_count, other_count}
 use Rattle.jffs_tree.proofs.inode.Inode.release.Goals as goal
 
 pub lower_all-requires-clause-short : goal.lower_all-requires-clause-short
@@ -17,14 +18,12 @@ lower_all-requires-clause-marked c = λ v.
     omega arith
 
 pub returns : goal.returns
-returns c = λ v i.
-    let a : bytes_by v (held_of c.self.inside) ≡ amount_by v c.self.inside.fragments.entries = amount_counted v 0 c.self.inside.size c.self.inside.fragments.entries in
-    let b : bytes_by v c.args.self.now ≡ amount_by v c.self.inside.fragments.entries = ap (bytes_by v) (sym c.self.view_is) ∙ a in
-    let x = ap (λ k. cond (eqb i c.args.inode) k 0) b in
-    let m = c.lower_all.ensures v i in
-    let none = nothing (eqb i c.args.inode) in
-    omega arith
-  where
-    nothing : (t : Bool) → ◌≡◌ {A = ℕ} (cond t 0 0) 0
-    nothing true = refl
-    nothing false = refl
+returns c =
+    let was = c.self.inside.fragments.entries in
+    record {
+      here = λ v.
+          let b : bytes_by v c.args.self.now ≡ amount_by v was = ap (bytes_by v) (sym c.self.view_is) ∙ amount_counted v 0 c.self.inside.size was in
+          omega (arith, b, c.lower_all.ensures v c.args.inode, own_count c.args.inode (amount_by v was), own_count c.args.inode 0);
+      elsewhere = λ v i other.
+          omega (arith, c.lower_all.ensures v i, other_count (eqb i c.args.inode) (amount_by v was) other, other_count (eqb i c.args.inode) 0 other);
+    }

@@ -1,4 +1,4 @@
-use Rattle.std.proofs.Common.{◌≡◌, ◌∙◌, ◌+◌, cond, eqb, length, map, Some, sym, ap, arith}
+use Rattle.std.proofs.Common.{◌≡◌, eqb, ◌∙◌, ◌+◌, length, map, Some, sym, ap, arith}
 use Rattle.std.proofs.lemmas.List.{length-map}
 use Rattle.jffs_tree.specs.Origin.{Held}
 use Rattle.jffs_tree.specs.After.{held_after}
@@ -8,6 +8,7 @@ use Rattle.jffs_tree.specs.Fragments.{byte_of, writer_of, laid, amount_by}
 use Rattle.jffs_tree.proofs.files.Counted.{amount_counted}
 use Rattle.jffs_tree.proofs.files.Fragments.{length-laid}
 use Rattle.jffs_tree.proofs.files.InodeWritten.{bytes_written, writers_written, held_written}
+use Rattle.jffs_tree.proofs.files.Taking.{own_count, other_count}
 use Rattle.jffs_tree.proofs.inode.Inode.write.Goals as goal
 
 pub write_over-requires-clause-fits : goal.write_over-requires-clause-fits
@@ -39,12 +40,14 @@ returns-clause-ok c =
     ∙ ap (λ (h : Held). held_after n (Some h)) c.self.view_is
 
 pub returns-clause-marks : goal.returns-clause-marks
-returns-clause-marks c = λ v i.
+returns-clause-marks c =
     let n = c.args.node.now in
-    let a : bytes_by v (held_of c.self.inside) ≡ amount_by v c.self.inside.fragments.entries = amount_counted v 0 c.self.inside.size c.self.inside.fragments.entries in
-    let b : bytes_by v c.args.self.now ≡ amount_by v c.self.inside.fragments.entries = ap (bytes_by v) (sym c.self.view_is) ∙ a in
-    let d = amount_counted v 0 c.in_ok-self-inside.field-0 c.write_over.new.fragments.entries in
-    let m = c.in_ok-self-inside.ensures.moved v i in
-    let x = ap (λ k. cond (eqb i n.inode) (k + brought_by v n) 0) b in
-    let y = ap (λ k. cond (eqb i n.inode) k 0) d in
-    omega arith
+    let was = c.self.inside.fragments.entries in
+    let now = c.write_over.new.fragments.entries in
+    record {
+      here = λ v.
+          let before : bytes_by v c.args.self.now ≡ amount_by v was = ap (bytes_by v) (sym c.self.view_is) ∙ amount_counted v 0 c.self.inside.size was in
+          omega (arith, before, amount_counted v 0 c.in_ok-self-inside.field-0 now, c.in_ok-self-inside.ensures.moved v n.inode, own_count n.inode (amount_by v was + brought_by v n), own_count n.inode (amount_by v now));
+      elsewhere = λ v i other.
+          omega (arith, c.in_ok-self-inside.ensures.moved v i, other_count (eqb i n.inode) (amount_by v was + brought_by v n) other, other_count (eqb i n.inode) (amount_by v now) other);
+    }

@@ -12,11 +12,11 @@ pub laid_bound : (at size : ℕ) (es : Fragments) → AreLaid at size es → at 
 laid_bound at size [] h = h
 laid_bound at size (e ∷ es) h = omega (arith, laid_bound (end_of e) size es h.2, h.0)
 
--- None begins before the offset where they may.
+-- None begins before the offset from which they are laid.
 begins_from : (at size p : ℕ) (e : ℕ × Fragment) (es : Fragments) → AreLaid at size (e ∷ es) → p ≤ at → p ≤ e.0
 begins_from at size p e es h l = omega (arith, h.0)
 
--- as many bytes that none wrote
+-- cells of bytes that no fragment holds
 abbrev pub blanks : ℕ → List Cell
 blanks n = replicate n None
 

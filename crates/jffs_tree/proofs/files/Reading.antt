@@ -161,6 +161,7 @@ hole_cells size p n es h free high =
     (subst (λ k. Beside (p - 0) (blanks k) (laid 0 size es)) gap (beside_hole 0 size p (p + n) es h free (omega arith) (omega arith) high))
 
 -- ---- bytes
+-- what stands beside others, read where it stands
 part_stands : (at : ℕ) (part whole : List ℕ) → Beside at part whole → take (length part) (drop at whole) ≡ part
 part_stands at part whole b =
     ap (λ x. take (length part) (drop at x)) b.parts
@@ -176,6 +177,7 @@ bytes_of_blanks : (n : ℕ) → map byte_of (blanks n) ≡ replicate n 0
 bytes_of_blanks zero = refl
 bytes_of_blanks (suc n) = ap (λ x. 0 ∷ x) (bytes_of_blanks n)
 
+-- What stands beside others as cells does so as bytes.
 bytes_beside : (at : ℕ) (part whole : List Cell) (bytes : List ℕ) → map byte_of part ≡ bytes → Beside at part whole → Beside at bytes (map byte_of whole)
 bytes_beside at part whole bytes are b = record {
   front = map byte_of b.front;

@@ -23,7 +23,7 @@ pub record Found (k : ℕ) (f : Fragment) (es : Fragments) : Type 0 where
   pub back : Fragments
   pub whole : es ≡ front ++ (k, f) ∷ back
 
--- behind one more
+-- It stands there behind one more fragment too.
 abbrev one_on : {k : ℕ} {f : Fragment} {es : Fragments} (e : ℕ × Fragment) → Found k f es → Found k f (e ∷ es)
 one_on e r = record { front = e ∷ r.front; back = r.back; whole = ap (λ x. e ∷ x) r.whole }
 
@@ -34,9 +34,7 @@ found k f (e ∷ es) is = ⊎_elim
     let same : k ≡ e.0 = eqb-true k e.0 (sym (unsigned_tied k e.0) ∙ tied) in
     let this : e.1 ≡ f = same_Some e.1 f (sym (ap (λ t. cond t (Some e.1) (lookup (is_at (nat_cmp k)) es)) tied) ∙ is) in
     record { front = []; back = es; whole = ap (λ j. (j, e.1) ∷ es) (sym same) ∙ ap (λ x. (k, x) ∷ es) this })
-    (λ apart.
-    let r = found k f es (sym (ap (λ t. cond t (Some e.1) (lookup (is_at (nat_cmp k)) es)) apart) ∙ is) in
-    one_on e r)
+    (λ apart. one_on e (found k f es (sym (ap (λ t. cond t (Some e.1) (lookup (is_at (nat_cmp k)) es)) apart) ∙ is)))
     (cases_Bool (is_at (nat_cmp k) e.0))
 
 -- what stands before a fragment, and after it
@@ -176,6 +174,7 @@ module _ (k p : ℕ) (f : Fragment) (low : k < p) (high : p < k + length f.bytes
   abbrev pub right : Fragment
   right = record { bytes = drop (p - k) f.bytes; writer = f.writer }
 
+  -- The left part ends where the right one begins, and that one where the fragment ended.
   left_end : k + length left.bytes ≡ p
   left_end = omega (arith, length-take (p - k) f.bytes)
 

@@ -145,11 +145,12 @@ split_at_end counts ordered first e last low = record {
   );
 }
 
--- Entries that are kept, `items`, and as they are seen, `now`: the key stands at the index.
+-- The entries as they are kept, `items`, and as they are seen, `now`: the key stands at the index.
 module _ (items now : Counts) (seen : items ≡ now) (ordered : InOrder items) (v j i : ℕ) (e : MarkKey × ℕ) (read : e ≡ get_or items i e) (key : IsKeyAt now (mark_key v j) i) where
   at_place : slice_get items i ≡ Some (mark_key v j, e.1)
   at_place = entry_is items i (mark_key v j) e (subst (λ (t : Counts). IsKeyAt t (mark_key v j) i) (sym seen) key) read
 
+  -- The entry that was read is the key's, and has its marks.
   own : mark_key v j ≡ e.0
   own = ap (λ (x : MarkKey × ℕ). x.0) (same_Some (mark_key v j, e.1) e (sym at_place ∙ read_at items i e (slice_get_within items i (mark_key v j, e.1) at_place) read))
 

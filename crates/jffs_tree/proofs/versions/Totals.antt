@@ -216,9 +216,6 @@ marks_counted tree counts sorted rising marked v =
     (λ other. ap (λ b. cond b (at q counts) 0) other ∙ sym (ap (λ b. cond b (held_marks tree v q.1) 0) other))
     (cases_Bool (eqb q.0.0 v)))
 
--- Sums that stop at a most.
-pub capped : (t c s most : ℕ) → min (min (t + c) most + s) most ≡ min (t + (c + s)) most
-capped t c s most = grind arith
-
+-- A sum that stops at a most, where nothing is left to add.
 pub whole : (t z most : ℕ) → t ≤ most → z ≡ 0 → t ≡ min (t + z) most
 whole t z most low none = grind (arith, low, none)

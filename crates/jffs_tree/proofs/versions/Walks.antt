@@ -36,13 +36,6 @@ pub record AreSpentFrom (counts : Counts) (first i : ℕ) : Type 0 where
   pub newer : (j : ℕ) (e : MarkKey × ℕ) → slice_get counts j ≡ Some e → j < i → first ≤ e.0.0.0
   pub spent : (j : ℕ) (e : MarkKey × ℕ) → slice_get counts j ≡ Some e → i ≤ j → first ≤ e.0.0.0 → e.1 ≡ 0
 
-pub from_split : (counts : Counts) (first i : ℕ) → SplitsAt counts first i → AreSpentFrom counts first i
-from_split counts first i split = record {
-  within = split.within;
-  newer = λ j e is l. new_at counts first i split j e is l;
-  spent = λ j e is l low. let old = old_at counts first i split j e is l in absurd (omega (arith, old, low));
-}
-
 module _ (counts : Counts) (ordered : InOrder counts) (first n : ℕ) (some : 0 < n) (e : MarkKey × ℕ) (is : slice_get counts (n - 1) ≡ Some e) (walk : AreSpentFrom counts first n) where
   pub one_spent : e.1 ≡ 0 → AreSpentFrom counts first (n - 1)
   one_spent none = record {

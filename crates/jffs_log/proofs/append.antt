@@ -3,8 +3,6 @@ pub mod Append
 pub mod Appended
 pub mod Fits
 pub mod Gate
-pub mod NextPut
 pub mod Open
 pub mod Puts
 pub mod Putting
-pub mod TailPut

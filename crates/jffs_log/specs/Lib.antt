@@ -8,6 +8,7 @@ pub mod LogIndex
 pub mod Ring
 pub mod Scan
 pub mod Room
+pub mod Place
 pub mod Cleaning
 pub mod Laws
 pub mod RoomLaws

@@ -3,21 +3,24 @@ use Rattle.std.specs.Prelude.{◌≡◌, ◌⊎◌, ℕ, ◌+◌, ◌-◌, ◌*�
 use Rattle.std.specs.Prelude.{List, [], ◌∷◌, ◌++◌, length, min, IsTrue}
 use Rattle.std.specs.List.{AllByRecursion}
 use Rattle.jffs_node.specs.declared.node.Node.{Node}
-use Rattle.jffs_node.specs.Record.{record_len, dsize, is_lawful, is_unmount, fits_rest}
+use Rattle.jffs_node.specs.Record.{record_len, is_lawful, is_unmount}
 use Rattle.jffs_tree.specs.Origin.{Tree, tree_of}
 use Rattle.jffs_tree.specs.declared.wish.Cause.{Cause}
 use Rattle.jffs_tree.specs.declared.wish.Cause.TheVariants as cause
 use Rattle.jffs_flash.specs.Image.{erased, IsHalfErased}
 use Rattle.jffs_flash.specs.Device.{Device, with_image, Fails, EraseFails, Unchanged}
 use Rattle.jffs_flash.specs.Wear.{Wear, Wears, no_erase, one_erase}
+use Rattle.jffs_flash.specs.declared.sizes.TheConstants.{MAX_SECTORS}
 use Rattle.jffs_log.specs.declared.log_index.LogIndex.{LogIndex}
+use Rattle.jffs_log.specs.declared.place.Place.{Place}
 use Rattle.jffs_log.specs.declared.room.Room.{Room}
 use Rattle.jffs_log.specs.declared.room.Room.TheVariants as room
-use Rattle.jffs_log.specs.LogIndex.{IsLogIndex, HasSizes, IsSameLogIndex, IsCut, IsCutSomewhere}
+use Rattle.jffs_log.specs.LogIndex.{IsLogIndex, HasSizes, IsSameLogIndex, IsCutSomewhere}
 use Rattle.jffs_log.specs.LogIndex.{log_in, oldest_in, layout_in, lives_in, placed_at}
 use Rattle.jffs_log.specs.Cleaning.{Layout, put, erase_oldest}
 use Rattle.jffs_log.specs.History.{IsHistory, KeepsRules}
 use Rattle.jffs_log.specs.Image.{Placed, is_clean}
+use Rattle.jffs_log.specs.Place.{IsPlace}
 use Rattle.jffs_log.specs.Room.{has_room_in}
 use Rattle.jffs_log.specs.Volume.{sectors_in}
 use Rattle.jffs_log.specs.Wear.{sector_after}
@@ -47,13 +50,10 @@ HasHistory past s = IsHistory s.device.image s.index past
 pub record IsLog (s : LogState) : Type 0 where
   pub sizes : HasSizes s.device.sectors s.device.sector_size s.index
   pub held : s.index.held ≤ s.index.sectors
+  pub first : s.index.first < s.index.sectors
+  pub sectors : s.index.sectors ≤ MAX_SECTORS
   pub few : length s.index.records.items < 2 ^ 32
   pub told : s.failed ≡ false → IsLogIndex s.device.image s.index
-
--- the node's record may stand in `free` bytes of a sector
-pub record FitsIn (sector_size free : ℕ) (n : Node) : Type 0 where
-  pub lawful : IsTrue (is_lawful n)
-  pub fits : IsTrue (fits_rest n.kind (dsize n) (sector_size / 4) free)
 
 -- the node's record may be the next, where that room is
 pub record MayAppend (r : Room) (n : Node) (s : LogState) : Type 0 where
@@ -62,6 +62,12 @@ pub record MayAppend (r : Room) (n : Node) (s : LogState) : Type 0 where
   pub has_room : IsTrue
       (has_room_in s.index.sectors s.index.sector_size s.device.image r (record_len n))
   pub unmounts : r ≡ room.Unmount → IsTrue (is_unmount n.kind)
+
+-- the node's record may be the next, and is put there
+pub record MayAppendAt (p : Place) (n : Node) (s : LogState) : Type 0 where
+  pub room : Room
+  pub may : MayAppend room n s
+  pub is_place : IsPlace room (record_len n) s.index p
 
 -- whether the log of the image ends with an unmount node
 abbrev pub is_clean_log : LogState → Bool
@@ -96,28 +102,6 @@ WearsByRecord n old new = Wears no_erase (record_len n + 1) old.wear new.wear
 abbrev pub WearsOldest : LogState → LogState → Type 0
 WearsOldest old new = Wears (one_erase old.index.first) 0 old.wear new.wear
 
--- the record stands there, and the log has this layout
-pub record AppendedAt (sector offset : ℕ) (layout : Layout) (n : Node) (old new : LogState) :
-    Type 0 where
-  pub works : Works old new
-  pub numbers : KeepsNumbers old.index new.index
-  pub tail : (new.index.tail ≡ sector) × (new.index.used ≡ offset + record_len n)
-  pub added : log_records new ≡ log_records old ++ placed_at sector offset n ∷ []
-  pub layout_is : log_layout new ≡ layout
-  pub clean : is_clean_log new ≡ is_unmount n.kind
-  pub worn : WearsByRecord n old new
-
--- the device failed while the record was written there
-pub record AppendFailedAt (sector offset : ℕ) (n : Node) (why : Cause) (old new : LogState) :
-    Type 0 where
-  pub cause_is : why ≡ cause.Device
-  pub failed : new.failed ≡ true
-  pub device : Fails (λ image. IsCut old.index old.device.image image (placed_at sector offset n))
-      old.device new.device
-  pub numbers : KeepsNumbers old.index new.index
-  pub no_erase_failed : new.erase_failed ≡ old.erase_failed
-  pub worn : WearsByRecord n old new
-
 -- The node's record is the last of the log, in the tail or in the next sector.
 pub record Appended (r : Room) (n : Node) (old new : LogState) : Type 0 where
   pub works : Works old new
@@ -129,6 +113,11 @@ pub record Appended (r : Room) (n : Node) (old new : LogState) : Type 0 where
   pub worn : WearsByRecord n old new
   pub history : (past : List Node) → HasHistory past old → KeepsRules (n ∷ past)
       → HasHistory (n ∷ past) new
+
+-- the same, whatever room it was put there for
+abbrev pub AppendedAt : Place → Node → LogState → LogState → Type 0
+AppendedAt p n old new =
+    (r : Room) → IsPlace r (record_len n) old.index p → Appended r n old new
 
 -- The device failed: a scan finds the log as it was, or with the whole record at its end.
 pub record AppendFailed (n : Node) (why : Cause) (old new : LogState) : Type 0 where

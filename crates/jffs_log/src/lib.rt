@@ -14,6 +14,7 @@ mod log;
 mod log_index;
 mod log_sectors;
 mod oldest;
+mod place;
 mod room;
 mod salvaging;
 mod scanning;
@@ -30,6 +31,7 @@ pub use laws::{
 };
 pub use log::Log;
 pub use log_index::{LogIndex, RecordRef};
+pub use place::Place;
 pub use room::Room;
 pub use salvaging::{CutSector, Salvaged, salvage};
 pub use scanning::{Mounted, ScanFault, ScanWhy, scan};

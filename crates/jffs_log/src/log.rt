@@ -1,12 +1,13 @@
 //! The log of a device.
 
-ghost use Rattle.std.specs.Prelude.{◌≡◌, ◌+◌, ◌-◌, ◌^◌, ◌<◌, ◌≤◌, ℕ, true, false, length, map};
-ghost use Rattle.std.specs.Prelude.{nat_le, IsTrue, OnOk, IfErr};
+ghost use Rattle.std.specs.Prelude.{◌≡◌, ◌-◌, ◌^◌, ◌<◌, ◌≤◌, true, false, length, map};
+ghost use Rattle.std.specs.Prelude.{is_some, nat_le, IfSome, IsTrue, OnOk, IfErr};
 ghost use Rattle.std.specs.VecDeque.{deque_len, deque_capacity};
 ghost use Rattle.jffs_log.specs.Ring.{IsAt};
 ghost use Rattle.jffs_flash.specs.declared.sizes.TheConstants.{MAX_SECTORS};
 
 use crate::log_index::{LogIndex, RecordRef};
+use crate::place::Place;
 use crate::room::Room;
 use crate::writing::write_record;
 use jffs_flash::{Flash, FlashFault};
@@ -54,10 +55,9 @@ impl<F: Flash> Model for Log<F> {
 
 impl<F: Flash> Log<F> {
     ghost use Rattle.jffs_log.specs.LogIndex.{ref_of};
-    ghost use Rattle.jffs_log.specs.LogState.{log_records, log_layout, IsSameLog, MayAppend};
-    ghost use Rattle.jffs_log.specs.LogState.{Appended, AppendFailed, AppendedAt, AppendFailedAt};
-    ghost use Rattle.jffs_log.specs.LogState.{FitsIn};
-    ghost use Rattle.jffs_log.specs.Cleaning.{in_tail, in_next};
+    ghost use Rattle.jffs_log.specs.LogState.{log_records, IsSameLog, MayAppend};
+    ghost use Rattle.jffs_log.specs.LogState.{Appended, AppendFailed, AppendedAt, MayAppendAt};
+    ghost use Rattle.jffs_log.specs.Place.{IsPlace};
     ghost use Rattle.jffs_log.specs.Image.{tail_of, free_of_tail, erased_count};
     ghost use Rattle.jffs_log.specs.Volume.{sectors_in};
     ghost use Rattle.jffs_log.specs.Room.{tail_need, has_room, has_room_in, heavy};
@@ -126,9 +126,37 @@ impl<F: Flash> Log<F> {
             → result ≡ has_room_in self.now.index.sectors self.now.index.sector_size
             self.now.device.image room len }
     {
+        self.place(room, len).is_some()
+    }
+
+    /// Where a record of `len` bytes is put: after the last one of the tail, or at the beginning of
+    /// a sector that it opens; `None` where it has no room. Takes no memory.
+    pub fn place(&self, room: Room, len: u32) -> Option<Place>
+        ensures known { is_some result
+            ≡ has_room room len self.now.index.free (self.now.index.sectors - self.now.index.held) }
+        ensures exact { self.now.failed ≡ false
+            → is_some result ≡ has_room_in self.now.index.sectors self.now.index.sector_size
+            self.now.device.image room len }
+        ensures here { IfSome result (IsPlace room len self.now.index) }
+    {
         let index = &self.index;
-        room.tail_need(len) <= u64::from(index.free)
-            || room.erased_need() <= index.sectors - index.held
+        if room.tail_need(len) <= u64::from(index.free) {
+            Some(Place {
+                sector: index.tail,
+                offset: index.used,
+                free: index.free,
+                held: index.held,
+            })
+        } else if room.erased_need() <= index.sectors - index.held {
+            Some(Place {
+                sector: sector_at(index.first, index.held, index.sectors),
+                offset: 0,
+                free: index.sector_size,
+                held: index.held + 1,
+            })
+        } else {
+            None
+        }
     }
 
     /// The weight of the live records, in bytes, below which no fresh node is refused for want of
@@ -166,77 +194,44 @@ impl<F: Flash> Log<F> {
         ensures done { OnOk result (Appended room node.now self.old self.new) }
         ensures failed { IfErr result (λ cause. AppendFailed node.now cause self.old self.new) }
     {
-        let index = &self.index;
-        if room.tail_need(record_len(node)) <= u64::from(index.free) {
-            self.append_to_tail(node)
-        } else {
-            self.append_to_next(node)
-        }
+        // Brings in that the length of a sector fits.
+        let _size = self.index.sector_size;
+        let Some(place) = self.place(room, record_len(node)) else {
+            unreachable!()
+        };
+        self.write_at(place, node)
     }
 
-    /// Appends a node where it fits the tail.
-    fn append_to_tail(&mut self, node: &Node) -> Result<(), Cause>
+    /// Appends a node as `append` does, at the place that `place` found for its record. Takes no
+    /// memory. Precondition: no call of the device failed, memory for the record is reserved, and
+    /// the log, as it is now, puts the record there; so a place is for the next append alone.
+    ///
+    /// `Device` if a write failed: a scan of the image finds the log as it was, or with the whole
+    /// record at its end, and the log is failed from then on.
+    pub fn write_at(&mut self, place: Place, node: &Node) -> Result<(), Cause>
         requires working { self.old.failed ≡ false }
-        requires fits { FitsIn self.old.index.sector_size self.old.index.free node.now }
+        requires may { MayAppendAt place node.now self.old }
         requires reserved { deque_len self.old.index.records
             < deque_capacity self.old.index.records }
-        ensures done { OnOk result (AppendedAt self.old.index.tail self.old.index.used
-            (in_tail node.now (log_layout self.old)) node.now self.old self.new) }
-        ensures failed { IfErr result
-            (λ cause. AppendFailedAt self.old.index.tail self.old.index.used node.now cause self.old
-            self.new) }
+        ensures done { OnOk result (AppendedAt place node.now self.old self.new) }
+        ensures failed { IfErr result (λ cause. AppendFailed node.now cause self.old self.new) }
     {
         let index = &mut self.index;
         let len = record_len(node);
-        let at = index.tail * index.sector_size + index.used;
+        let at = place.sector * index.sector_size + place.offset;
         match write_record(&mut self.flash, at, node) {
             Ok(()) => {
                 index.records.push_back_reserved(RecordRef {
                     version: node.version,
                     inode: node.inode,
                     length: len,
-                    sector: index.tail,
-                    offset: index.used,
+                    sector: place.sector,
+                    offset: place.offset,
                 });
-                index.used += len;
-                index.free -= len;
-                Ok(())
-            }
-            Err(fault) => Err(failure(&mut self.failed, fault)),
-        }
-    }
-
-    /// Appends a node to the sector after the tail.
-    fn append_to_next(&mut self, node: &Node) -> Result<(), Cause>
-        requires working { self.old.failed ≡ false }
-        requires erased { self.old.index.held + 2 ≤ self.old.index.sectors }
-        requires fits { FitsIn self.old.index.sector_size self.old.index.sector_size node.now }
-        requires reserved { deque_len self.old.index.records
-            < deque_capacity self.old.index.records }
-        ensures done { OnOk result
-            ((next : ℕ) × IsAt self.old.index.first self.old.index.sectors self.old.index.held next
-            × AppendedAt next 0
-            (in_next self.old.index.sector_size node.now (log_layout self.old)) node.now self.old
-            self.new) }
-        ensures failed { IfErr result
-            (λ cause. (next : ℕ) × AppendFailedAt next 0 node.now cause self.old self.new) }
-    {
-        let index = &mut self.index;
-        let len = record_len(node);
-        let next = sector_at(index.first, index.held, index.sectors);
-        match write_record(&mut self.flash, next * index.sector_size, node) {
-            Ok(()) => {
-                index.records.push_back_reserved(RecordRef {
-                    version: node.version,
-                    inode: node.inode,
-                    length: len,
-                    sector: next,
-                    offset: 0,
-                });
-                index.held += 1;
-                index.tail = next;
-                index.used = len;
-                index.free = index.sector_size - len;
+                index.held = place.held;
+                index.tail = place.sector;
+                index.used = place.offset + len;
+                index.free = place.free - len;
                 Ok(())
             }
             Err(fault) => Err(failure(&mut self.failed, fault)),

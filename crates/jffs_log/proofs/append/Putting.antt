@@ -1,81 +1,120 @@
--- A node is appended, in the tail where it fits, else in the next sector.
-use Rattle.std.proofs.Common.{◌≡◌, ℕ, ◌+◌, ◌-◌, ◌≤◌, ◌<◌, leb, [], ◌∷◌, ◌++◌, sym, ap, ◌∙◌, arith}
-use Rattle.std.proofs.lemmas.Bool.{le-leb, lt-leb}
+-- A record is written where the log puts it: into the tail, or into the next sector.
+use Rattle.std.proofs.Common.{◌≡◌, inl, inr, ℕ, ◌+◌, ◌-◌, ◌*◌, ◌/◌, ◌≤◌, ◌<◌, true, leb, List, [], ◌∷◌, ◌++◌, sym, ap, subst, ◌∙◌, arith}
+use Rattle.std.proofs.lemmas.Bool.{le-leb, lt-leb, cases_lt, and_from, or_right}
 use Rattle.jffs_node.specs.declared.node.Node.{Node}
-use Rattle.jffs_node.specs.Record.{record_len}
-use Rattle.jffs_tree.specs.declared.wish.Cause.{Cause}
+use Rattle.jffs_node.specs.Record.{record_len, dsize, spelling, is_lawful, is_unmount, fits_rest}
+use Rattle.jffs_flash.specs.Image.{replaced}
+use Rattle.jffs_log.specs.declared.log_index.LogIndex.{LogIndex}
+use Rattle.jffs_log.specs.declared.log_index.RecordRef.{RecordRef}
+use Rattle.jffs_log.specs.declared.place.Place.{Place}
 use Rattle.jffs_log.specs.declared.room.Room.{Room}
 use Rattle.jffs_log.specs.Ring.{IsAt}
 use Rattle.jffs_log.specs.Room.{tail_need}
-use Rattle.jffs_log.specs.LogIndex.{IsLogIndex, IsCut, IsCutSomewhere, log_in, layout_in, placed_at}
-use Rattle.jffs_log.specs.Cleaning.{Layout, put, in_tail, in_next}
-use Rattle.jffs_log.specs.LogState.{LogState, FitsIn, MayAppend, AppendedAt, AppendFailedAt, Appended, AppendFailed}
-use Rattle.jffs_log.proofs.ring.Layouts.{put_in_tail, put_in_next}
-use Rattle.jffs_log.proofs.Histories.{index_appends, index_cuts}
+use Rattle.jffs_log.specs.Place.{IsPlace, end_of_tail, start_of}
+use Rattle.jffs_log.specs.LogIndex.{Describes, IsLogIndex, ref_of, layout_in, placed_at}
+use Rattle.jffs_log.specs.Gate.{IsWritten, MayWrite}
+use Rattle.jffs_log.specs.Cleaning.{layout_of, put, in_last}
+use Rattle.jffs_log.specs.Volume.{sectors_in}
+use Rattle.jffs_log.specs.LogState.{LogState, MayAppendAt}
+use Rattle.jffs_log.proofs.ring.SectorSpellings.{rest_fits, record_long}
+use Rattle.jffs_log.proofs.ring.Layouts.{layout_tail, layout_next, put_in_tail, put_in_next}
 use Rattle.jffs_log.proofs.rooms.Rooms.{described_room, described_free}
+use Rattle.jffs_log.proofs.append.Appended.{IsReady, Appended, Cut, logged, sizes_small, tail_ready, tail_appended, tail_cut, next_ready, next_appended, next_cut}
 use Rattle.jffs_log.proofs.append.Fits.{tail_fits, two_erased}
-use Rattle.jffs_log.proofs.Seen.{fails_weaker}
 
-module _ (r : Room) (n : Node) (old : LogState) (h : IsLogIndex old.device.image old.index) (may : MayAppend r n old) where
-  pub fits_in_tail : tail_need r (record_len n) ≤ old.index.free → FitsIn old.index.sector_size old.index.free n
-  fits_in_tail need = record {
-    lawful = may.lawful;
-    fits = tail_fits r n old.index.free old.index.sector_size may.lawful may.unmounts may.short need;
-  }
+-- a short record fits an erased sector
+next_fits : (n : Node) (len : ℕ) → record_len n ≤ len / 4 → fits_rest n.kind (dsize n) (len / 4) len ≡ true
+next_fits n len short =
+    let long = record_long n in
+    and_from _ _ (and_from _ _ (le-leb (record_len n) (len / 4) short) (le-leb (record_len n) len (omega arith)))
+    (or_right (is_unmount n.kind) (leb (record_len n + 64) len) (le-leb (record_len n + 64) len (omega arith)))
 
-  pub next_is_erased : old.index.free < tail_need r (record_len n) → old.index.held + 2 ≤ old.index.sectors
-  next_is_erased less =
-      two_erased r (record_len n) old.index.free old.index.sectors old.index.held
-      (sym (described_room _ _ _ _ _ _ _ _ _ h r (record_len n)) ∙ may.has_room) less
+-- A record may be written there, and what it makes of the image, whole or in part.
+pub record PutsAt (b : LogIndex) (image : List ℕ) (n : Node) (p : Place) : Type 0 where
+  pub may : MayWrite (p.sector * b.sector_size + p.offset) n image
+  pub fits : record_len n ≤ p.free
+  pub nodes : List (List Node)
+  pub whole : Appended b.sectors b.sector_size image b.first p.held (p.free - record_len n) b.records.items n nodes p.sector p.offset
+  pub layout : (r : Room) → IsPlace r (record_len n) b p
+      → layout_of b.sector_size (sectors_in b.sectors b.sector_size (replaced (p.sector * b.sector_size + p.offset) (spelling n) image)) ≡ put b.sector_size r n (layout_in image b)
+  pub cut : (new : List ℕ) → IsWritten (p.sector * b.sector_size + p.offset) n image new → Cut b.sectors b.sector_size image new n p.sector p.offset
 
-  free_is : leb (tail_need r (record_len n)) (layout_in old.device.image old.index).free ≡ leb (tail_need r (record_len n)) old.index.free
-  free_is = ap (leb (tail_need r (record_len n))) (described_free _ _ _ _ _ _ _ _ _ h)
-
-  -- the record stands there, and the layout is as the rule puts it
-  appended_at : (new : LogState) (sector offset : ℕ) (layout : Layout) → layout ≡ put old.index.sector_size r n (layout_in old.device.image old.index)
-      → AppendedAt sector offset layout n old new → Appended r n old new
-  appended_at new sector offset layout is done =
-      let b = new.index in
-      let log = log_in old.device.image old.index in
-      let used = done.tail.1 in
-      let at : offset ≡ b.used - record_len n = omega (arith, used) in
+module _ (b : LogIndex) (image : List ℕ) (h : IsLogIndex image b) (n : Node) (lawful : is_lawful n ≡ true) (short : record_len n ≤ b.sector_size / 4) where
+  may_write : (sector offset : ℕ) → IsReady b.sectors b.sector_size image sector offset (record_len n) → MayWrite (sector * b.sector_size + offset) n image
+  may_write sector offset there =
+      let small = (sizes_small b.sectors b.sector_size h.sizes).1 in
       record {
-        works = done.works;
-        numbers = done.numbers;
-        added =
-            done.added
-            ∙ ap (λ (k : ℕ). log ++ placed_at k offset n ∷ []) (sym done.tail.0)
-            ∙ ap (λ (k : ℕ). log ++ placed_at b.tail k n ∷ []) at;
-        layout_is = done.layout_is ∙ is;
-        clean = done.clean;
-        worn = done.worn;
-        history = λ past known rules.
-            index_appends old.index b old.device.image new.device.image past (placed_at sector offset n) done.numbers.sizes known rules done.works.told done.added;
+        lawful = lawful;
+        short = omega arith;
+        free = record { inside = there.inside; erased = there.erased };
+        small = omega (arith, there.short);
       }
 
-  pub put_tail : (new : LogState) → tail_need r (record_len n) ≤ old.index.free
-      → AppendedAt old.index.tail old.index.used (in_tail n (layout_in old.device.image old.index)) n old new → Appended r n old new
-  put_tail new need = appended_at new old.index.tail old.index.used _
-      (sym (put_in_tail old.index.sector_size r n (layout_in old.device.image old.index) (free_is ∙ le-leb (tail_need r (record_len n)) old.index.free need)))
+  free_is : (r : Room) → leb (tail_need r (record_len n)) (layout_in image b).free ≡ leb (tail_need r (record_len n)) b.free
+  free_is r = ap (leb (tail_need r (record_len n))) (described_free _ _ _ _ _ _ _ _ _ h)
 
-  pub put_next : (new : LogState) → old.index.free < tail_need r (record_len n)
-      → (next : ℕ) × IsAt old.index.first old.index.sectors old.index.held next × AppendedAt next 0 (in_next old.index.sector_size n (layout_in old.device.image old.index)) n old new
-      → Appended r n old new
-  put_next new less done = appended_at new done.0 0 _
-      (sym (put_in_next old.index.sector_size r n (layout_in old.device.image old.index) (free_is ∙ lt-leb (tail_need r (record_len n)) old.index.free less)))
-      done.2
+  -- where a record is put into the tail, that has room for it
+  tail_alone : (r : Room) → IsPlace r (record_len n) b (end_of_tail b) → tail_need r (record_len n) ≤ b.free
+  tail_alone r is = elim (cases_lt b.free (tail_need r (record_len n))) [
+    | inl less ↦ let more = ap (λ (p : Place). p.held) (is.in_next less).start in absurd (omega arith)
+    | inr need ↦ need
+  ]
 
--- the device failed while the record was written somewhere
-pub put_fails : (n : Node) (why : Cause) (old new : LogState) (sector offset : ℕ) → AppendFailedAt sector offset n why old new → AppendFailed n why old new
-put_fails n why old new sector offset failed =
-    let p = placed_at sector offset n in
-    record {
-      cause_is = failed.cause_is;
-      failed = failed.failed;
-      device = fails_weaker (λ image. IsCut old.index old.device.image image p) (λ image. IsCutSomewhere old.index old.device.image image n) old.device new.device
-          (λ cut. record { sector = sector; offset = offset; cut = cut }) failed.device;
-      numbers = failed.numbers;
-      no_erase_failed = failed.no_erase_failed;
-      worn = failed.worn;
-      history = λ past known rules. index_cuts old.index new.index old.device.image new.device.image past p failed.numbers.sizes known rules failed.device.left;
-    }
+  next_alone : (r : Room) (next : ℕ) → IsPlace r (record_len n) b (start_of next b) → b.free < tail_need r (record_len n)
+  next_alone r next is = elim (cases_lt b.free (tail_need r (record_len n))) [
+    | inl less ↦ less
+    | inr need ↦ let more = ap (λ (p : Place). p.held) (is.in_tail need) in absurd (omega arith)
+  ]
+
+  at_tail : fits_rest n.kind (dsize n) (b.sector_size / 4) b.free ≡ true → PutsAt b image n (end_of_tail b)
+  at_tail fits =
+      let all = tail_appended _ _ _ _ _ _ _ _ _ n h lawful fits in
+      record {
+        may = may_write b.tail b.used (tail_ready _ _ _ _ _ _ _ _ _ n h fits);
+        fits = rest_fits n.kind (dsize n) (b.sector_size / 4) b.free fits;
+        nodes = in_last n (logged b.sectors b.sector_size image);
+        whole = all;
+        layout = λ r is.
+            layout_tail _ _ _ _ _ _ _ _ _ _ _ _ _ n h all.0 all.2
+            ∙ sym (put_in_tail b.sector_size r n (layout_in image b) (free_is r ∙ le-leb (tail_need r (record_len n)) b.free (tail_alone r is)));
+        cut = λ new. tail_cut _ _ _ new _ _ _ _ _ _ n h lawful fits;
+      }
+
+  at_next : (next : ℕ) → IsAt b.first b.sectors b.held next → b.held + 2 ≤ b.sectors → PutsAt b image n (start_of next b)
+  at_next next at room =
+      let fits = next_fits n b.sector_size short in
+      let all = next_appended _ _ _ _ _ _ _ _ next _ n h room at lawful fits in
+      record {
+        may = may_write next 0 (next_ready _ _ _ _ _ _ _ _ next _ n h room at fits);
+        fits = rest_fits n.kind (dsize n) (b.sector_size / 4) b.sector_size fits;
+        nodes = logged b.sectors b.sector_size image ++ (n ∷ []) ∷ [];
+        whole = all;
+        layout = λ r is.
+            layout_next _ _ _ _ _ _ _ _ _ _ _ _ _ n h all.0 all.2
+            ∙ sym (put_in_next b.sector_size r n (layout_in image b) (free_is r ∙ lt-leb (tail_need r (record_len n)) b.free (next_alone r next is)));
+        cut = λ new. next_cut _ _ _ new _ _ _ _ _ next _ n h room at lawful fits;
+      }
+
+pub puts : (s : LogState) (n : Node) (p : Place) → IsLogIndex s.device.image s.index → MayAppendAt p n s → PutsAt s.index s.device.image n p
+puts s n p h here =
+    let b = s.index in
+    let may = here.may in
+    let need = tail_need here.room (record_len n) in
+    elim (cases_lt b.free need) [
+      | inl less ↦ let at = here.is_place.in_next less in
+          subst (PutsAt b s.device.image n) (sym at.start) (at_next b s.device.image h n may.lawful may.short p.sector at.next
+          (two_erased here.room (record_len n) b.free b.sectors b.held (sym (described_room _ _ _ _ _ _ _ _ _ h here.room (record_len n)) ∙ may.has_room) less))
+      | inr enough ↦ subst (PutsAt b s.device.image n) (sym (here.is_place.in_tail enough)) (at_tail b s.device.image h n may.lawful may.short
+          (tail_fits here.room n b.free b.sector_size may.lawful may.unmounts may.short enough))
+    ]
+
+-- the index with the record
+pub index_after : (b : LogIndex) (old new : List ℕ) (n : Node) (p : Place) → PutsAt b old n p → new ≡ replaced (p.sector * b.sector_size + p.offset) (spelling n) old → (len : ℕ) (items : List RecordRef) → len ≡ record_len n
+    → items ≡ b.records.items ++ record { version = n.version; inode = n.inode; length = len; sector = p.sector; offset = p.offset } ∷ []
+    → Describes b.sectors b.sector_size new b.first p.held p.sector (p.offset + len) (p.free - len) items
+index_after b old new n p made written len items is e =
+    let listed : items ≡ b.records.items ++ ref_of (placed_at p.sector p.offset n) ∷ [] =
+    e ∙ ap (λ (k : ℕ). b.records.items ++ record { version = n.version; inode = n.inode; length = k; sector = p.sector; offset = p.offset } ∷ []) is in
+    subst (λ (xs : List ℕ). Describes b.sectors b.sector_size xs b.first p.held p.sector (p.offset + len) (p.free - len) items) (sym written)
+    (subst (λ (k : ℕ). Describes b.sectors b.sector_size (replaced (p.sector * b.sector_size + p.offset) (spelling n) old) b.first p.held p.sector (p.offset + k) (p.free - k) items) (sym is)
+    (subst (λ (rs : List RecordRef). Describes b.sectors b.sector_size (replaced (p.sector * b.sector_size + p.offset) (spelling n) old) b.first p.held p.sector (p.offset + record_len n) (p.free - record_len n) rs) (sym listed) made.whole.0))

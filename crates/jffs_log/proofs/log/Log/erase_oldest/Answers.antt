@@ -1,4 +1,4 @@
-use Rattle.std.proofs.Common.{◌≡◌, ℕ, ◌<◌, ◌≤◌, false, refl, sym, ap, subst, ◌∙◌, arith}
+use Rattle.std.proofs.Common.{◌≡◌, ℕ, ◌<◌, ◌≤◌, false, refl, sym, ap, subst, ◌∙◌}
 use Rattle.jffs_flash.specs.Device.{Device, with_image}
 use Rattle.jffs_flash.specs.Image.{erased}
 use Rattle.std.specs.List.{AllByRecursion}
@@ -8,8 +8,7 @@ use Rattle.jffs_log.specs.LogState.{LogState, OldestIsDead, ErasedOldest}
 use Rattle.jffs_log.proofs.append.Appended.{described_inside, described_readable}
 use Rattle.jffs_log.proofs.Histories.{erasing_keeps_history}
 use Rattle.jffs_log.proofs.erase.ErasedIndex.{index_erased}
-use Rattle.jffs_log.proofs.Seen.{told, only_image, same_sizes}
-use Rattle.jffs_log.proofs.rooms.Weighed.{records_few}
+use Rattle.jffs_log.proofs.Seen.{told, only_image, same_sizes, log_holds}
 use Rattle.jffs_log.proofs.erase.Wear.{next_after}
 use Rattle.jffs_log.proofs.log.Log.erase_oldest.Goals as goal
 
@@ -40,13 +39,7 @@ invariant_of-self g c =
     let after = index_erased _ _ _ _ _ _ _ _ _ _ _ c.forget_sector.new.records.items
     (told _ _ c.self.view_is c.self.invariant c.requires.working) (several_inside _ _ c.self.view_is c.requires.several)
     c.sector_at-index.ensures (changed old _ b.sector_size b.first done c.self.invariant.sizes.1) c.forget_sector.ensures in
-    let few = c.self.invariant.held in
-    record {
-      sizes = same_sizes old _ b _ done c.self.invariant.sizes;
-      held = omega arith;
-      few = records_few _ _ _ _ _ _ _ _ _ after.index;
-      told = λ works. after.index;
-    }
+    log_holds _ (same_sizes old _ b _ done c.self.invariant.sizes) after.index
 
 pub returns-in-Ok-clause-done : goal.returns-in-Ok-clause-done
 returns-in-Ok-clause-done g c =

@@ -36,12 +36,12 @@ impl<F: Flash> Core<F> {
         ensures refused { IfErr result (λ cause. PutRefused room node.now cause self.old self.new) }
         ensures leaves { Leaves 0 self.old self.new }
     {
-        if !self.log.room(room, record_len(node)) {
+        let Some(place) = self.log.place(room, record_len(node)) else {
             return Err(Cause::NoSpace);
-        }
+        };
         self.log.reserve()?;
         self.tree.apply(node)?;
-        self.log.append(room, node)?;
+        self.log.write_at(place, node)?;
         count(&mut self.limits, node);
         self.clean = node.kind.is_unmount();
         Ok(())

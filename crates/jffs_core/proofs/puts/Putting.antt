@@ -15,7 +15,9 @@ use Rattle.jffs_log.specs.declared.log_index.LogIndex.{LogIndex}
 use Rattle.jffs_log.specs.declared.room.Room.{Room}
 use Rattle.jffs_log.specs.declared.room.Room.TheVariants as rooms
 use Rattle.jffs_flash.specs.Device.{Device as FlashDevice}
-use Rattle.jffs_log.specs.LogState.{LogState, IsSameLog, MayAppend, Appended}
+use Rattle.jffs_log.specs.declared.place.Place.{Place}
+use Rattle.jffs_log.specs.Place.{IsPlace}
+use Rattle.jffs_log.specs.LogState.{LogState, IsSameLog, MayAppendAt, Appended}
 use Rattle.jffs_log.specs.Room.{has_room, following, greatest_inode, next_inode, limits as limits_of}
 use Rattle.jffs_log.specs.LogIndex.{HasSizes, IsLogIndex, IsSameLogIndex, layout_in}
 use Rattle.jffs_log.specs.Cleaning.{Layout, put, is_history, versions_fall, keeps_length}
@@ -137,14 +139,18 @@ put_known past room n old mid new before after limits next was clean h may same 
     (e.layout_is ∙ ap (λ (xs : List ℕ). put mid.index.sector_size room n (layout_in xs mid.index)) image)
     tree numbers (ends ∙ sym e.clean)
 
--- the node's record may be appended, where it has room
-pub may_append : (past : List Node) (room : Room) (n : Node) (old mid : LogState) → MayPut past old.index.sector_size room n → IsSameLog old mid
-    → has_room room (record_len n) (layout_in old.device.image old.index).free (layout_in old.device.image old.index).erased ≡ true → MayAppend room n mid
-may_append past room n old mid may same had = record {
-  lawful = may.rules.lawful.each.0;
-  short = subst (λ k. record_len n ≤ k / 4) (sym same.index.sector_size) may.short;
-  has_room = ap (λ (l : Layout). has_room room (record_len n) l.free l.erased) (mid_layout old mid same) ∙ had;
-  unmounts = suits room n may.suits;
+-- the node's record may be put at a place, where it has room
+pub may_append : (past : List Node) (room : Room) (n : Node) (p : Place) (old mid : LogState) → MayPut past old.index.sector_size room n → IsSameLog old mid
+    → has_room room (record_len n) (layout_in old.device.image old.index).free (layout_in old.device.image old.index).erased ≡ true → IsPlace room (record_len n) mid.index p → MayAppendAt p n mid
+may_append past room n p old mid may same had found = record {
+  room = room;
+  may = record {
+    lawful = may.rules.lawful.each.0;
+    short = subst (λ k. record_len n ≤ k / 4) (sym same.index.sector_size) may.short;
+    has_room = ap (λ (l : Layout). has_room room (record_len n) l.free l.erased) (mid_layout old mid same) ∙ had;
+    unmounts = suits room n may.suits;
+  };
+  is_place = found;
 }
   where
     suits : (r : Room) (n : Node) → suits_room r n ≡ true → r ≡ rooms.Unmount → is_unmount n.kind ≡ true

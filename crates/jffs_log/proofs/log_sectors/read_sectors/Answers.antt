@@ -11,63 +11,61 @@ use Rattle.jffs_log.proofs.scans.ReadOnce.{sector_spent}
 use Rattle.jffs_log.proofs.scans.ScanSectors.{one_read, bad_read, fault_read}
 use Rattle.jffs_log.proofs.Results.{err_from}
 use Rattle.jffs_log.proofs.log_sectors.read_sectors.Goals as goal
+use Rattle.jffs_log.proofs.log_sectors.read_sectors.Goals.{After-read_one}
 
 -- a buffer that was filled is as long as before
 refilled : (n : ℕ) (xs ys : List ℕ) → length xs ≡ n → length (take n (xs ++ drop (length xs) ys)) ≡ n
 refilled n xs ys h = let e = length-append xs (drop (length xs) ys) in length-take-le n (xs ++ drop (length xs) ys) (omega arith)
 
+-- the buffer is as long as a sector, and the device is as it was at first
+at_first : (g : _) (c : After-read_one g) (P : ℕ → FlashDevice → Type 0) → P (length c.deref_mut.result.now) (g.F.Flash.device c.loop-sector.flash) → P c.args.sector_size (g.F.Flash.device c.args.flash.now)
+at_first g c P h =
+    let w = c.loop-sector.invariant in
+    subst (λ (n : ℕ). P n (g.F.Flash.device c.args.flash.now)) (ap length c.deref_mut.ensures.value ∙ w.buffer)
+    (subst (λ (d : FlashDevice). P (length c.deref_mut.result.now) d) w.device h)
+
+-- the sector was read once
+read_once : (g : _) (c : After-read_one g)
+    → IsReadOnce (c.loop-sector.sector * c.args.sector_size) c.args.sector_size (g.F.Flash.device c.args.flash.now) (g.F.Flash.device c.read_one.new.flash) (g.F.Flash.reads_left c.loop-sector.flash) (g.F.Flash.reads_left c.read_one.new.flash)
+read_once g c = at_first g c
+    (λ n d. IsReadOnce (c.loop-sector.sector * n) n d (g.F.Flash.device c.read_one.new.flash) (g.F.Flash.reads_left c.loop-sector.flash) (g.F.Flash.reads_left c.read_one.new.flash))
+    c.read_one.ensures.once
+
 pub returns-in_err-read-clause-refused : goal.returns-in_err-read-clause-refused
 returns-in_err-read-clause-refused g c =
-    let w = c.loop-sector.invariant in
     let k = c.loop-sector.sector in
     let len = c.args.sector_size in
     let device = g.F.Flash.device c.args.flash.now in
     let after = g.F.Flash.device c.read_one.new.flash in
     let why = c.in_err-read.field-0.0 in
-    let at : length c.deref_mut.result.now ≡ len = ap length c.deref_mut.ensures.value ∙ w.buffer in
     let all = first_bad 0 (sectors_in c.args.sectors len device.image) in
-    let unread = subst (λ (n : ℕ). IsUnread why device after (bad_in (k, sector_of (sector_bytes n k device.image)))) at
-    (subst (λ (d : FlashDevice). IsUnread why d after (bad_in (k, sector_of (sector_bytes (length c.deref_mut.result.now) k d.image)))) w.device c.in_err-read.ensures.refused) in
+    let unread = at_first g (goal.at.returns-in_err-read-clause-refused g c).After-read_one (λ n d. IsUnread why d after (bad_in (k, sector_of (sector_bytes n k d.image)))) c.in_err-read.ensures.refused in
     let cause = fault_read why _ after.faults _ all
-    (λ bad. bad_read c.args.sectors k len device.image c.loop-sector.found.items why c.loop-sector-test.true w.read bad) unread.cause in
+    (λ bad. bad_read c.args.sectors k len device.image c.loop-sector.found.items why c.loop-sector-test.true c.loop-sector.invariant.read bad) unread.cause in
     err_from c.from_residual-in_err-read.result why (λ (v : ScanWhy). IsUnread v device after all) c.from_residual-in_err-read.ensures.1 (record { cause = cause; rest = unread.rest })
 
 pub returns-in_err-read-clause-once : goal.returns-in_err-read-clause-once
 returns-in_err-read-clause-once g c some rose =
-    let w = c.loop-sector.invariant in
-    let k = c.loop-sector.sector in
-    let len = c.args.sector_size in
-    let device = g.F.Flash.device c.args.flash.now in
-    let after = g.F.Flash.device c.read_one.new.flash in
-    let old = g.F.Flash.reads_left c.args.flash.now in
-    let now = g.F.Flash.reads_left c.loop-sector.flash in
-    let left = g.F.Flash.reads_left c.read_one.new.flash in
-    let at : length c.deref_mut.result.now ≡ len = ap length c.deref_mut.ensures.value ∙ w.buffer in
-    let once = subst (λ (n : ℕ). IsReadOnce (k * n) n device after now left) at
-    (subst (λ (d : FlashDevice). IsReadOnce (k * length c.deref_mut.result.now) (length c.deref_mut.result.now) d after now left) w.device c.read_one.ensures.once) in
-    sector_spent c.args.sectors k len device.image old now c.requires.whole c.loop-sector-test.true w.left (once.fails rose some)
+    let once = read_once g (goal.at.returns-in_err-read-clause-once g c).After-read_one in
+    sector_spent c.args.sectors c.loop-sector.sector c.args.sector_size (g.F.Flash.device c.args.flash.now).image (g.F.Flash.reads_left c.args.flash.now) (g.F.Flash.reads_left c.loop-sector.flash)
+    c.requires.whole c.loop-sector-test.true c.loop-sector.invariant.left (once.fails rose some)
 
 pub loop-sector-preserved : goal.loop-sector-preserved
 loop-sector-preserved g c =
+    let here = (goal.at.loop-sector-preserved g c).After-read_one in
     let w = c.loop-sector.invariant in
     let k = c.loop-sector.sector in
-    let len = c.args.sector_size in
-    let image = (g.F.Flash.device c.args.flash.now).image in
-    let at : length c.deref_mut.result.now ≡ len = ap length c.deref_mut.ensures.value ∙ w.buffer in
-    let one = subst (λ (n : ℕ). HasRead c.in_ok-read.read k (sector_bytes n k image)) at
-    (subst (λ (d : FlashDevice). HasRead c.in_ok-read.read k (sector_bytes (length c.deref_mut.result.now) k d.image)) w.device c.in_ok-read.ensures.read) in
+    let one = at_first g here (λ n d. HasRead c.in_ok-read.read k (sector_bytes n k d.image)) c.in_ok-read.ensures.read in
     let full : length c.read_one.new.buffer ≡ c.loop-sector.buffer.len = c.read_one.ensures.length ∙ c.deref_mut.ensures.len in
     let same = c.in_ok-read.ensures.same in
-    let now = g.F.Flash.reads_left c.loop-sector.flash in
-    let left = g.F.Flash.reads_left c.read_one.new.flash in
-    let once = subst (λ (n : ℕ). IsReadOnce (k * n) n (g.F.Flash.device c.loop-sector.flash) (g.F.Flash.device c.read_one.new.flash) now left) at c.read_one.ensures.once in
+    let once = read_once g here in
     record {
-      read = one_read k len image c.loop-sector.found.items c.push.new.self.items c.in_ok-read.read w.read one.read one.sound one.spelled c.in_ok-push.ensures.items;
-      device = c.in_ok-read.ensures.same ∙ w.device;
+      read = one_read k c.args.sector_size (g.F.Flash.device c.args.flash.now).image c.loop-sector.found.items c.push.new.self.items c.in_ok-read.read w.read one.read one.sound one.spelled c.in_ok-push.ensures.items;
+      device = same ∙ w.device;
       unworn = c.read_one.ensures.unworn ∙ w.unworn;
-      buffer = refilled c.loop-sector.buffer.len c.read_one.new.buffer c.loop-sector.buffer.items full ∙ sym c.deref_mut.ensures.len ∙ at;
+      buffer = refilled c.loop-sector.buffer.len c.read_one.new.buffer c.loop-sector.buffer.items full ∙ sym c.deref_mut.ensures.len ∙ ap length c.deref_mut.ensures.value ∙ w.buffer;
       left = λ i from.
-          let kept = once.rest (ap (λ (d : FlashDevice). d.faults) same) i (inr (omega arith)) in
+          let kept = once.rest (ap (λ (d : FlashDevice). d.faults) (same ∙ w.device)) i (inr (omega arith)) in
           let before = w.left i (omega arith) in
           omega arith;
     }

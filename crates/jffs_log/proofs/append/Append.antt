@@ -69,6 +69,13 @@ blank_open first count len image held blank b whole h =
     let any : IsOpenSector count len image b.0 [] (length bytes) = record { whole = whole; below = there.0; holds = record { spelled = filled; fit = tt } } in
     subst (IsOpenSector count len image b.0 []) (sector_long count len image b.0 [] (length bytes) any) any
 
+-- The ring has this log.
+pub record HasRing (first : ℕ) (sectors : List Sector) (log : List Placed) : Type 0 where
+  pub held : List Numbered
+  pub blank : List Numbered
+  pub ring : IsRing first sectors held blank
+  pub log_is : flat_map records_in held ≡ log
+
 -- What is written into the tail.
 module _ (first count len : ℕ) (image : List ℕ) (older blank : List Numbered) (t : Numbered) (nodes : List Node) (free : ℕ)
     (h : IsOpenSector count len image t.0 nodes free) (ring : IsRing first (sectors_in count len image) (older ++ t ∷ []) blank) where
@@ -99,20 +106,14 @@ module _ (first count len : ℕ) (image : List ℕ) (older blank : List Numbered
       )
 
   pub tail_part : (part : List ℕ) → length part ≤ free → 64 ≤ length part → get_or part 7 0 ≢ 0
-      → IsRing first (sectors_in count len (image_after count len image t.0 nodes free h part)) (older ++ tail_after part ∷ []) blank
-      × (flat_map records_in (older ++ tail_after part ∷ []) ≡ flat_map records_in (older ++ t ∷ []))
-  tail_part part short long gate = (
-    subst (λ ss. IsRing first ss (older ++ tail_after part ∷ []) blank) (sym (sectors_after count len image t.0 nodes free h part short))
-        (ring_tail first (sectors_in count len image) older t blank (tail_after part).1 ring (part_used count len image t.0 nodes free h part short long gate tail_used)),
-    end_same older t.0 t.1 (tail_after part).1 (tail_nodes ∙ sym (ap (λ (r : Reading). r.nodes) (part_reads count len image t.0 nodes free h part short long gate))),
-  )
-
--- The ring has this log.
-pub record HasRing (first : ℕ) (sectors : List Sector) (log : List Placed) : Type 0 where
-  pub held : List Numbered
-  pub blank : List Numbered
-  pub ring : IsRing first sectors held blank
-  pub log_is : flat_map records_in held ≡ log
+      → HasRing first (sectors_in count len (image_after count len image t.0 nodes free h part)) (flat_map records_in (older ++ t ∷ []))
+  tail_part part short long gate = record {
+    held = older ++ tail_after part ∷ [];
+    blank = blank;
+    ring = subst (λ ss. IsRing first ss (older ++ tail_after part ∷ []) blank) (sym (sectors_after count len image t.0 nodes free h part short))
+        (ring_tail first (sectors_in count len image) older t blank (tail_after part).1 ring (part_used count len image t.0 nodes free h part short long gate tail_used));
+    log_is = end_same older t.0 t.1 (tail_after part).1 (tail_nodes ∙ sym (ap (λ (r : Reading). r.nodes) (part_reads count len image t.0 nodes free h part short long gate)));
+  }
 
 -- What is written into the first erased sector.
 module _ (first count len : ℕ) (image : List ℕ) (held blank : List Numbered) (b : Numbered) (whole : length image ≡ count * len)

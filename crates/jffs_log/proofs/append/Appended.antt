@@ -26,7 +26,7 @@ use Rattle.jffs_log.proofs.ring.SectorSpellings.{length_spellings, rest_fits, re
 use Rattle.jffs_log.proofs.ring.Ring.{Numbered, nodes_by_sector, last_end, ring_log, ring_lengths, at_once, number_in_ring}
 use Rattle.jffs_log.proofs.ring.Volume.{length-replaced}
 use Rattle.jffs_log.proofs.append.Open.{length-sectors_in, sector_after, sectors_after, room_is, inside, record_short, whole_reads, whole_open, part_sound}
-use Rattle.jffs_log.proofs.append.Append.{tail_nodes, tail_after, tail_whole, tail_part, next_open, next_after, next_whole, next_part}
+use Rattle.jffs_log.proofs.append.Append.{HasRing, tail_nodes, tail_after, tail_whole, tail_part, next_open, next_after, next_whole, next_part}
 use Rattle.jffs_log.proofs.ring.Live.{ring_live, ring_readable, sound_set}
 
 -- the sizes of a volume are small
@@ -74,11 +74,8 @@ module _ (count len : ℕ) (image : List ℕ) (k : ℕ) (nodes : List Node) (fre
       ∙ ap (take amount) (sym cut ∙ rest)
       ∙ take-replicate amount free 255 short
 
-abbrev pub Tail : ℕ → ℕ → List ℕ → List Numbered → ℕ → ℕ → ℕ → Type 0
-Tail count len image held tail used free = HasTail count len image held tail used free
-
 -- Where a record fits the tail, the tail is open.
-pub tail_of : (count len : ℕ) (image : List ℕ) (held : List Numbered) (tail used free : ℕ) (n : Node) → (free ≡ 0) ⊎ HasTail count len image held tail used free → fits_rest n.kind (dsize n) (len / 4) free ≡ true
+tail_of : (count len : ℕ) (image : List ℕ) (held : List Numbered) (tail used free : ℕ) (n : Node) → (free ≡ 0) ⊎ HasTail count len image held tail used free → fits_rest n.kind (dsize n) (len / 4) free ≡ true
     → HasTail count len image held tail used free
 tail_of count len image held tail used free n (inl none) fits =
     let short = rest_fits n.kind (dsize n) (len / 4) free fits in
@@ -158,116 +155,139 @@ abbrev pub Cut : (count len : ℕ) (image new : List ℕ) (n : Node) (k offset :
 Cut count len image new n k offset =
     IsReadable (sectors_in count len new) × ((live_log count len new ≡ live_log count len image) ⊎ (live_log count len new ≡ live_log count len image ++ placed_at k offset n ∷ []))
 
--- A whole record stands in the tail.
-pub tail_appended : (count len : ℕ) (image : List ℕ) (first many tail used free : ℕ) (records : List RecordRef) (n : Node) → Describes count len image first many tail used free records
-    → is_lawful n ≡ true → fits_rest n.kind (dsize n) (len / 4) free ≡ true → Appended count len image first many (free - record_len n) records n (in_last n (logged count len image)) tail used
-tail_appended count len image first many tail used free records n h lawful fits =
-    let t = tail_of count len image h.held tail used free n h.room fits in
-    let k = t.last.0 in
-    let o = t.opened in
-    let short = record_short count len image k t.nodes free o n lawful fits in
-    let long = length_spelled n lawful in
-    let room = open_inside count len image k t.nodes free o (record_len n) short in
-    let old_ring = subst (λ (xs : List Numbered). IsRing first (sectors_in count len image) xs h.blank) t.end h.ring in
-    let new = tail_whole first count len image t.older h.blank t.last t.nodes free o old_ring n lawful fits in
-    let last = tail_after first count len image t.older h.blank t.last t.nodes free o old_ring (spelling n) in
-    let many_old = ap length t.end ∙ length-append t.older (t.last ∷ []) in
-    let many_new = length-append t.older (last ∷ []) in
-    let c = h.counted in
-    let logs : flat_map records_in (t.older ++ last ∷ []) ≡ flat_map records_in h.held ++ placed_at k (sum_by record_len t.nodes) n ∷ [] =
-    new.1 ∙ ap (λ (xs : List Numbered). flat_map records_in xs ++ placed_at k (sum_by record_len t.nodes) n ∷ []) (sym t.end) in
-    let at_end : Appended count len image first many (free - record_len n) records n (in_last n (logged count len image)) k (sum_by record_len t.nodes) = (
-      record {
-        sizes = h.sizes;
-        whole = length-replaced (k * len + sum_by record_len t.nodes) (spelling n) image (omega arith) ∙ h.whole;
-        held = t.older ++ last ∷ [];
-        blank = h.blank;
-        ring = new.0;
-        counted = omega arith;
-        sound = sound_whole count len image k t.nodes free o n lawful fits h.sound;
-        room = inr (record {
-          older = t.older;
-          last = last;
-          nodes = t.nodes ++ n ∷ [];
-          end = refl;
-          number = refl;
-          opened = whole_open count len image k t.nodes free o n lawful fits;
-          filled = sum_more t.nodes n;
-        });
-        exact = sym (free_at_end len t.older last (t.nodes ++ n ∷ []) (free - record_len n) (whole_reads count len image k t.nodes free o n lawful fits) (
-            let sum = sum_more t.nodes n in
-            let r = room_is count len image k t.nodes free o in
-            omega arith));
-        listed = ap (λ (xs : List RecordRef). xs ++ ref_of (placed_at k (sum_by record_len t.nodes) n) ∷ []) h.listed ∙ sym (refs_more (flat_map records_in h.held) _ (placed_at k (sum_by record_len t.nodes) n) logs);
-      },
-      ring_live first _ (t.older ++ last ∷ []) h.blank new.0 ∙ logs ∙ ap (λ (xs : List Placed). xs ++ placed_at k (sum_by record_len t.nodes) n ∷ []) (sym (described_live count len image first many tail used free records h)),
-      ap nodes_by_sector (ring_log first _ (t.older ++ last ∷ []) h.blank new.0).0
-          ∙ by_sector_more t.older t.last last n (
-          ap (λ (s : Sector). s.reading.nodes) (whole_reads count len image k t.nodes free o n lawful fits)
-          ∙ ap (λ (ns : List Node). ns ++ n ∷ []) (sym (tail_nodes first count len image t.older h.blank t.last t.nodes free o old_ring)))
-          ∙ ap (λ (xs : List Numbered). in_last n (nodes_by_sector xs)) (sym ((ring_log first (sectors_in count len image) h.held h.blank h.ring).0 ∙ t.end)),
-      ap (λ (xs : List Numbered). is_clean_tail (last_or None xs)) (ring_log first _ (t.older ++ last ∷ []) h.blank new.0).0
-          ∙ clean_at_end t.older last t.nodes n (whole_reads count len image k t.nodes free o n lawful fits),
-    ) in
-    subst (λ u. Appended count len image first many (free - record_len n) records n (in_last n (logged count len image)) tail u) (sym t.filled)
-    (subst (λ j. Appended count len image first many (free - record_len n) records n (in_last n (logged count len image)) j (sum_by record_len t.nodes)) t.number at_end)
-
--- What a failed write in the tail leaves.
-pub tail_cut : (count len : ℕ) (image new : List ℕ) (first many tail used free : ℕ) (records : List RecordRef) (n : Node) → Describes count len image first many tail used free records
-    → is_lawful n ≡ true → fits_rest n.kind (dsize n) (len / 4) free ≡ true → IsWritten (tail * len + used) n image new → Cut count len image new n tail used
-tail_cut count len image new first many tail used free records n h lawful fits written =
-    subst (λ (xs : List ℕ). Cut count len image xs n tail used) (sym written.rest) (by_state written.part written.state)
-  where
-    by_state : (part : List ℕ) → (part ≡ spelling n) ⊎ ((length part ≡ record_len n) × (get_or part 7 0 ≢ 0)) → Cut count len image (replaced (tail * len + used) part image) n tail used
-    by_state part (inl all) =
-        let a = tail_appended count len image first many tail used free records n h lawful fits in
-        subst (λ (xs : List ℕ). Cut count len image (replaced (tail * len + used) xs image) n tail used) (sym all)
-        (described_readable count len _ first many tail (used + record_len n) (free - record_len n) _ a.0, inr a.1)
-    by_state part (inr open_gate) =
-        let t = tail_of count len image h.held tail used free n h.room fits in
-        let k = t.last.0 in
-        let short = record_short count len image k t.nodes free t.opened n lawful fits in
-        let least = record_long n in
-        let fits_part : length part ≤ free = omega (arith, open_gate.0) in
-        let long_part : 64 ≤ length part = omega (arith, open_gate.0) in
-        let old_ring = subst (λ (xs : List Numbered). IsRing first (sectors_in count len image) xs h.blank) t.end h.ring in
-        let new_ring = tail_part first count len image t.older h.blank t.last t.nodes free t.opened old_ring part fits_part long_part open_gate.1 in
-        let sound = sound_part count len image k t.nodes free t.opened part fits_part long_part open_gate.1 h.sound in
-        let at_end : Cut count len image (replaced (k * len + sum_by record_len t.nodes) part image) n k (sum_by record_len t.nodes) = (
-          ring_readable first _ _ h.blank new_ring.0 sound,
-          inl (ring_live first _ _ h.blank new_ring.0 ∙ new_ring.1 ∙ ap (flat_map records_in) (sym t.end) ∙ sym (described_live count len image first many tail used free records h)),
-        ) in
-        subst (λ u. Cut count len image (replaced (tail * len + u) part image) n tail u) (sym t.filled)
-        (subst (λ j. Cut count len image (replaced (j * len + sum_by record_len t.nodes) part image) n j (sum_by record_len t.nodes)) t.number at_end)
-
--- What a write into the tail may rely on.
+-- What a write of a record may rely on.
 pub record IsReady (count len : ℕ) (image : List ℕ) (k offset amount : ℕ) : Type 0 where
   pub inside : k * len + offset + amount ≤ length image
   pub erased : window (k * len + offset) amount image ≡ replicate amount 255
   pub short : length image ≤ 1048576
 
-pub tail_ready : (count len : ℕ) (image : List ℕ) (first many tail used free : ℕ) (records : List RecordRef) (n : Node) → Describes count len image first many tail used free records
-    → fits_rest n.kind (dsize n) (len / 4) free ≡ true → IsReady count len image tail used (record_len n)
-tail_ready count len image first many tail used free records n h fits =
-    let t = tail_of count len image h.held tail used free n h.room fits in
-    let short = rest_fits n.kind (dsize n) (len / 4) free fits in
-    let at_end : IsReady count len image t.last.0 (sum_by record_len t.nodes) (record_len n) = record {
-      inside = open_inside count len image t.last.0 t.nodes free t.opened (record_len n) short;
-      erased = open_erased count len image t.last.0 t.nodes free t.opened (record_len n) short;
-      short = image_small count len image h.sizes h.whole;
-    } in
-    subst (λ u. IsReady count len image tail u (record_len n)) (sym t.filled) (subst (λ k. IsReady count len image k (sum_by record_len t.nodes) (record_len n)) t.number at_end)
+-- A record is written into a sector that is open.
+module _ (count len : ℕ) (image : List ℕ) (first many tail used free : ℕ) (records : List RecordRef) (h : Describes count len image first many tail used free records)
+    (k : ℕ) (nodes : List Node) (left : ℕ) (o : IsOpenSector count len image k nodes left) (n : Node) (lawful : is_lawful n ≡ true) (fits : fits_rest n.kind (dsize n) (len / 4) left ≡ true) where
+  short : record_len n ≤ left
+  short = record_short count len image k nodes left o n lawful fits
+
+  open_ready : IsReady count len image k (sum_by record_len nodes) (record_len n)
+  open_ready = record {
+    inside = open_inside count len image k nodes left o (record_len n) short;
+    erased = open_erased count len image k nodes left o (record_len n) short;
+    short = image_small count len image h.sizes h.whole;
+  }
+
+  abbrev last : Numbered
+  last = (k, sector_of (sector_after count len image k nodes left o (spelling n)))
+
+  reads : last.1 ≡ record { erased = false; reading = record { nodes = nodes ++ n ∷ []; ending = Free } }
+  reads = whole_reads count len image k nodes left o n lawful fits
+
+  -- the whole record stands there, where that sector is the last of the log
+  open_appended : (older blank : List Numbered) (more : ℕ) (by_sector : List (List Node)) → IsRing first (sectors_in count len (replaced (k * len + sum_by record_len nodes) (spelling n) image)) (older ++ last ∷ []) blank
+      → flat_map records_in (older ++ last ∷ []) ≡ flat_map records_in h.held ++ placed_at k (sum_by record_len nodes) n ∷ [] → length older + 1 ≡ more → nodes_by_sector (older ++ last ∷ []) ≡ by_sector
+      → Appended count len image first more (left - record_len n) records n by_sector k (sum_by record_len nodes)
+  open_appended older blank more by_sector ring logs counted sectors =
+      let enough = short in
+      let long = length_spelled n lawful in
+      let room = open_ready.inside in
+      let one = length-append older (last ∷ []) in (
+        record {
+          sizes = h.sizes;
+          whole = length-replaced (k * len + sum_by record_len nodes) (spelling n) image (omega arith) ∙ h.whole;
+          held = older ++ last ∷ [];
+          blank = blank;
+          ring = ring;
+          counted = omega arith;
+          sound = sound_whole count len image k nodes left o n lawful fits h.sound;
+          room = inr (record {
+            older = older;
+            last = last;
+            nodes = nodes ++ n ∷ [];
+            end = refl;
+            number = refl;
+            opened = whole_open count len image k nodes left o n lawful fits;
+            filled = sum_more nodes n;
+          });
+          exact = sym (free_at_end len older last (nodes ++ n ∷ []) (left - record_len n) reads (
+              let sum = sum_more nodes n in
+              let r = room_is count len image k nodes left o in
+              omega arith));
+          listed = ap (λ (xs : List RecordRef). xs ++ ref_of (placed_at k (sum_by record_len nodes) n) ∷ []) h.listed ∙ sym (refs_more (flat_map records_in h.held) _ (placed_at k (sum_by record_len nodes) n) logs);
+        },
+        ring_live first _ (older ++ last ∷ []) blank ring ∙ logs
+            ∙ ap (λ (xs : List Placed). xs ++ placed_at k (sum_by record_len nodes) n ∷ []) (sym (described_live count len image first many tail used free records h)),
+        ap nodes_by_sector (ring_log first _ (older ++ last ∷ []) blank ring).0 ∙ sectors,
+        ap (λ (xs : List Numbered). is_clean_tail (last_or None xs)) (ring_log first _ (older ++ last ∷ []) blank ring).0 ∙ clean_at_end older last nodes n reads,
+      )
+
+  -- what a failed write leaves there: the whole record, or the log as it was
+  open_cut : (more : ℕ) (by_sector : List (List Node)) → Appended count len image first more (left - record_len n) records n by_sector k (sum_by record_len nodes)
+      → ((part : List ℕ) → length part ≤ left → 64 ≤ length part → get_or part 7 0 ≢ 0 → HasRing first (sectors_in count len (replaced (k * len + sum_by record_len nodes) part image)) (flat_map records_in h.held))
+      → (new : List ℕ) → IsWritten (k * len + sum_by record_len nodes) n image new → Cut count len image new n k (sum_by record_len nodes)
+  open_cut more by_sector all partly new written = subst (λ (xs : List ℕ). Cut count len image xs n k (sum_by record_len nodes)) (sym written.rest) (by_state written.part written.state)
+    where
+      by_state : (part : List ℕ) → (part ≡ spelling n) ⊎ ((length part ≡ record_len n) × (get_or part 7 0 ≢ 0)) → Cut count len image (replaced (k * len + sum_by record_len nodes) part image) n k (sum_by record_len nodes)
+      by_state part (inl whole) =
+          subst (λ (xs : List ℕ). Cut count len image (replaced (k * len + sum_by record_len nodes) xs image) n k (sum_by record_len nodes)) (sym whole)
+          (described_readable count len _ first more k (sum_by record_len nodes + record_len n) (left - record_len n) _ all.0, inr all.1)
+      by_state part (inr open_gate) =
+          let enough = short in
+          let least = record_long n in
+          let fits_part : length part ≤ left = omega (arith, open_gate.0) in
+          let long_part : 64 ≤ length part = omega (arith, open_gate.0) in
+          let r = partly part fits_part long_part open_gate.1 in (
+            ring_readable first _ r.held r.blank r.ring (sound_part count len image k nodes left o part fits_part long_part open_gate.1 h.sound),
+            inl (ring_live first _ r.held r.blank r.ring ∙ r.log_is ∙ sym (described_live count len image first many tail used free records h)),
+          )
+
+-- A record is written into the tail.
+module _ (count len : ℕ) (image : List ℕ) (first many tail used free : ℕ) (records : List RecordRef) (n : Node) (h : Describes count len image first many tail used free records)
+    (lawful : is_lawful n ≡ true) (fits : fits_rest n.kind (dsize n) (len / 4) free ≡ true) where
+  t : HasTail count len image h.held tail used free
+  t = tail_of count len image h.held tail used free n h.room fits
+
+  tail_ring : IsRing first (sectors_in count len image) (t.older ++ t.last ∷ []) h.blank
+  tail_ring = subst (λ (xs : List Numbered). IsRing first (sectors_in count len image) xs h.blank) t.end h.ring
+
+  -- that sector is the tail, and its records take the bytes that are used
+  in_tail : (P : ℕ → ℕ → Type 0) → P t.last.0 (sum_by record_len t.nodes) → P tail used
+  in_tail P x = subst (P tail) (sym t.filled) (subst (λ j. P j (sum_by record_len t.nodes)) t.number x)
+
+  pub tail_ready : IsReady count len image tail used (record_len n)
+  tail_ready = in_tail (λ k u. IsReady count len image k u (record_len n)) (open_ready count len image first many tail used free records h t.last.0 t.nodes free t.opened n lawful fits)
+
+  tail_open : Appended count len image first many (free - record_len n) records n (in_last n (logged count len image)) t.last.0 (sum_by record_len t.nodes)
+  tail_open =
+      let new = tail_whole first count len image t.older h.blank t.last t.nodes free t.opened tail_ring n lawful fits in
+      let last = tail_after first count len image t.older h.blank t.last t.nodes free t.opened tail_ring (spelling n) in
+      let held = ap length t.end ∙ length-append t.older (t.last ∷ []) in
+      let c = h.counted in
+      open_appended count len image first many tail used free records h t.last.0 t.nodes free t.opened n lawful fits t.older h.blank many _ new.0
+      (new.1 ∙ ap (λ (xs : List Numbered). flat_map records_in xs ++ placed_at t.last.0 (sum_by record_len t.nodes) n ∷ []) (sym t.end))
+      (omega arith)
+      (by_sector_more t.older t.last last n (
+      ap (λ (s : Sector). s.reading.nodes) (whole_reads count len image t.last.0 t.nodes free t.opened n lawful fits)
+      ∙ ap (λ (ns : List Node). ns ++ n ∷ []) (sym (tail_nodes first count len image t.older h.blank t.last t.nodes free t.opened tail_ring)))
+      ∙ ap (λ (xs : List Numbered). in_last n (nodes_by_sector xs)) (sym ((ring_log first (sectors_in count len image) h.held h.blank h.ring).0 ∙ t.end)))
+
+  pub tail_appended : Appended count len image first many (free - record_len n) records n (in_last n (logged count len image)) tail used
+  tail_appended = in_tail (Appended count len image first many (free - record_len n) records n (in_last n (logged count len image))) tail_open
+
+  pub tail_cut : (new : List ℕ) → IsWritten (tail * len + used) n image new → Cut count len image new n tail used
+  tail_cut new = in_tail (λ k u. IsWritten (k * len + u) n image new → Cut count len image new n k u)
+      (open_cut count len image first many tail used free records h t.last.0 t.nodes free t.opened n lawful fits many _ tail_open
+      (λ part short long gate.
+      let left = tail_part first count len image t.older h.blank t.last t.nodes free t.opened tail_ring part short long gate in
+      record { held = left.held; blank = left.blank; ring = left.ring; log_is = left.log_is ∙ ap (flat_map records_in) (sym t.end) }) new)
 
 -- The first erased sector, where another one stays erased.
-record HasNext (first count len : ℕ) (image : List ℕ) (held blank : List Numbered) (next : ℕ) : Type 0 where
+record HasNext (first count len : ℕ) (image : List ℕ) (held : List Numbered) (next : ℕ) : Type 0 where
   sector : Numbered
   others : List Numbered
-  blank_is : blank ≡ sector ∷ others
+  ring : IsRing first (sectors_in count len image) held (sector ∷ others)
   some : 1 ≤ length others
   number : sector.0 ≡ next
 
 next_of : (first count len : ℕ) (image : List ℕ) (held blank : List Numbered) (many next : ℕ) → IsRing first (sectors_in count len image) held blank → length held ≡ many → many + 2 ≤ count → IsAt first count many next
-    → HasNext first count len image held blank next
+    → HasNext first count len image held next
 next_of first count len image held [] many next h counted room at =
     let e = ring_lengths first (sectors_in count len image) held [] h in
     let f = length-sectors_in count len image in
@@ -279,101 +299,40 @@ next_of first count len image held (b ∷ blank) many next h counted room at =
     record {
       sector = b;
       others = blank;
-      blank_is = refl;
+      ring = h;
       some = omega arith;
       number = at_once first count many b.0 next (subst (λ j. IsAt first count j b.0) counted (subst (λ m. IsAt first m (length held) b.0) f there)) at;
     }
 
--- A whole record stands in the next sector.
-pub next_appended : (count len : ℕ) (image : List ℕ) (first many tail used free next : ℕ) (records : List RecordRef) (n : Node) → Describes count len image first many tail used free records
-    → many + 2 ≤ count → IsAt first count many next → is_lawful n ≡ true → fits_rest n.kind (dsize n) (len / 4) len ≡ true → Appended count len image first (many + 1) (len - record_len n) records n (logged count len image ++ (n ∷ []) ∷ []) next 0
-next_appended count len image first many tail used free next records n h room at lawful fits =
-    let x = next_of first count len image h.held h.blank many next h.ring h.counted room at in
-    let k = x.sector.0 in
-    let ring = subst (λ (xs : List Numbered). IsRing first (sectors_in count len image) h.held xs) x.blank_is h.ring in
-    let o = next_open first count len image h.held x.others x.sector h.whole ring x.some in
-    let new = next_whole first count len image h.held x.others x.sector h.whole ring x.some n lawful fits in
-    let last = next_after first count len image h.held x.others x.sector h.whole ring x.some (spelling n) in
-    let short = record_short count len image k [] len o n lawful fits in
-    let long = length_spelled n lawful in
-    let fit = open_inside count len image k [] len o (record_len n) short in
-    let c = h.counted in
-    let many_new = length-append h.held (last ∷ []) in
-    let at_end : Appended count len image first (many + 1) (len - record_len n) records n (logged count len image ++ (n ∷ []) ∷ []) k 0 = (
-      record {
-        sizes = h.sizes;
-        whole = length-replaced (k * len + 0) (spelling n) image (omega arith) ∙ h.whole;
-        held = h.held ++ last ∷ [];
-        blank = x.others;
-        ring = new.0;
-        counted = omega arith;
-        sound = sound_whole count len image k [] len o n lawful fits h.sound;
-        room = inr (record {
-          older = h.held;
-          last = last;
-          nodes = n ∷ [];
-          end = refl;
-          number = refl;
-          opened = whole_open count len image k [] len o n lawful fits;
-          filled = sum_more [] n;
-        });
-        exact = sym (free_at_end len h.held last (n ∷ []) (len - record_len n) (whole_reads count len image k [] len o n lawful fits) (
-            let sum = sum_more [] n in
-            let none : sum_by record_len [] ≡ 0 = refl in
-            omega arith));
-        listed = ap (λ (xs : List RecordRef). xs ++ ref_of (placed_at k 0 n) ∷ []) h.listed ∙ sym (refs_more (flat_map records_in h.held) _ (placed_at k 0 n) new.1);
-      },
-      ring_live first _ (h.held ++ last ∷ []) x.others new.0 ∙ new.1 ∙ ap (λ (xs : List Placed). xs ++ placed_at k 0 n ∷ []) (sym (described_live count len image first many tail used free records h)),
-      ap nodes_by_sector (ring_log first _ (h.held ++ last ∷ []) x.others new.0).0
-          ∙ map-append (λ (s : Numbered). s.1.reading.nodes) h.held (last ∷ [])
-          ∙ ap (λ (ns : List Node). nodes_by_sector h.held ++ ns ∷ []) (ap (λ (s : Sector). s.reading.nodes) (whole_reads count len image k [] len o n lawful fits))
-          ∙ ap (λ (xs : List Numbered). nodes_by_sector xs ++ (n ∷ []) ∷ []) (sym (ring_log first (sectors_in count len image) h.held h.blank h.ring).0),
-      ap (λ (xs : List Numbered). is_clean_tail (last_or None xs)) (ring_log first _ (h.held ++ last ∷ []) x.others new.0).0
-          ∙ clean_at_end h.held last [] n (whole_reads count len image k [] len o n lawful fits),
-    ) in
-    subst (λ j. Appended count len image first (many + 1) (len - record_len n) records n (logged count len image ++ (n ∷ []) ∷ []) j 0) x.number at_end
+-- A record is written into the next sector.
+module _ (count len : ℕ) (image : List ℕ) (first many tail used free next : ℕ) (records : List RecordRef) (n : Node) (h : Describes count len image first many tail used free records)
+    (room : many + 2 ≤ count) (at : IsAt first count many next) (lawful : is_lawful n ≡ true) (fits : fits_rest n.kind (dsize n) (len / 4) len ≡ true) where
+  x : HasNext first count len image h.held next
+  x = next_of first count len image h.held h.blank many next h.ring h.counted room at
 
--- What a failed write in the next sector leaves.
-pub next_cut : (count len : ℕ) (image new : List ℕ) (first many tail used free next : ℕ) (records : List RecordRef) (n : Node) → Describes count len image first many tail used free records
-    → many + 2 ≤ count → IsAt first count many next → is_lawful n ≡ true → fits_rest n.kind (dsize n) (len / 4) len ≡ true → IsWritten (next * len + 0) n image new → Cut count len image new n next 0
-next_cut count len image new first many tail used free next records n h room at lawful fits written =
-    subst (λ (xs : List ℕ). Cut count len image xs n next 0) (sym written.rest) (by_state written.part written.state)
-  where
-    by_state : (part : List ℕ) → (part ≡ spelling n) ⊎ ((length part ≡ record_len n) × (get_or part 7 0 ≢ 0)) → Cut count len image (replaced (next * len + 0) part image) n next 0
-    by_state part (inl all) =
-        let a = next_appended count len image first many tail used free next records n h room at lawful fits in
-        subst (λ (xs : List ℕ). Cut count len image (replaced (next * len + 0) xs image) n next 0) (sym all)
-        (described_readable count len _ first (many + 1) next (0 + record_len n) (len - record_len n) _ a.0, inr a.1)
-    by_state part (inr open_gate) =
-        let x = next_of first count len image h.held h.blank many next h.ring h.counted room at in
-        let k = x.sector.0 in
-        let ring = subst (λ (xs : List Numbered). IsRing first (sectors_in count len image) h.held xs) x.blank_is h.ring in
-        let o = next_open first count len image h.held x.others x.sector h.whole ring x.some in
-        let short = record_short count len image k [] len o n lawful fits in
-        let least = record_long n in
-        let fits_part : length part ≤ len = omega (arith, open_gate.0) in
-        let long_part : 64 ≤ length part = omega (arith, open_gate.0) in
-        let left = next_part first count len image h.held x.others x.sector h.whole ring x.some part fits_part long_part open_gate.1 in
-        let sound = sound_part count len image k [] len o part fits_part long_part open_gate.1 h.sound in
-        let at_end : Cut count len image (replaced (k * len + 0) part image) n k 0 = (
-          ring_readable first _ left.held left.blank left.ring sound,
-          inl (ring_live first _ left.held left.blank left.ring ∙ left.log_is ∙ sym (described_live count len image first many tail used free records h)),
-        ) in
-        subst (λ j. Cut count len image (replaced (j * len + 0) part image) n j 0) x.number at_end
+  opened : IsOpenSector count len image x.sector.0 [] len
+  opened = next_open first count len image h.held x.others x.sector h.whole x.ring x.some
 
-pub next_ready : (count len : ℕ) (image : List ℕ) (first many tail used free next : ℕ) (records : List RecordRef) (n : Node) → Describes count len image first many tail used free records
-    → many + 2 ≤ count → IsAt first count many next → fits_rest n.kind (dsize n) (len / 4) len ≡ true → IsReady count len image next 0 (record_len n)
-next_ready count len image first many tail used free next records n h room at fits =
-    let x = next_of first count len image h.held h.blank many next h.ring h.counted room at in
-    let ring = subst (λ (xs : List Numbered). IsRing first (sectors_in count len image) h.held xs) x.blank_is h.ring in
-    let o = next_open first count len image h.held x.others x.sector h.whole ring x.some in
-    let short = rest_fits n.kind (dsize n) (len / 4) len fits in
-    let at_end : IsReady count len image x.sector.0 0 (record_len n) = record {
-      inside = open_inside count len image x.sector.0 [] len o (record_len n) short;
-      erased = open_erased count len image x.sector.0 [] len o (record_len n) short;
-      short = image_small count len image h.sizes h.whole;
-    } in
-    subst (λ k. IsReady count len image k 0 (record_len n)) x.number at_end
+  pub next_ready : IsReady count len image next 0 (record_len n)
+  next_ready = subst (λ k. IsReady count len image k 0 (record_len n)) x.number (open_ready count len image first many tail used free records h x.sector.0 [] len opened n lawful fits)
+
+  next_opened : Appended count len image first (many + 1) (len - record_len n) records n (logged count len image ++ (n ∷ []) ∷ []) x.sector.0 0
+  next_opened =
+      let new = next_whole first count len image h.held x.others x.sector h.whole x.ring x.some n lawful fits in
+      let last = next_after first count len image h.held x.others x.sector h.whole x.ring x.some (spelling n) in
+      open_appended count len image first many tail used free records h x.sector.0 [] len opened n lawful fits h.held x.others (many + 1) _ new.0 new.1
+      (ap (λ k. k + 1) h.counted)
+      (map-append (λ (s : Numbered). s.1.reading.nodes) h.held (last ∷ [])
+      ∙ ap (λ (ns : List Node). nodes_by_sector h.held ++ ns ∷ []) (ap (λ (s : Sector). s.reading.nodes) (whole_reads count len image x.sector.0 [] len opened n lawful fits))
+      ∙ ap (λ (xs : List Numbered). nodes_by_sector xs ++ (n ∷ []) ∷ []) (sym (ring_log first (sectors_in count len image) h.held h.blank h.ring).0))
+
+  pub next_appended : Appended count len image first (many + 1) (len - record_len n) records n (logged count len image ++ (n ∷ []) ∷ []) next 0
+  next_appended = subst (λ j. Appended count len image first (many + 1) (len - record_len n) records n (logged count len image ++ (n ∷ []) ∷ []) j 0) x.number next_opened
+
+  pub next_cut : (new : List ℕ) → IsWritten (next * len + 0) n image new → Cut count len image new n next 0
+  next_cut new = subst (λ k. IsWritten (k * len + 0) n image new → Cut count len image new n k 0) x.number
+      (open_cut count len image first many tail used free records h x.sector.0 [] len opened n lawful fits (many + 1) _ next_opened
+      (next_part first count len image h.held x.others x.sector h.whole x.ring x.some) new)
 
 pub described_inside : (count len : ℕ) (image : List ℕ) (first many tail used free : ℕ) (records : List RecordRef) → Describes count len image first many tail used free records → (first < count) × (count ≤ 64)
 described_inside count len image first many tail used free records h =

@@ -70,14 +70,14 @@ module _ (b : LogIndex) (image : List ℕ) (h : IsLogIndex image b) (n : Node) (
   at_tail fits =
       let all = tail_appended _ _ _ _ _ _ _ _ _ n h lawful fits in
       record {
-        may = may_write b.tail b.used (tail_ready _ _ _ _ _ _ _ _ _ n h fits);
+        may = may_write b.tail b.used (tail_ready _ _ _ _ _ _ _ _ _ n h lawful fits);
         fits = rest_fits n.kind (dsize n) (b.sector_size / 4) b.free fits;
         nodes = in_last n (logged b.sectors b.sector_size image);
         whole = all;
         layout = λ r is.
             layout_tail _ _ _ _ _ _ _ _ _ _ _ _ _ n h all.0 all.2
             ∙ sym (put_in_tail b.sector_size r n (layout_in image b) (free_is r ∙ le-leb (tail_need r (record_len n)) b.free (tail_alone r is)));
-        cut = λ new. tail_cut _ _ _ new _ _ _ _ _ _ n h lawful fits;
+        cut = tail_cut _ _ _ _ _ _ _ _ _ n h lawful fits;
       }
 
   at_next : (next : ℕ) → IsAt b.first b.sectors b.held next → b.held + 2 ≤ b.sectors → PutsAt b image n (start_of next b)
@@ -85,14 +85,14 @@ module _ (b : LogIndex) (image : List ℕ) (h : IsLogIndex image b) (n : Node) (
       let fits = next_fits n b.sector_size short in
       let all = next_appended _ _ _ _ _ _ _ _ next _ n h room at lawful fits in
       record {
-        may = may_write next 0 (next_ready _ _ _ _ _ _ _ _ next _ n h room at fits);
+        may = may_write next 0 (next_ready _ _ _ _ _ _ _ _ next _ n h room at lawful fits);
         fits = rest_fits n.kind (dsize n) (b.sector_size / 4) b.sector_size fits;
         nodes = logged b.sectors b.sector_size image ++ (n ∷ []) ∷ [];
         whole = all;
         layout = λ r is.
             layout_next _ _ _ _ _ _ _ _ _ _ _ _ _ n h all.0 all.2
             ∙ sym (put_in_next b.sector_size r n (layout_in image b) (free_is r ∙ lt-leb (tail_need r (record_len n)) b.free (next_alone r next is)));
-        cut = λ new. next_cut _ _ _ new _ _ _ _ _ next _ n h room at lawful fits;
+        cut = next_cut _ _ _ _ _ _ _ _ next _ n h room at lawful fits;
       }
 
 pub puts : (s : LogState) (n : Node) (p : Place) → IsLogIndex s.device.image s.index → MayAppendAt p n s → PutsAt s.index s.device.image n p

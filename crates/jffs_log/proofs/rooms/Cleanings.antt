@@ -43,7 +43,7 @@ module _ (takes : CopiesTakeOver) (total z weight left before : ℕ) (two : 2 �
   UnderWay rest s = IsUnderWay total z weight left before oldest rest s
 
   module _ (n : Node) (rest : List Node) (s : GcState) (w : IsUnderWay total z weight left before oldest (n ∷ rest) s) (live : live_in s.past n ≡ true) where
-    c : Node
+    abbrev c : Node
     c = copied s.past n
 
     among : Among n s.past
@@ -53,85 +53,92 @@ module _ (takes : CopiesTakeOver) (total z weight left before : ℕ) (two : 2 �
     unfolding live_in
     over = takes s.past n w.sound.history among live
 
-    short : record_len (copied s.past n) ≤ z / 4
+    short : record_len c ≤ z / 4
     short =
         let k = each_among (λ m. record_len m ≤ z / 4) oldest n (stands_among z 0 oldest (of_oldest (λ nodes. stands_from z 0 nodes ≡ true) oldest s.log.sectors w.older w.sound.stands)) w.rest_in.0 in
         let l = over.shorter in
         omega arith
 
     abbrev Fewer : Node → Type 0
-    Fewer m = NoOther (live_in s.past) (live_in (copied s.past n ∷ s.past)) m
+    Fewer m = NoOther (live_in s.past) (live_in (c ∷ s.past)) m
 
     others : AllByRecursion (λ nodes. AllByRecursion (λ m. Fewer m) nodes) s.log.sectors
     unfolding live_in
     others = map_all (λ nodes. AllByRecursion (λ m. Among m s.past) nodes) (λ nodes. AllByRecursion (λ m. Fewer m) nodes)
         (λ nodes k. map_all (λ m. Among m s.past) (λ m. Fewer m) (λ m a. over.no_other m a) nodes k) s.log.sectors w.sound.known
 
-    rest_less : used_by (live_in (copied s.past n ∷ s.past)) rest ≤ used_by (live_in s.past) rest
-    rest_less = by_fewer (live_in s.past) (live_in (copied s.past n ∷ s.past)) rest
+    rest_less : used_by (live_in (c ∷ s.past)) rest ≤ used_by (live_in s.past) rest
+    rest_less = by_fewer (live_in s.past) (live_in (c ∷ s.past)) rest
         (map_all (λ m. Among m oldest) (λ m. Fewer m) (λ m a. each_among (λ k. Fewer k) oldest m (of_oldest (λ nodes. AllByRecursion (λ k. Fewer k) nodes) oldest s.log.sectors w.older others) a) rest w.rest_in.1)
 
-    here : used_by (live_in s.past) (n ∷ rest) ≡ record_len n + used_by (live_in s.past) rest
-    here = by-cons-true (live_in s.past) n rest live
+    -- the copy takes no more than is left less to be copied
+    spares : record_len c + used_by (live_in (c ∷ s.past)) rest ≤ used_by (live_in s.past) (n ∷ rest)
+    spares =
+        let shorter = over.shorter in
+        let here = by-cons-true (live_in s.past) n rest live in
+        let fewer = rest_less in
+        omega arith
 
-    room : has_room Copy (record_len (copied s.past n)) s.log.free s.log.erased ≡ true
+    left_fits : used_by (live_in (c ∷ s.past)) rest + 64 ≤ z
+    left_fits =
+        let most = w.rest_fits in
+        let less = spares in
+        omega arith
+
+    room : has_room Copy (record_len c) s.log.free s.log.erased ≡ true
     room =
-        let l = over.shorter in
-        let h = here in
+        let less = spares in
         ⊎_elim
-        (λ e. or_right (leb (record_len (copied s.past n) + 64) s.log.free) (leb 2 s.log.erased) (le-leb 2 s.log.erased (omega arith)))
-        (λ e. or_left (leb (record_len (copied s.past n) + 64) s.log.free) (leb 2 s.log.erased) (le-leb (record_len (copied s.past n) + 64) s.log.free (let f = e.1 in omega arith)))
+        (λ e. or_right (leb (record_len c + 64) s.log.free) (leb 2 s.log.erased) (le-leb 2 s.log.erased (omega arith)))
+        (λ e. or_left (leb (record_len c + 64) s.log.free) (leb 2 s.log.erased) (le-leb (record_len c + 64) s.log.free (let f = e.1 in omega arith)))
         w.space
 
-    dead : live_in (copied s.past n ∷ s.past) n ≡ false
+    dead : live_in (c ∷ s.past) n ≡ false
     unfolding live_in
     dead = over.obsolete
 
-    less : charged (live_in (copied s.past n ∷ s.past)) (suc left) s.log.sectors + record_len n ≤ charged (live_in s.past) (suc left) s.log.sectors
-    less = charged_fewer_one (live_in s.past) (live_in (copied s.past n ∷ s.past)) left oldest n s.log.sectors w.older others w.rest_in.0 live dead
+    less : charged (live_in (c ∷ s.past)) (suc left) s.log.sectors + record_len n ≤ charged (live_in s.past) (suc left) s.log.sectors
+    less = charged_fewer_one (live_in s.past) (live_in (c ∷ s.past)) left oldest n s.log.sectors w.older others w.rest_in.0 live dead
 
-    after_tail : record_len (copied s.past n) + 64 ≤ s.log.free → UnderWay rest (record { past = copied s.past n ∷ s.past; log = in_tail (copied s.past n) s.log })
+    -- the log with the copy weighs as much as before, at most
+    charge_kept : (sectors : List (List Node)) → charged (live_in (c ∷ s.past)) (suc left) sectors ≤ charged (live_in (c ∷ s.past)) (suc left) s.log.sectors + record_len c
+        → charged (live_in (c ∷ s.past)) (suc left) sectors ≤ weight
+    charge_kept sectors more =
+        let shorter = over.shorter in
+        let dead = less in
+        let most = w.charge in
+        omega arith
+
+    after_tail : record_len c + 64 ≤ s.log.free → UnderWay rest (record { past = c ∷ s.past; log = in_tail c s.log })
     after_tail fits =
-        let l = over.shorter in
-        let h = here in
-        let r = rest_less in
+        let less = spares in
         record {
-          sound = tail_sound total z (record_len (copied s.past n) + 64) (copied s.past n) s w.sound over.history (needs_more (copied s.past n)) (omega arith) short fits;
-          older = oldest_in_last oldest (copied s.past n) s.log.sectors w.older;
+          sound = tail_sound total z (record_len c + 64) c s w.sound over.history (needs_more c) (omega arith) short fits;
+          older = oldest_in_last oldest c s.log.sectors w.older;
           rest_in = w.rest_in.1;
-          rest_fits = let f = w.rest_fits in omega arith;
+          rest_fits = left_fits;
           space = ⊎_elim (λ e. inl e) (λ e. inr (e.0, (let f = e.1 in omega arith))) w.space;
-          charge =
-              let a = charged_in_last (live_in (copied s.past n ∷ s.past)) (suc left) (copied s.past n) s.log.sectors in
-              let b = less in
-              let d = w.charge in
-              omega arith;
-          full = full_in_oldest z s.log.free (suc left) (copied s.past n) oldest s.log.sectors w.older (omega arith) w.full;
+          charge = charge_kept (in_last c s.log.sectors) (charged_in_last (live_in (c ∷ s.past)) (suc left) c s.log.sectors);
+          full = full_in_oldest z s.log.free (suc left) c oldest s.log.sectors w.older (omega arith) w.full;
         }
 
-    after_next : s.log.free < record_len (copied s.past n) + 64 → UnderWay rest (record { past = copied s.past n ∷ s.past; log = in_next z (copied s.past n) s.log })
+    after_next : s.log.free < record_len c + 64 → UnderWay rest (record { past = c ∷ s.past; log = in_next z c s.log })
     after_next none =
-        let l = over.shorter in
-        let h = here in
-        let r = rest_less in
+        let less = spares in
         let e : s.log.erased ≡ before = ⊎_elim (λ e. e) (λ e. absurd (let f = e.1 in omega arith)) w.space in
         record {
-          sound = next_sound total z (record_len (copied s.past n) + 64) (copied s.past n) s w.sound over.history (needs_more (copied s.past n)) (omega arith) short
-              (quarter_fits z (record_len (copied s.past n)) (omega arith) short) (omega arith);
-          older = oldest_in_next oldest (copied s.past n) s.log.sectors w.older;
+          sound = next_sound total z (record_len c + 64) c s w.sound over.history (needs_more c) (omega arith) short
+              (quarter_fits z (record_len c) (omega arith) short) (omega arith);
+          older = oldest_in_next oldest c s.log.sectors w.older;
           rest_in = w.rest_in.1;
-          rest_fits = let f = w.rest_fits in omega arith;
-          space = inr ((omega arith), (let f = w.rest_fits in omega arith));
-          charge =
-              let a = charged_in_next (live_in (copied s.past n ∷ s.past)) (suc left) (copied s.past n) s.log.sectors in
-              let b = less in
-              let d = w.charge in
-              omega arith;
-          full = full_in_next z s.log.free (suc left) (copied s.past n) s.log.sectors none short w.full;
+          rest_fits = left_fits;
+          space = inr (omega arith, (let f = w.rest_fits in omega arith));
+          charge = charge_kept (s.log.sectors ++ (c ∷ []) ∷ []) (charged_in_next (live_in (c ∷ s.past)) (suc left) c s.log.sectors);
+          full = full_in_next z s.log.free (suc left) c s.log.sectors none short w.full;
         }
 
     after : UnderWay rest (with_copy z n s)
-    after = put_by (λ log. UnderWay rest (record { past = copied s.past n ∷ s.past; log = log })) z Copy (copied s.past n) s.log after_tail after_next
+    after = put_by (λ log. UnderWay rest (record { past = c ∷ s.past; log = log })) z Copy c s.log after_tail after_next
 
   -- a dead record is skipped
   skipped : (n : Node) (rest : List Node) (s : GcState) → UnderWay (n ∷ rest) s → live_in s.past n ≡ false → UnderWay rest s

@@ -84,15 +84,24 @@ record HistoryParts (n : Node) (past : List Node) : Type 0 where
   length : keeps_length n ≡ true
   falls : list_all (λ m. ltb m.version n.version) past ≡ true
 
+-- the rules of a history, one by one
+each_rule : (past : List Node) → is_history past ≡ true → (each_fits past ≡ true) × (versions_fall past ≡ true) × (list_all keeps_length past ≡ true)
+each_rule past h =
+    let a = and_parts (each_fits past && versions_fall past) (list_all keeps_length past) h in
+    let b = and_parts (each_fits past) (versions_fall past) a.0 in
+    (b.0, b.1, a.1)
+
+all_rules : (past : List Node) → each_fits past ≡ true → versions_fall past ≡ true → list_all keeps_length past ≡ true → is_history past ≡ true
+all_rules past fits falls lengths = and_from (each_fits past && versions_fall past) (list_all keeps_length past) (and_from (each_fits past) (versions_fall past) fits falls) lengths
+
 history_parts : (n : Node) (past : List Node) → is_history (n ∷ past) ≡ true → HistoryParts n past
 history_parts n past h =
-    let a = and_parts (each_fits (n ∷ past) && versions_fall (n ∷ past)) (list_all keeps_length (n ∷ past)) h in
-    let b = and_parts (each_fits (n ∷ past)) (versions_fall (n ∷ past)) a.0 in
-    let l = and_parts (keeps_length n) (list_all keeps_length past) a.1 in
-    let v = and_parts (list_all (λ m. ltb m.version n.version) past) (versions_fall past) b.1 in
-    let f = fits_parts n past b.0 in
+    let rules = each_rule (n ∷ past) h in
+    let l = and_parts (keeps_length n) (list_all keeps_length past) rules.2 in
+    let v = and_parts (list_all (λ m. ltb m.version n.version) past) (versions_fall past) rules.1 in
+    let f = fits_parts n past rules.0 in
     record {
-      before = and_from (each_fits past && versions_fall past) (list_all keeps_length past) (and_from (each_fits past) (versions_fall past) f.0 v.1) l.1;
+      before = all_rules past f.0 v.1 l.1;
       offsets = f.2;
       length = l.0;
       falls = v.0;
@@ -166,24 +175,33 @@ same_node (k ∷ past) m n h a b e =
     b)
     a
 
+-- the newest node of an inode, and an origin, where they have the version of a node, are that node
+newest_is : (past : List Node) (i : ℕ) (n : Node) → is_history past ≡ true → Among n past → IsNewest past n.version i → (newest past i ≡ Some n) × (concerns i n ≡ true)
+newest_is past i n h a new =
+    let m = named (newest past i) n.version new in
+    let k = newest_among past i m.0 m.1 in
+    let same = same_node past m.0 n h k.0 a m.2 in
+    (m.1 ∙ ap (λ x. Some x) same, subst (λ x. concerns i x ≡ true) same k.1)
+
+origin_is : (past : List Node) (i p : ℕ) (n : Node) → is_history past ≡ true → Among n past → version_of (origin past i p) ≡ Some n.version
+    → (origin past i p ≡ Some n) × (concerns i n ≡ true) × (writes n p ≡ true)
+origin_is past i p n h a old =
+    let m = named (origin past i p) n.version old in
+    let k = origin_among past i p m.0 h m.1 in
+    let same = same_node past m.0 n h k.0 a m.2 in
+    (m.1 ∙ ap (λ x. Some x) same, subst (λ x. concerns i x ≡ true) same k.1, subst (λ x. writes x p ≡ true) same k.2)
+
 -- of a live node: no later one is of its inode, or a byte of the file comes from it
 live_node : (past : List Node) (n : Node) → is_history past ≡ true → Among n past → is_live past n.version ≡ true
     → (newest past n.inode ≡ Some n) ⊎ ((p : ℕ) × (p < size_in past n.inode) × (origin past n.inode p ≡ Some n))
 live_node past n h a live =
     let from = comes_from past n.version live in
     ⊎_elim
-    (λ new.
-    let m = named (newest past from.0) n.version new in
-    let k = newest_among past from.0 m.0 m.1 in
-    let same = same_node past m.0 n h k.0 a m.2 in
-    let at : n.inode ≡ from.0 = ap (λ x. x.inode) (sym same) ∙ its_inode from.0 m.0 k.1 in
-    inl (ap (newest past) at ∙ m.1 ∙ ap (λ x. Some x) same))
+    (λ new. let it = newest_is past from.0 n h a new in inl (ap (newest past) (its_inode from.0 n it.1) ∙ it.0))
     (λ old.
-    let m = named (origin past from.0 old.0) n.version old.2 in
-    let k = origin_among past from.0 old.0 m.0 h m.1 in
-    let same = same_node past m.0 n h k.0 a m.2 in
-    let at : n.inode ≡ from.0 = ap (λ x. x.inode) (sym same) ∙ its_inode from.0 m.0 k.1 in
-    inr (old.0, subst (λ j. old.0 < size_in past j) (sym at) old.1, ap (λ j. origin past j old.0) at ∙ m.1 ∙ ap (λ x. Some x) same))
+    let it = origin_is past from.0 old.0 n h a old.2 in
+    let at = its_inode from.0 n it.1 in
+    inr (old.0, subst (λ j. old.0 < size_in past j) (sym at) old.1, ap (λ j. origin past j old.0) at ∙ it.0))
     from.1
 
 live_concerns : (past : List Node) (n : Node) → is_history past ≡ true → Among n past → is_live past n.version ≡ true → concerns n.inode n ≡ true
@@ -219,6 +237,10 @@ module _ (past : List Node) (h : is_history past ≡ true) (c : Node) (e : Entry
   same_size_in : (i : ℕ) → size_in (c ∷ past) i ≡ size_in past i
   same_size_in i = ap (λ o. length (bytes_of o)) (same_entry i)
 
+  -- what has an older version isn't the copy
+  not_copy : (v : ℕ) (o : Option Node) → v < c.version → version_of o ≡ Some v → o ≡ Some c → ⊥
+  not_copy v o older has is = let same : Some v ≡ Some c.version = sym has ∙ ap version_of is in let e : v ≡ c.version = cc in omega arith
+
   -- where a live version of the longer history comes from
   from_before : (v : ℕ) → v < c.version → is_live (c ∷ past) v ≡ true
       → (i : ℕ) × (((concerns i c ≡ false) × IsNewest past v i) ⊎ ((p : ℕ) × (p < size_in past i) × (version_of (origin past i p) ≡ Some v) × ((concerns i c ≡ false) ⊎ (writes c p ≡ false))))
@@ -228,11 +250,7 @@ module _ (past : List Node) (h : is_history past ≡ true) (c : Node) (e : Entry
         i,
         ⊎_elim
             (λ new. ⊎_elim
-            (λ k.
-            let same = named (newest (c ∷ past) i) v new in
-            let f = same_Some same.0 c (sym same.1 ∙ newest-written i c past k stands_parts.1) in
-            let g : c.version ≡ v = ap (λ x. x.version) (sym f) ∙ same.2 in
-            absurd (omega arith))
+            (λ k. absurd (not_copy v (newest (c ∷ past) i) older new (newest-written i c past k stands_parts.1)))
             (λ k. inl (k, ap version_of (sym (newest-other i c past k)) ∙ new))
             (cases_Bool (concerns i c)))
             (λ old.
@@ -242,11 +260,7 @@ module _ (past : List Node) (h : is_history past ≡ true) (c : Node) (e : Entry
             let there : p < size_in past i = omega arith in
             ⊎_elim
             (λ k. ⊎_elim
-            (λ w.
-            let same = named (origin (c ∷ past) i p) v old.2 in
-            let f = same_Some same.0 c (sym same.1 ∙ origin-written i c past p k stands_parts.1 w.0) in
-            let g : c.version ≡ v = ap (λ x. x.version) (sym f) ∙ same.2 in
-            absurd (omega arith))
+            (λ w. absurd (not_copy v (origin (c ∷ past) i p) older old.2 (origin-written i c past p k stands_parts.1 w.0)))
             (λ w.
             let r = true_copy.range in
             let stays : offset_before c p ≡ p = ⊎_elim (λ before. before.1) (λ behind. let b = behind.0 in let d = behind.1 in omega arith) w.1 in
@@ -272,8 +286,7 @@ module _ (past : List Node) (h : is_history past ≡ true) (c : Node) (e : Entry
 
   copy_history : is_history (c ∷ past) ≡ true
   copy_history =
-      let a = and_parts (each_fits past && versions_fall past) (list_all keeps_length past) h in
-      let b = and_parts (each_fits past) (versions_fall past) a.0 in
+      let rules = each_rule past h in
       let same_len : eqb (dsize c) c.rsize ≡ true = eq-eqb (dsize c) c.rsize (sym true_copy.range) in
       let kind : keeps_kind past c ≡ true =
       or_right c.deleted (option_map_or (λ x. eqb (kind_byte x.kind) (kind_byte c.kind)) (entry past c.inode) true)
@@ -281,12 +294,10 @@ module _ (past : List Node) (h : is_history past ≡ true) (c : Node) (e : Entry
       let offsets : keeps_offsets past c ≡ true =
       or_left (not (is_file c.kind) || eqb (dsize c) c.rsize) (leb (size_in past c.inode) (c.offset + c.rsize)) (or_right (not (is_file c.kind)) (eqb (dsize c) c.rsize) same_len) in
       let form : keeps_form past c ≡ true = stated (is_file c.kind) c.deleted c.size (has_second_form past) (length e.bytes) (true_copy.size ∙ ap (λ k. cond (is_file k) (Some (length e.bytes)) None) (sym true_copy.kind)) in
-      and_from (each_fits (c ∷ past) && versions_fall (c ∷ past)) (list_all keeps_length (c ∷ past))
-      (and_from (each_fits (c ∷ past)) (versions_fall (c ∷ past))
-      (each_fits_from c past b.0 kind offsets form)
+      all_rules (c ∷ past) (each_fits_from c past rules.0 kind offsets form)
       (and_from (list_all (λ m. ltb m.version c.version) past) (versions_fall past)
-      (all_from (λ m. ltb m.version c.version) past (λ m k. lt-ltb m.version c.version (let l = newer_version past m h k in omega arith))) b.1))
-      (and_from (keeps_length c) (list_all keeps_length past) (or_right (is_file c.kind) (eqb (dsize c) c.rsize) same_len) a.1)
+      (all_from (λ m. ltb m.version c.version) past (λ m k. lt-ltb m.version c.version (let l = newer_version past m h k in omega arith))) rules.1)
+      (and_from (keeps_length c) (list_all keeps_length past) (or_right (is_file c.kind) (eqb (dsize c) c.rsize) same_len) rules.2)
     where
       stated : (file gone : Bool) (size : Option ℕ) (later : Bool) (k : ℕ) → size ≡ cond file (Some k) None → (((not file || gone) || is_some size) || not later) ≡ true
       stated true gone size later k f = or_left ((false || gone) || is_some size) (not later) (or_right (false || gone) (is_some size) (ap is_some f))
@@ -305,19 +316,12 @@ module _ (past : List Node) (h : is_history past ≡ true) (c : Node) (e : Entry
         let from = from_before n.version (omega arith) live in
         let i = from.0 in
         absurd (⊎_elim
-        (λ new.
-        let m = named (newest past i) n.version new.1 in
-        let k = newest_among past i m.0 m.1 in
-        let same = same_node past m.0 n h k.0 a m.2 in
-        both_ways (concerns i c) new.0 (here i (ap (concerns i) (sym same) ∙ k.1)))
+        (λ new. both_ways (concerns i c) new.0 (here i (newest_is past i n h a new.1).1))
         (λ old.
-        let m = named (origin past i old.0) n.version old.2 in
-        let k = origin_among past i old.0 m.0 h m.1 in
-        let same = same_node past m.0 n h k.0 a m.2 in
-        let con : concerns i n ≡ true = ap (concerns i) (sym same) ∙ k.1 in
+        let it = origin_is past i old.0 n h a old.2 in
         ⊎_elim
-        (λ off. both_ways (concerns i c) off (here i con))
-        (λ off. both_ways (writes c old.0) off (covers old.0 (ap (λ x. writes x old.0) (sym same) ∙ k.2) (subst (λ j. old.0 < size_in past j) (sym (its_inode i n con)) old.1)))
+        (λ off. both_ways (concerns i c) off (here i it.1))
+        (λ off. both_ways (writes c old.0) off (covers old.0 it.2 (subst (λ j. old.0 < size_in past j) (sym (its_inode i n it.1)) old.1)))
         old.3)
         from.1))
         (λ off. off)

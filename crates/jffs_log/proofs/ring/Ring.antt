@@ -145,15 +145,21 @@ pub sectors_numbered : (k : ℕ) (sectors : List Sector) → sectors ≡ sectors
 sectors_numbered k [] = refl
 sectors_numbered k (s ∷ sectors) = ap (λ (xs : List Sector). s ∷ xs) (sectors_numbered (k + 1) sectors)
 
+-- how long the two parts of a turned list are
+turned_lengths : (first : ℕ) (sectors : List Sector) → first ≤ length sectors → (length (take first (enumerate_from 0 sectors)) ≡ first) × (length (drop first (enumerate_from 0 sectors)) + first ≡ length sectors)
+turned_lengths first sectors inside =
+    let n = enumerate_from 0 sectors in
+    let many : length n ≡ length sectors = length-enumerate_from 0 sectors in
+    let back = length-drop first n in
+    (length-take-le first n (omega arith), omega arith)
+
 ring_starts : (first : ℕ) (sectors : List Sector) (held blank : List Numbered) → IsRing first sectors held blank → starts sectors ≡ start_of held first
 ring_starts first sectors held blank h =
     let n = enumerate_from 0 sectors in
     let d = drop first n in
     let t = take first n in
     let inside = h.inside in
-    let many : length n ≡ length sectors = length-enumerate_from 0 sectors in
-    let front : length t ≡ first = length-take-le first n (omega arith) in
-    let back : length d ≡ length n - first = length-drop first n in
+    let lengths = turned_lengths first sectors (omega arith) in
     let whole : sectors ≡ sectors_of (t ++ d) = sectors_numbered 0 sectors ∙ ap sectors_of (sym (take-append-drop first n)) in
     elim (cases_lt (length d) (length held)) [
       | inr straight ↦
@@ -163,18 +169,18 @@ ring_starts first sectors held blank h =
           ap starts whole
           ∙ ap (λ (xs : List Numbered). starts (sectors_of (t ++ xs))) parts.1
           ∙ starts_straight t held m blanks.1 h.used blanks.0 (subst (λ (xs : List Numbered). 1 ≤ length xs) parts.2 h.some)
-          ∙ ap (start_of held) front
+          ∙ ap (start_of held) lengths.0
       | inl around ↦
           let parts = split_same held blank d t (sym h.order) (omega arith) in
           let m = parts.0 in
           let useds = each_front (λ s. s.1.erased ≡ false) d m (subst AreUsed parts.1 h.used) in
           let long : 1 ≤ length d = omega arith in
-          let lengths : length t ≡ length m + length blank = ap length parts.2 ∙ length-append m blank in
+          let sum : length t ≡ length m + length blank = ap length parts.2 ∙ length-append m blank in
           ap starts whole
           ∙ ap (λ (xs : List Numbered). starts (sectors_of (xs ++ d))) parts.2
           ∙ ap (λ (xs : List Numbered). starts (sectors_of xs)) (append_assoc m blank d)
           ∙ starts_around m blank d useds.1 h.unused useds.0 h.some long
-          ∙ ap (start_of d) (sym lengths ∙ front)
+          ∙ ap (start_of d) (sym sum ∙ lengths.0)
           ∙ sym (start_longer d m first long)
           ∙ ap (λ (xs : List Numbered). start_of xs first) (sym parts.1)
     ]
@@ -255,52 +261,44 @@ found_at first i j sectors t below at read =
       reads = ap (λ (s : Numbered). s.1) both ∙ ap (λ k. get_or sectors k t.1) (sym number);
     }
 
-found_in_ring : (first : ℕ) (sectors : List Sector) (xs ys : List Numbered) (t : Numbered) → first < length sectors → turned first (enumerate_from 0 sectors) ≡ xs ++ t ∷ ys
-    → IsFound first sectors (length xs) t
-found_in_ring first sectors xs ys t inside order =
-    let n = enumerate_from 0 sectors in
-    let many : length n ≡ length sectors = length-enumerate_from 0 sectors in
-    let front : length (take first n) ≡ first = length-take-le first n (omega arith) in
-    let back = length-drop first n in
-    let d = length (drop first n) in
-    let whole = ap length order in
-    let sum_left = length-append (drop first n) (take first n) in
-    let sum_right = length-append xs (t ∷ ys) in
-    let there : get_or (turned first n) (length xs) t ≡ t = ap (λ (zs : List Numbered). get_or zs (length xs) t) order ∙ get_or-append_seam xs t ys t in
-    elim (cases_lt (length xs) d) [
-      | inl near ↦
-          let read : t ≡ get_or n (first + length xs) t = sym there ∙ get_or_append_left (drop first n) (take first n) t (length xs) near ∙ get_or-drop first n (length xs) t in
-          found_at first (first + length xs) (length xs) sectors t (omega arith) (inl (refl, omega arith)) read
-      | inr far ↦
-          let r = length xs - d in
-          let sum : length xs ≡ d + r = omega arith in
-          let read : t ≡ get_or n r t =
-          sym there ∙ ap (λ i. get_or (turned first n) i t) sum ∙ get_or-append-add (drop first n) (take first n) r t ∙ get_or-take first n r t (omega arith) in
-          found_at first r (length xs) sectors t (omega arith) (inr (omega arith, omega arith)) read
-    ]
+module _ (first : ℕ) (sectors : List Sector) (xs ys : List Numbered) (t : Numbered) (inside : first < length sectors) (order : turned first (enumerate_from 0 sectors) ≡ xs ++ t ∷ ys) where
+  found_in_ring : IsFound first sectors (length xs) t
+  found_in_ring =
+      let n = enumerate_from 0 sectors in
+      let lengths = turned_lengths first sectors (omega arith) in
+      let d = length (drop first n) in
+      let whole = ap length order in
+      let sum_left = length-append (drop first n) (take first n) in
+      let sum_right = length-append xs (t ∷ ys) in
+      let there : get_or (turned first n) (length xs) t ≡ t = ap (λ (zs : List Numbered). get_or zs (length xs) t) order ∙ get_or-append_seam xs t ys t in
+      elim (cases_lt (length xs) d) [
+        | inl near ↦
+            let read : t ≡ get_or n (first + length xs) t = sym there ∙ get_or_append_left (drop first n) (take first n) t (length xs) near ∙ get_or-drop first n (length xs) t in
+            found_at first (first + length xs) (length xs) sectors t (omega arith) (inl (refl, omega arith)) read
+        | inr far ↦
+            let r = length xs - d in
+            let sum : length xs ≡ d + r = omega arith in
+            let read : t ≡ get_or n r t =
+            sym there ∙ ap (λ i. get_or (turned first n) i t) sum ∙ get_or-append-add (drop first n) (take first n) r t ∙ get_or-take first n r t (omega arith) in
+            found_at first r (length xs) sectors t (omega arith) (inr (omega arith, omega arith)) read
+      ]
 
-pub number_in_ring : (first : ℕ) (sectors : List Sector) (xs ys : List Numbered) (t : Numbered) → first < length sectors → turned first (enumerate_from 0 sectors) ≡ xs ++ t ∷ ys
-    → IsAt first (length sectors) (length xs) t.0
-number_in_ring first sectors xs ys t inside order = (found_in_ring first sectors xs ys t inside order).number
+  pub number_in_ring : IsAt first (length sectors) (length xs) t.0
+  number_in_ring = found_in_ring.number
 
--- the number of a sector of a ring is below their number, and the sector is the one of that number
-pub ring_reads : (first : ℕ) (sectors : List Sector) (xs ys : List Numbered) (t : Numbered) → first < length sectors → turned first (enumerate_from 0 sectors) ≡ xs ++ t ∷ ys
-    → (t.0 < length sectors) × (t.1 ≡ get_or sectors t.0 t.1)
-ring_reads first sectors xs ys t inside order =
-    let found = found_in_ring first sectors xs ys t inside order in
-    (elim found.number [ inl at ↦ at.1 | inr at ↦ omega arith ], found.reads)
+  -- the number of a sector of a ring is below their number, and the sector is the one of that number
+  pub ring_reads : (t.0 < length sectors) × (t.1 ≡ get_or sectors t.0 t.1)
+  ring_reads = (elim number_in_ring [ inl at ↦ at.1 | inr at ↦ omega arith ], found_in_ring.reads)
 
-pub ring_set : (first : ℕ) (sectors : List Sector) (xs ys : List Numbered) (t : Numbered) (s : Sector) → first < length sectors → turned first (enumerate_from 0 sectors) ≡ xs ++ t ∷ ys
-    → turned first (enumerate_from 0 (set sectors t.0 s)) ≡ xs ++ (t.0, s) ∷ ys
-ring_set first sectors xs ys t s inside order =
-    let n = enumerate_from 0 sectors in
-    let many : length n ≡ length sectors = length-enumerate_from 0 sectors in
-    let at = subst (λ m. IsAt first m (length xs) t.0) (sym many) (number_in_ring first sectors xs ys t inside order) in
-    let zero_first : 0 + t.0 ≡ t.0 = omega arith in
-    ap (turned first) (set_numbered 0 t.0 sectors s ∙ ap (λ (k : ℕ). set n t.0 (k, s)) zero_first)
-    ∙ turned_set first (length xs) t.0 n (t.0, s) (omega arith) at
-    ∙ ap (λ (zs : List Numbered). set zs (length xs) (t.0, s)) order
-    ∙ set-append_seam xs t ys (t.0, s)
+  pub ring_set : (s : Sector) → turned first (enumerate_from 0 (set sectors t.0 s)) ≡ xs ++ (t.0, s) ∷ ys
+  ring_set s =
+      let n = enumerate_from 0 sectors in
+      let many : length n ≡ length sectors = length-enumerate_from 0 sectors in
+      let zero_first : 0 + t.0 ≡ t.0 = omega arith in
+      ap (turned first) (set_numbered 0 t.0 sectors s ∙ ap (λ (k : ℕ). set n t.0 (k, s)) zero_first)
+      ∙ turned_set first (length xs) t.0 n (t.0, s) (omega arith) (subst (λ m. IsAt first m (length xs) t.0) (sym many) number_in_ring)
+      ∙ ap (λ (zs : List Numbered). set zs (length xs) (t.0, s)) order
+      ∙ set-append_seam xs t ys (t.0, s)
 
 -- The tail changes.
 pub ring_tail : (first : ℕ) (sectors : List Sector) (older : List Numbered) (t : Numbered) (blank : List Numbered) (s : Sector) → IsRing first sectors (older ++ t ∷ []) blank → s.erased ≡ false
@@ -309,7 +307,7 @@ ring_tail first sectors older t blank s h used =
     let parts = each_front (λ s. s.1.erased ≡ false) older (t ∷ []) h.used in
     record {
       inside = subst (λ k. first < k) (sym (length-set sectors t.0 s)) h.inside;
-      order = ring_set first sectors older blank t s h.inside (h.order ∙ append_assoc older (t ∷ []) blank) ∙ sym (append_assoc older ((t.0, s) ∷ []) blank);
+      order = ring_set first sectors older blank t h.inside (h.order ∙ append_assoc older (t ∷ []) blank) s ∙ sym (append_assoc older ((t.0, s) ∷ []) blank);
       used = each_append _ older ((t.0, s) ∷ []) parts.0 (used, tt);
       unused = h.unused;
       some = h.some;
@@ -320,7 +318,7 @@ pub ring_next : (first : ℕ) (sectors : List Sector) (held : List Numbered) (b 
     → IsRing first (set sectors b.0 s) (held ++ (b.0, s) ∷ []) blank
 ring_next first sectors held b blank s h some used = record {
   inside = subst (λ k. first < k) (sym (length-set sectors b.0 s)) h.inside;
-  order = ring_set first sectors held blank b s h.inside h.order ∙ sym (append_assoc held ((b.0, s) ∷ []) blank);
+  order = ring_set first sectors held blank b h.inside h.order s ∙ sym (append_assoc held ((b.0, s) ∷ []) blank);
   used = each_append _ held ((b.0, s) ∷ []) h.used (used, tt);
   unused = h.unused.1;
   some = some;
@@ -331,7 +329,7 @@ pub ring_stays : (first : ℕ) (sectors : List Sector) (held : List Numbered) (b
     → IsRing first (set sectors b.0 s) held ((b.0, s) ∷ blank)
 ring_stays first sectors held b blank s h erased = record {
   inside = subst (λ k. first < k) (sym (length-set sectors b.0 s)) h.inside;
-  order = ring_set first sectors held blank b s h.inside h.order;
+  order = ring_set first sectors held blank b h.inside h.order s;
   used = h.used;
   unused = (erased, h.unused.1);
   some = h.some;
@@ -362,7 +360,7 @@ pub ring_erase : (first next : ℕ) (sectors : List Sector) (o : Numbered) (held
 ring_erase first next sectors o held blank s h is erased =
     let many : length (set sectors o.0 s) ≡ length sectors = length-set sectors o.0 s in
     let numbers : length (enumerate_from 0 (set sectors o.0 s)) ≡ length (set sectors o.0 s) = length-enumerate_from 0 (set sectors o.0 s) in
-    let order = ring_set first sectors [] (held ++ blank) o s h.inside h.order in
+    let order = ring_set first sectors [] (held ++ blank) o h.inside h.order s in
     let inside = h.inside in
     let some = h.some in
     let sum = length-append blank ((o.0, s) ∷ []) in
@@ -378,12 +376,9 @@ ring_erase first next sectors o held blank s h is erased =
 
 pub ring_lengths : (first : ℕ) (sectors : List Sector) (held blank : List Numbered) → IsRing first sectors held blank → length held + length blank ≡ length sectors
 ring_lengths first sectors held blank h =
-    let n = enumerate_from 0 sectors in
-    let i = h.inside in
-    let many : length n ≡ length sectors = length-enumerate_from 0 sectors in
-    let front : length (take first n) ≡ first = length-take-le first n (omega arith) in
-    let back = length-drop first n in
-    let left = length-append (drop first n) (take first n) in
+    let inside = h.inside in
+    let lengths = turned_lengths first sectors (omega arith) in
+    let left = length-append (drop first (enumerate_from 0 sectors)) (take first (enumerate_from 0 sectors)) in
     let right = ap length h.order ∙ length-append held blank in
     omega arith
 

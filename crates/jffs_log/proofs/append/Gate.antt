@@ -24,7 +24,10 @@ both_erased k bytes long fit =
     let same : length {A = ℕ} (replicate k 255) ≡ length bytes = omega arith in
     let all = length-both_bits (replicate k 255) bytes same in
     ext_get_or 0 (both_bits (replicate k 255) bytes) bytes all
-    (λ i h. let below : i < k = omega arith in get_or-both_bits (replicate k 255) bytes i same ∙ ap (λ o. bit_and o (get_or bytes i 0)) (get_or-replicate k i 255 0 below) ∙ and_ones (get_or bytes i 0) (fit i))
+    (λ i h. let below : i < k = omega arith in
+    get_or-both_bits (replicate k 255) bytes i same
+    ∙ ap (λ o. bit_and o (get_or bytes i 0)) {x = get_or (replicate k 255) i 0} (get_or-replicate k i 255 0 below)
+    ∙ and_ones (get_or bytes i 0) (fit i))
 
 pub programmed_erased : (at : ℕ) (bytes image : List ℕ) → window at (length bytes) image ≡ replicate (length bytes) 255 → ((i : ℕ) → get_or bytes i 0 < 256) → programmed at bytes image ≡ replaced at bytes image
 programmed_erased at bytes image erased fit =

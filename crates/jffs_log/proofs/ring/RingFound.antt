@@ -132,9 +132,9 @@ end_used : (xs : List Numbered) → AreUsed xs → last_erased false xs ≡ fals
 end_used [] u = refl
 end_used (s ∷ xs) u = ap (λ e. last_erased e xs) u.0 ∙ end_used xs u.1
 
-some_blank : (held blank : List Numbered) → AreUsed held → last_erased false (held ++ blank) ≡ true → 1 ≤ length blank
-some_blank held [] u h = let wrong = sym (end_used held u) ∙ ap (last_erased false) (sym (append-nil held)) ∙ h in absurd (cc)
-some_blank held (b ∷ blank) u h = omega arith
+some_blank : (held blank xs : List Numbered) → AreUsed held → xs ≡ held ++ blank → last_erased false xs ≡ true → 1 ≤ length blank
+some_blank held [] xs u whole h = let wrong = sym (end_used held u) ∙ ap (last_erased false) (sym (append-nil held) ∙ sym whole) ∙ h in absurd (cc)
+some_blank held (b ∷ blank) xs u whole h = omega arith
 
 -- A ring that was found.
 pub record FoundRing (sectors : List Sector) : Type 0 where
@@ -175,6 +175,15 @@ all_erased sectors some none =
     some_long [] some = absurd (cc)
     some_long (s ∷ xs) some = omega arith
 
+-- a list that is turned to one of its elements
+turned_seam : (before after held blank xs : List Numbered) (first : Numbered) (a : ℕ) → xs ≡ before ++ first ∷ after → length before ≡ a → after ++ before ≡ held ++ blank → turned a xs ≡ first ∷ held ++ blank
+turned_seam before after held blank xs first a whole at rest =
+    ap (turned a) whole
+    ∙ ap (λ k. turned k (before ++ first ∷ after)) (sym at)
+    ∙ ap (λ (ys : List Numbered). ys ++ take (length before) (before ++ first ∷ after)) (drop-append_seam before (first ∷ after))
+    ∙ ap (λ (ys : List Numbered). (first ∷ after) ++ ys) (take-append_seam before (first ∷ after))
+    ∙ ap (λ (ys : List Numbered). first ∷ ys) rest
+
 one_written : (sectors : List Sector) (a : ℕ) → starts sectors ≡ a ∷ [] → FoundRing sectors
 one_written sectors a one =
     let n = numbered sectors in
@@ -194,11 +203,6 @@ one_written sectors a one =
     let none : NoStart false rest = no_start_append false o.after o.before o.none_after (subst (λ b. NoStart b o.before) ending o.none_before) in
     let erased : last_erased false rest ≡ true = last_append false o.after o.before ∙ sym (ap (λ b. last_erased b o.before) ending) ∙ o.erased_before in
     let parts = used_blank false rest none in
-    let turning : turned a n ≡ o.first ∷ rest =
-    ap (turned a) o.whole
-    ∙ ap (λ k. turned k (o.before ++ o.first ∷ o.after)) (sym at)
-    ∙ ap (λ (xs : List Numbered). xs ++ take (length o.before) (o.before ++ o.first ∷ o.after)) (drop-append_seam o.before (o.first ∷ o.after))
-    ∙ ap (λ (xs : List Numbered). (o.first ∷ o.after) ++ xs) (take-append_seam o.before (o.first ∷ o.after)) in
     let many : length n ≡ length sectors = length-enumerate_from 0 sectors in
     let sum : length n ≡ length o.before + length (o.first ∷ o.after) = ap length o.whole ∙ length-append o.before (o.first ∷ o.after) in
     record {
@@ -206,10 +210,10 @@ one_written sectors a one =
       blank = parts.blank;
       ring = record {
         inside = subst (λ k. oldest_of k < length sectors) (sym one) (omega arith);
-        order = ap (λ k. turned (oldest_of k) n) one ∙ turning ∙ ap (λ (xs : List Numbered). o.first ∷ xs) parts.whole;
+        order = ◌∙◌ {c = (o.first ∷ parts.held) ++ parts.blank} (ap (λ k. turned (oldest_of k) n) one) (turned_seam o.before o.after parts.held parts.blank n o.first a o.whole at parts.whole);
         used = (o.used, parts.used);
         unused = parts.unused;
-        some = some_blank parts.held parts.blank parts.used (sym (ap (last_erased false) parts.whole) ∙ erased);
+        some = some_blank parts.held parts.blank rest parts.used parts.whole erased;
       };
     }
 

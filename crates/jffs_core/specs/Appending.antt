@@ -38,4 +38,5 @@ pub record PutRefused (room : Room) (n : Node) (cause : Cause) (old new : CoreSt
   pub stands : (past : List Node) → RepresentsWorking past old
       → MayPut past old.index.sector_size room n → RefusedWith (λ m. m ≡ n) cause past past old new
   pub no_room : cause ≡ NoSpace → has_room_for old room (record_len n) ≡ false
+  pub as_it_was : cause ≡ NoSpace → new ≡ old
   pub same : (cause ≡ Device → ⊥) → IsSameButAnswers old new

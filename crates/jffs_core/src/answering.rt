@@ -171,9 +171,6 @@ impl<F: Flash> Core<F> {
         if request.wish.is_copy() {
             return self.append_copy(request, node);
         }
-        if !self.has_room(Room::Fresh, record_len(node)) {
-            return self.clean_for(request, node);
-        }
         self.append_fresh(request, node)
     }
 
@@ -205,18 +202,22 @@ impl<F: Flash> Core<F> {
         })
     }
 
-    /// Appends a fresh node that has room.
-    fn append_fresh(&mut self, request: &Request, node: &Node) -> Result<Outcome, Cause>
+    /// Appends a fresh node; where it has no room, room is made for it first.
+    fn append_fresh(&mut self, request: &Request, node: &mut Node) -> Result<Outcome, Cause>
         requires working { self.old.failed ≡ false }
-        requires decided { IsNodeOf self.old request.now node.now }
+        requires decided { IsNodeOf self.old request.now node.old }
         requires fresh { WantsFresh request.now.wish }
-        requires room { has_room_for self.old Room.Fresh (length_of node.now) ≡ true }
         ensures acted { (past : List Node) → RepresentsWorking past self.old
-            → HasAppended past self.old self.new request.now node.now result }
-        ensures leaves { Leaves 0 self.old self.new }
+            → HasAppended past self.old self.new request.now node.new result }
+        ensures leaves { Leaves self.old.index.held self.old self.new }
     {
-        self.append(Room::Fresh, node)?;
-        Ok(appended(node))
+        match self.append(Room::Fresh, node) {
+            Ok(()) => Ok(appended(node)),
+            Err(cause) => match cause {
+                Cause::NoSpace => self.clean_for(request, node),
+                _ => Err(cause),
+            },
+        }
     }
 
     /// Makes room for a fresh node that has none, and appends it. The copies take versions.

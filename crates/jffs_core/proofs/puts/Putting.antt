@@ -163,6 +163,7 @@ pub put_failed : (room : Room) (n : Node) (cause : Cause) (old new : CoreState) 
 put_failed room n cause old new device fails faults left programs = subst (λ c. PutRefused room n c old new) (sym device) (record {
   stands = λ past known may. record { fails = fails; faults = faults; programs = inr (n, refl, omega (arith, programs)); left = left past known may };
   no_room = λ is. absurd (other is);
+  as_it_was = λ is. absurd (other is);
   same = λ is. absurd (is refl);
 })
   where

@@ -1,5 +1,3 @@
-use Rattle.std.proofs.lemmas.Result.{err_from_is_err_and}
-use Rattle.std.proofs.lemmas.Bool.{both_ways}
 use Rattle.jffs_tree.specs.declared.wish.Outcome.TheVariants.{Appended}
 use Rattle.jffs_log.specs.declared.room.Room.TheVariants as rooms
 use Rattle.jffs_core.proofs.answers.Refusing.{works_past, put_programs}
@@ -12,20 +10,20 @@ append-requires-clause-follows g c =
     let d = c.requires.decided in
     (d.past, d.known, fresh_may d.past _ c.args.request.now c.args.node.now d.known d c.requires.fresh.no_copy c.requires.fresh.no_unmount)
 
-pub returns-clause-acted : goal.returns-clause-acted
-returns-clause-acted g c = λ past known.
+pub returns-in-Ok-clause-acted : goal.returns-in-Ok-clause-acted
+returns-in-Ok-clause-acted g c = λ past known.
     let d = c.requires.decided in
     let q = c.args.request.now in
     let n = c.args.node.now in
-    let h = c.in_ok-append.ensures.done in
+    let h = c.in-Ok.ensures.done in
     answers_same past _ _ q c.appended.result (Appended n.inode n.version) n c.appended.ensures
-    (put_now past _ _ q c.requires.working known n d (fresh_is past _ q n known d c.requires.fresh.no_copy c.requires.fresh.no_unmount) c.requires.room h.works h.faults (fresh_put_keeps n _ _ h) (put_programs n past c.args.self.now c.append.new.self h.programs)
+    (put_now past _ _ q c.requires.working known n d (fresh_is past _ q n known d c.requires.fresh.no_copy c.requires.fresh.no_unmount) h.had_room h.works h.faults (fresh_put_keeps n _ _ h) (put_programs n past c.args.self.now c.append.new.self h.programs)
     (works_past _ _ h.works (h.represents past known (fresh_may past _ q n known d c.requires.fresh.no_copy c.requires.fresh.no_unmount))))
 
-pub returns-in_err-append-clause-acted : goal.returns-in_err-append-clause-acted
-returns-in_err-append-clause-acted g c = let p = err_from_is_err_and c.from_residual.result c.from_residual.ensures.1 in rw (p.1, p.2) λ past known.
+pub returns-in_default-clause-acted : goal.returns-in_default-clause-acted
+returns-in_default-clause-acted g c = λ past known.
     let d = c.requires.decided in
     let q = c.args.request.now in
     let n = c.args.node.now in
     put_stopped past _ _ q c.requires.working known rooms.Fresh n _ d (fresh_room past _ q n known d c.requires.fresh.no_copy c.requires.fresh.no_unmount)
-    (fresh_may past _ q n known d c.requires.fresh.no_copy c.requires.fresh.no_unmount) c.in_err-append.ensures.refused (λ is f. both_ways _ (c.in_err-append.ensures.refused.no_room is) c.requires.room)
+    (fresh_may past _ q n known d c.requires.fresh.no_copy c.requires.fresh.no_unmount) c.in-Err.ensures.refused (λ is f. c.in_default.not-NoSpace is)

@@ -11,7 +11,7 @@ use Rattle.jffs_tree.specs.declared.wish.Wish.{Wish}
 use Rattle.jffs_tree.specs.Decide.{is_copy_wish, is_unmount_wish}
 use Rattle.jffs_log.specs.declared.log_index.LogIndex.{LogIndex}
 use Rattle.jffs_log.specs.LogIndex.{IsLogIndex, HasSizes, IsSameLogIndex, layout_in, lives_in, oldest_in}
-use Rattle.jffs_log.specs.LogState.{KeepsNumbers}
+use Rattle.jffs_log.specs.LogState.{LogState, KeepsNumbers}
 use Rattle.jffs_log.specs.Cleaning.{Layout, without_oldest, oldest_records, erase_oldest}
 use Rattle.jffs_log.specs.RoomLaws.{Among}
 use Rattle.jffs_node.proofs.Each.{each_append}
@@ -24,7 +24,7 @@ use Rattle.jffs_core.specs.Calls.{WorksOn}
 use Rattle.jffs_core.specs.Cleaning.{ErasesOldest, IsDeadOldest, AreDead, erased_times}
 use Rattle.jffs_log.specs.LogState.{one_erase_more}
 use Rattle.jffs_log.specs.Wear.{sector_after, sector_after_each, erases_of}
-use Rattle.jffs_flash.specs.Wear.{Wear, erases_at, one_erase}
+use Rattle.jffs_flash.specs.Wear.{Wear, Wears, erases_at, no_erase, one_erase}
 use Rattle.jffs_log.proofs.erase.Wear.{in_turn_none, in_turn_one, turns_go_on}
 use Rattle.jffs_log.proofs.erase.WearOverSessions.{images_fix_first, erases_both}
 use Rattle.jffs_core.specs.Erases.{ErasesAtMost, UsesDevice, Leaves, StaysBounded, MountsGoOn, erased_for}
@@ -171,17 +171,25 @@ pub leaves_one : (old seen new : CoreState) → old ≡ seen → SameAnswers old
 leaves_one old seen new is same sizes erases device = subst (λ (c : CoreState). Leaves 1 c new) is (record { same = same; sizes = sizes; erases = erases; device = device })
 
 -- Memory was reserved for the log of a core, and perhaps a record was appended.
-pub leaves_kept : (old seen new : CoreState) (middle : LogIndex) → old ≡ seen → SameAnswers old new → IsSameLogIndex old.index middle → KeepsNumbers middle new.index → new.failed_erases ≡ old.failed_erases → new.erase_failed ≡ old.erase_failed → ((k : ℕ) → erases_at new.wear k ≤ erases_at old.wear k) → Leaves 0 seen new
-leaves_kept old seen new middle is same s k failed flag worn = subst (λ (c : CoreState). Leaves 0 c new) is (record {
+pub leaves_kept :
+    (old seen new : CoreState) (middle : LogState) (bytes : ℕ) → old ≡ seen → SameAnswers old new
+    → IsSameLogIndex old.index middle.index → middle.device.failed_erases ≡ old.failed_erases → middle.erase_failed ≡ old.erase_failed → middle.wear ≡ old.wear
+    → KeepsNumbers middle.index new.index → new.failed_erases ≡ middle.device.failed_erases → new.erase_failed ≡ middle.erase_failed → Wears no_erase bytes middle.wear new.wear → Leaves 0 seen new
+leaves_kept old seen new middle bytes is same s failed flag wear k more_failed more_flag worn = subst (λ (c : CoreState). Leaves 0 c new) is (record {
   same = same;
   sizes = (sym s.sectors ∙ k.sizes.0, sym s.sector_size ∙ k.sizes.1);
   erases = let e = s.erases in let f = k.erases in omega arith;
-  device = uses_none old new (sym k.sizes.0 ∙ s.sectors) (k.first ∙ s.first) (k.erases ∙ s.erases) failed flag worn;
+  device = uses_none old new (sym k.sizes.0 ∙ s.sectors) (k.first ∙ s.first) (k.erases ∙ s.erases) (more_failed ∙ failed) (more_flag ∙ flag)
+      (λ k. let none : no_erase k ≡ 0 = refl in let more = worn.erased k in let before = ap (λ (w : Wear). erases_at w k) wear in omega arith);
 })
 
 pub leaves_reserved : (old seen new : CoreState) → old ≡ seen → SameAnswers old new → IsSameLogIndex old.index new.index → new.failed_erases ≡ old.failed_erases → new.erase_failed ≡ old.erase_failed → new.wear ≡ old.wear → Leaves 0 seen new
-leaves_reserved old seen new is same s failed flag wear =
-    leaves_kept old seen new new.index is same s (record { sizes = (refl, refl); first = refl; erases = refl }) failed flag (λ k. let e = ap (λ (w : Wear). erases_at w k) wear in omega arith)
+leaves_reserved old seen new is same s failed flag wear = subst (λ (c : CoreState). Leaves 0 c new) is (record {
+  same = same;
+  sizes = (sym s.sectors, sym s.sector_size);
+  erases = let e = s.erases in omega arith;
+  device = uses_none old new s.sectors s.first s.erases failed flag (λ k. let e = ap (λ (w : Wear). erases_at w k) wear in omega arith);
+})
 
 -- No more sectors are erased than hold the log.
 pub erased_within : (wish : Wish) (held : ℕ) → erased_for wish held ≤ held

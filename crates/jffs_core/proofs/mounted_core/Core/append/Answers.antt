@@ -1,8 +1,8 @@
 use Rattle.std.proofs.Common.{◌≡◌, ℕ, true, inl, inr, ◌<◌, List, ◌∷◌, refl, sym, ap, subst, ◌∙◌, arith}
 use Rattle.jffs_node.specs.declared.node.Node.{Node}
 use Rattle.jffs_node.specs.Record.{record_len}
-use Rattle.jffs_flash.specs.Device.{Device}
-use Rattle.jffs_flash.specs.Wear.{Wear, erases_at, no_erase}
+use Rattle.jffs_flash.specs.Device.{Device, Fails}
+use Rattle.jffs_flash.specs.Wear.{Wear}
 use Rattle.jffs_tree.specs.Origin.{Tree}
 use Rattle.jffs_tree.proofs.trees.Applied.{lawful_suits}
 use Rattle.jffs_log.specs.declared.room.Room.{Room}
@@ -28,6 +28,10 @@ known_inside past inside seen same known = subst (λ (v : CoreState). Represents
 
 may_inside : (past : List Node) (room : Room) (n : Node) (inside seen : CoreState) → inside ≡ seen → MayPut past seen.index.sector_size room n → MayPut past inside.index.sector_size room n
 may_inside past room n inside seen same may = subst (λ (v : CoreState). MayPut past v.index.sector_size room n) (sym same) may
+
+-- where a program failed, no erase did
+no_erase_fails : (P : List ℕ → Type 0) (old new : Device) → Fails P old new → new.failed_erases ≡ old.failed_erases
+no_erase_fails P old new h = ap (λ (d : Device). d.failed_erases) h.rest
 
 -- the record has room in the log, which puts it at the place that was found
 had : (g : _) (c : In_ok-reserve g) → has_room_in c.self.inside.log.index.sectors c.self.inside.log.index.sector_size c.self.inside.log.device.image c.args.room (record_len c.args.node.now) ≡ true
@@ -109,17 +113,15 @@ pub returns-clause-leaves : goal.returns-clause-leaves
 returns-clause-leaves g c =
     let same = c.in_ok-reserve.ensures.same in
     let e = c.in_ok-write_at.ensures.done c.args.room (found g (goal.at.returns-clause-leaves g c).In_ok-reserve) in
-    leaves_kept _ _ _ c.reserve.new.self.index c.self.view_is (record { answers = refl; capacity = refl; closed = refl }) same.index e.numbers
-    (ap (λ (d : Device). d.failed_erases) e.works.device ∙ ap (λ (d : Device). d.failed_erases) same.device) (e.works.no_erase_failed ∙ same.erase_failed)
-    (λ k. let none : no_erase k ≡ 0 = refl in let more = e.worn.erased k in let before = ap (λ (w : Wear). erases_at w k) same.wear in omega arith)
+    leaves_kept _ _ _ c.reserve.new.self _ c.self.view_is (record { answers = refl; capacity = refl; closed = refl }) same.index (ap (λ (d : Device). d.failed_erases) same.device) same.erase_failed same.wear
+    e.numbers (ap (λ (d : Device). d.failed_erases) e.works.device) e.works.no_erase_failed e.worn
 
 pub returns-in_err-write_at-clause-leaves : goal.returns-in_err-write_at-clause-leaves
 returns-in_err-write_at-clause-leaves g c =
     let same = c.in_ok-reserve.ensures.same in
     let f = c.in_err-write_at.ensures.failed in
-    leaves_kept _ _ _ c.reserve.new.self.index c.self.view_is (record { answers = refl; capacity = refl; closed = refl }) same.index f.numbers
-    (ap (λ (d : Device). d.failed_erases) f.device.rest ∙ ap (λ (d : Device). d.failed_erases) same.device) (f.no_erase_failed ∙ same.erase_failed)
-    (λ k. let none : no_erase k ≡ 0 = refl in let more = f.worn.erased k in let before = ap (λ (w : Wear). erases_at w k) same.wear in omega arith)
+    leaves_kept _ _ _ c.reserve.new.self _ c.self.view_is (record { answers = refl; capacity = refl; closed = refl }) same.index (ap (λ (d : Device). d.failed_erases) same.device) same.erase_failed same.wear
+    f.numbers (no_erase_fails _ _ _ f.device) f.no_erase_failed f.worn
 
 pub invariant_of-self-2 : goal.invariant_of-self-2
 invariant_of-self-2 g c =

@@ -195,14 +195,6 @@ leaves_reserved old seen new is same s failed flag wear = subst (λ (c : CoreSta
 pub erased_within : (wish : Wish) (held : ℕ) → erased_for wish held ≤ held
 erased_within wish held = elim (is_copy_wish wish || is_unmount_wish wish) as (λ t. cond t 0 held ≤ held) [ true ↦ omega arith | false ↦ omega arith ]
 
--- A copy or an unmount node was appended, or a fresh node.
-pub leaves_unerased : (wish : Wish) (old new : CoreState) → Leaves 0 old new → Leaves (erased_for wish old.index.held) old new
-leaves_unerased wish old new h = leaves_more 0 (erased_for wish old.index.held) old new (omega arith) h
-
-pub leaves_fresh : (wish : Wish) (old new : CoreState) → is_copy_wish wish ≡ false → is_unmount_wish wish ≡ false → Leaves old.index.held old new → Leaves (erased_for wish old.index.held) old new
-leaves_fresh wish old new copy unmount h =
-    subst (λ (most : ℕ). Leaves most old new) (λ i. cond (sym copy i || sym unmount i) 0 old.index.held) h
-
 -- An answer was carried out, and kept.
 pub answer_bounded :
     (wish : Wish) (old middle new : CoreState) → Leaves (erased_for wish old.index.held) old middle → UsesDevice middle new → new.index ≡ middle.index → new.failed ≡ middle.failed

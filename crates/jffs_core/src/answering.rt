@@ -4,6 +4,7 @@ ghost use Rattle.std.specs.Prelude.{◌≡◌, ◌<◌, ◌≤◌, ◌+◌, ◌+
 ghost use Rattle.std.specs.Prelude.{true, false, OnOk, OnErr, IfOk, IfErr, Ok, Some, None};
 ghost use Rattle.jffs_node.specs.Record.{record_len as length_of};
 ghost use Rattle.jffs_core.specs.CoreState.{IsSameButCapacity};
+ghost use Rattle.jffs_tree.specs.declared.wish.Outcome.TheVariants.{Refused};
 ghost use Rattle.jffs_tree.specs.Decide.{is_copy_wish, is_unmount_wish};
 ghost use Rattle.jffs_core.specs.Answering.{is_closed};
 ghost use Rattle.jffs_core.specs.Nodes.{HasNode};
@@ -19,7 +20,7 @@ use jffs_tree::{Cause, Outcome};
 impl<F: Flash> Core<F> {
     ghost use Rattle.jffs_node.specs.declared.node.Node.{Node};
     ghost use Rattle.jffs_core.specs.Past.{RepresentsWorking, Represents, has_room_for};
-    ghost use Rattle.jffs_core.specs.Answering.{Answers, AnswersWith, HasAnswered, HasActed};
+    ghost use Rattle.jffs_core.specs.Answering.{Answers, AnswersWith, HasActed};
     ghost use Rattle.jffs_core.specs.Answering.{HasAppended};
     ghost use Rattle.jffs_core.specs.Answering.{AddsAnswer, IsNodeOf, KeepsAnswer, WantsFresh};
     ghost use Rattle.jffs_core.specs.Asking.{IsAsked};
@@ -86,16 +87,33 @@ impl<F: Flash> Core<F> {
         ensures tree { TellsNode self.old self.new result.node }
         ensures bounded { StaysBounded request.now.wish self.old self.new }
     {
-        let answered = if self.log.failed() {
-            Answered {
-                outcome: Outcome::Refused(Cause::Failed),
-                node: None,
+        if self.log.failed() {
+            return self.refuse(request, Cause::Failed);
+        }
+        match self.carry_out(request) {
+            Ok(answered) => {
+                self.push_answer(request.writer, request.seq, answered.outcome);
+                answered
             }
-        } else {
-            self.act(request)
-        };
-        self.push_answer(request.writer, request.seq, answered.outcome);
-        answered
+            Err(cause) => self.refuse(request, cause),
+        }
+    }
+
+    /// Adds the answer to a request for which nothing is appended. It is made where it is handed
+    /// out, so that a refusal moves no node.
+    fn refuse(&mut self, request: &Request, cause: Cause) -> Answered
+        requires reserved { length self.old.answers < self.old.capacity }
+        ensures kept { KeepsAnswer request.now.writer request.now.seq (Refused cause) self.old
+            self.new }
+        ensures held { self.new.failed ≡ false → self.new.index.held ≤ self.new.index.sectors }
+        ensures told { result ≡ record { outcome = Refused cause; node = None } }
+    {
+        let outcome = Outcome::Refused(cause);
+        self.push_answer(request.writer, request.seq, outcome);
+        Answered {
+            outcome,
+            node: None,
+        }
     }
 
     /// Adds an answer to the list, for which capacity is reserved.
@@ -110,23 +128,6 @@ impl<F: Flash> Core<F> {
             seq,
             outcome,
         });
-    }
-
-    /// Answers a request on a core whose device works.
-    fn act(&mut self, request: &Request) -> Answered
-        requires working { self.old.failed ≡ false }
-        ensures acted { (past : List Node) → RepresentsWorking past self.old
-            → HasAnswered past self.old self.new request.now result.outcome result.node }
-        ensures leaves { Leaves (erased_for request.now.wish self.old.index.held)
-            self.old self.new }
-    {
-        match self.carry_out(request) {
-            Ok(answered) => answered,
-            Err(cause) => Answered {
-                outcome: Outcome::Refused(cause),
-                node: None,
-            },
-        }
     }
 
     /// Appends what a request wants, or returns why nothing is appended.
@@ -147,7 +148,20 @@ impl<F: Flash> Core<F> {
         let Some(version) = self.limits.next_version else {
             unreachable!()
         };
-        let mut node = new.with(version, request.writer, request.seq);
+        self.append_new(request, new.with(version, request.writer, request.seq))
+    }
+
+    /// Appends the node that was decided on, and hands it out. It stays a call, so that a request
+    /// which is refused moves no node.
+    #[inline(never)]
+    fn append_new(&mut self, request: &Request, mut node: Node) -> Result<Answered, Cause>
+        requires working { self.old.failed ≡ false }
+        requires decided { IsNodeOf self.old request.now node }
+        ensures acted { (past : List Node) → RepresentsWorking past self.old
+            → HasActed past self.old self.new request.now result }
+        ensures leaves { Leaves (erased_for request.now.wish self.old.index.held)
+            self.old self.new }
+    {
         let outcome = self.append_decided(request, &mut node)?;
         Ok(Answered {
             outcome,

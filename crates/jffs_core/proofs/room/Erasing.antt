@@ -17,6 +17,7 @@ use Rattle.jffs_log.specs.RoomLaws.{Among}
 use Rattle.jffs_node.proofs.Each.{each_append}
 use Rattle.jffs_log.proofs.Histories.{dead_as}
 use Rattle.jffs_tree.specs.declared.wish.Outcome.{Outcome}
+use Rattle.jffs_line.specs.declared.request.Request.{Request}
 use Rattle.jffs_core.specs.Answering.{KeepsAnswer, is_closed}
 use Rattle.jffs_core.specs.CoreState.{CoreState, SameAnswers}
 use Rattle.jffs_core.specs.Past.{IsPast, RepresentsWorking}
@@ -195,25 +196,25 @@ leaves_reserved old seen new is same s failed flag wear = subst (λ (c : CoreSta
 pub erased_within : (wish : Wish) (held : ℕ) → erased_for wish held ≤ held
 erased_within wish held = elim (is_copy_wish wish || is_unmount_wish wish) as (λ t. cond t 0 held ≤ held) [ true ↦ omega arith | false ↦ omega arith ]
 
--- An answer was carried out, and kept.
+-- A request was carried out, and its answer kept.
 pub answer_bounded :
-    (wish : Wish) (old middle new : CoreState) → Leaves (erased_for wish old.index.held) old middle → UsesDevice middle new → new.index ≡ middle.index → new.failed ≡ middle.failed
-    → (new.failed ≡ false → new.index.held ≤ new.index.sectors) → new.index.erases ≤ old.index.erases + old.index.sectors → StaysBounded wish old new
-answer_bounded wish old middle new h device index failed most few =
-    let within = erased_within wish old.index.held in
-    let erases = ap (λ (b : LogIndex). b.erases) index in
-    let sectors = ap (λ (b : LogIndex). b.sectors) index in
+    (old middle new : CoreState) (q : Request) (o : Outcome) → old.index.held ≤ old.index.sectors → Leaves (erased_for q.wish old.index.held) old middle
+    → KeepsAnswer q.writer q.seq o middle new → (new.failed ≡ false → new.index.held ≤ new.index.sectors) → StaysBounded q.wish old new
+answer_bounded old middle new q o few h kept most =
+    let within = erased_within q.wish old.index.held in
+    let erases = ap (λ (c : CoreState). c.index.erases) kept in
+    let sectors = ap (λ (c : CoreState). c.index.sectors) kept in
     let bound = h.erases in
     let same = h.sizes.0 in
     record {
-      sizes = (same ∙ sym sectors, h.sizes.1 ∙ sym (ap (λ (b : LogIndex). b.sector_size) index));
+      sizes = (same ∙ sym sectors, h.sizes.1 ∙ sym (ap (λ (c : CoreState). c.index.sector_size) kept));
       erases = record {
         erases = omega arith;
         held = λ works. let held = most works in omega arith;
-        device = uses_along old middle new (λ works. sym failed ∙ works) h.device device;
+        device = uses_along old middle new (λ works. sym (ap (λ (c : CoreState). c.failed) kept) ∙ works) h.device (uses_kept q.writer q.seq o middle new kept);
       };
       for_wish = omega arith;
-      few = few;
+      few = omega arith;
     }
 
 -- Dead sectors are erased one after another.

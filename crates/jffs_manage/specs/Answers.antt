@@ -16,22 +16,22 @@ use Rattle.jffs_manage.specs.declared.answering.TheConstants.{PATH_TEXT_MAX}
 use Rattle.jffs_manage.specs.declared.wanting.Query.{Query}
 use Rattle.jffs_manage.specs.declared.wanting.Query.TheVariants as query
 use Rattle.jffs_core.specs.CoreState.{CoreState}
-use Rattle.jffs_manage.specs.declared.looking.Sight.{Sight}
-use Rattle.jffs_manage.specs.declared.looking.Usage.{Usage}
-use Rattle.jffs_manage.specs.Looks.{letter_text, sight_in, list_text, usage_in}
+use Rattle.jffs_manage.specs.declared.looking.Stat.{Stat}
+use Rattle.jffs_manage.specs.declared.looking.SpaceUsage.{SpaceUsage}
+use Rattle.jffs_manage.specs.Looks.{letter_text, stat_in, list_text, usage_in}
 
 abbrev pub refused_text : Cause → List ℕ
 refused_text cause = codes "refused " ++ (cause_text cause ++ line_end)
 
-abbrev pub sight_answer : Sight → List ℕ
-sight_answer s =
+abbrev pub stat_line : Stat → List ℕ
+stat_line s =
     codes "ok " ++ (letter_text s.directory ++ (codes " " ++ (decimal s.size ++ (codes " " ++
     (decimal s.live ++ line_end)))))
 
 -- what stands at a path
 abbrev pub stat_answer : CoreState → List (List ℕ) → List ℕ
 stat_answer c path =
-    option_map_or (λ i. sight_answer (sight_in true c.tree c.index.records.items i))
+    option_map_or (λ i. stat_line (stat_in true c.tree c.index.records.items i))
     (resolve (state_in c.tree) path) (refused_text NotFound)
 
 -- lines, after how many they are and how many bytes
@@ -58,7 +58,7 @@ read_answer c path offset len =
     (resolve (state_in c.tree) path) (refused_text NotFound)
 
 -- the numbers of `df`
-abbrev pub room_text : Usage → List ℕ
+abbrev pub room_text : SpaceUsage → List ℕ
 room_text u =
     codes "ok " ++ (decimal u.sectors ++ (codes " " ++ (decimal u.sector_size ++ (codes " " ++
     (decimal u.erased ++ (codes " " ++ (decimal u.weight ++ (codes " " ++

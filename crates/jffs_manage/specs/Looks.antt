@@ -11,26 +11,26 @@ use Rattle.jffs_log.specs.LogIndex.{weight_in, log_in}
 use Rattle.jffs_log.specs.Room.{heavy}
 use Rattle.jffs_core.specs.CoreState.{CoreState}
 use Rattle.jffs_manage.specs.Weights.{live_bytes_in}
-use Rattle.jffs_manage.specs.declared.looking.Sight.{Sight}
-use Rattle.jffs_manage.specs.declared.looking.Usage.{Usage}
+use Rattle.jffs_manage.specs.declared.looking.Stat.{Stat}
+use Rattle.jffs_manage.specs.declared.looking.SpaceUsage.{SpaceUsage}
 
 abbrev pub letter_text : Bool → List ℕ
 letter_text directory = if directory then codes "d" else codes "f"
 
 -- what stands before a name: its size, and what its live records take, where that is asked for
-abbrev pub sight_text : Bool → Sight → List ℕ
-sight_text long sight =
-    if long then letter_text sight.directory ++
-    (codes " " ++ (decimal sight.size ++ (codes " " ++ (decimal sight.live ++ codes " "))))
-    else if sight.directory then codes "d "
-    else codes "f " ++ (decimal sight.size ++ codes " ")
+abbrev pub stat_text : Bool → Stat → List ℕ
+stat_text long stat =
+    if long then letter_text stat.directory ++
+    (codes " " ++ (decimal stat.size ++ (codes " " ++ (decimal stat.live ++ codes " "))))
+    else if stat.directory then codes "d "
+    else codes "f " ++ (decimal stat.size ++ codes " ")
 
-abbrev pub entry_text : Bool → Sight → List ℕ → List ℕ
-entry_text long sight name = sight_text long sight ++ (name ++ line_end)
+abbrev pub entry_text : Bool → Stat → List ℕ → List ℕ
+entry_text long stat name = stat_text long stat ++ (name ++ line_end)
 
 -- what is to be seen of an inode; what its records take is counted only in long lines
-abbrev pub sight_in : Bool → Tree → List RecordRef → ℕ → Sight
-sight_in long tree records i = record {
+abbrev pub stat_in : Bool → Tree → List RecordRef → ℕ → Stat
+stat_in long tree records i = record {
   directory = is_directory_in (state_in tree) i;
   size = unwrap_or (size_of tree i) 0;
   live = if long then live_bytes_in tree i records else 0;
@@ -38,7 +38,7 @@ sight_in long tree records i = record {
 
 -- the line of a name and its inode
 abbrev pub name_line : Bool → Tree → List RecordRef → (List ℕ × ℕ) → List ℕ
-name_line long tree records a = entry_text long (sight_in long tree records a.1) a.0
+name_line long tree records a = entry_text long (stat_in long tree records a.1) a.0
 
 -- the lines of the names in a directory, in the order of their bytes
 abbrev pub directory_lines : Bool → Tree → List RecordRef → ℕ → List ℕ
@@ -56,22 +56,22 @@ list_text long tree records i =
     if is_directory_in (state_in tree) i then directory_lines long tree records i
     else own_line long tree records i
 
-abbrev pub sectors_line : Usage → List ℕ
+abbrev pub sectors_line : SpaceUsage → List ℕ
 sectors_line u =
     codes "sectors " ++ (decimal u.sectors ++ (codes " of " ++ (decimal u.sector_size ++
     (codes " bytes, " ++ (decimal u.erased ++ (codes " erased" ++ line_end))))))
 
-abbrev pub weight_line : Usage → List ℕ
+abbrev pub weight_line : SpaceUsage → List ℕ
 weight_line u =
     codes "live " ++ (decimal u.weight ++ (codes " bytes in records, room is sure below " ++
     (decimal u.sure ++ line_end)))
 
 -- the two lines of `df`
-abbrev pub usage_text : Usage → List ℕ
+abbrev pub usage_text : SpaceUsage → List ℕ
 usage_text u = sectors_line u ++ weight_line u
 
 -- how full a core's volume is
-abbrev pub usage_in : CoreState → Usage
+abbrev pub usage_in : CoreState → SpaceUsage
 usage_in c = record {
   sectors = c.index.sectors;
   sector_size = c.index.sector_size;

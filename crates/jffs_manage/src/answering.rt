@@ -5,13 +5,13 @@ ghost use Rattle.std.specs.Io.KnownBytes.{Appends};
 ghost use Rattle.jffs_tree.specs.State.{is_directory_in};
 ghost use Rattle.jffs_tree.specs.Origin.{state_in};
 ghost use Rattle.jffs_tree.specs.Look.{bytes_in};
-ghost use Rattle.jffs_manage.specs.Answers.{refused_text, sight_answer, stat_answer, lines_text};
+ghost use Rattle.jffs_manage.specs.Answers.{refused_text, stat_line, stat_answer, lines_text};
 ghost use Rattle.jffs_manage.specs.Answers.{list_answer, counted_text, read_answer, room_text};
 ghost use Rattle.jffs_manage.specs.Answers.{limits_answer, check_answer, query_answer};
 ghost use Rattle.jffs_manage.specs.Looks.{usage_in};
 
 use crate::fault::VolumeFault;
-use crate::looking::{Sight, Usage, list, sight_of, usage_of};
+use crate::looking::{SpaceUsage, Stat, list, stat_of, usage_of};
 use crate::wanting::Query;
 use jffs_core::Core;
 use jffs_flash::Flash;
@@ -51,19 +51,19 @@ fn answer_stat<F: Flash, W: Write>(core: &Core<F>, path: &Path, out: &mut W) -> 
         (Appends (W.contents out.old) (W.contents out.new) (stat_answer core.now path.now)) }
 {
     match core.tree().resolve(path) {
-        Some(inode) => write_sight(sight_of(core, inode, true), out),
+        Some(inode) => write_stat(stat_of(core, inode, true), out),
         None => write_refusal(Cause::NotFound, out),
     }
 }
 
-fn write_sight<W: Write>(sight: Sight, out: &mut W) -> io::Result<()>
-    ensures { OnOk result (Appends (W.contents out.old) (W.contents out.new) (sight_answer sight)) }
+fn write_stat<W: Write>(stat: Stat, out: &mut W) -> io::Result<()>
+    ensures { OnOk result (Appends (W.contents out.old) (W.contents out.new) (stat_line stat)) }
 {
-    let Sight {
+    let Stat {
         directory,
         size,
         live,
-    } = sight;
+    } = stat;
     let letter = if directory { 'd' } else { 'f' };
     writeln!(out, "ok {letter} {size} {live}")
 }
@@ -161,11 +161,11 @@ fn answer_room<F: Flash, W: Write>(core: &Core<F>, out: &mut W) -> io::Result<()
     write_numbers(usage_of(core), out)
 }
 
-fn write_numbers<W: Write>(usage: Usage, out: &mut W) -> io::Result<()>
+fn write_numbers<W: Write>(usage: SpaceUsage, out: &mut W) -> io::Result<()>
     ensures { OnOk result
         (Appends (W.contents out.old) (W.contents out.new) (room_text usage)) }
 {
-    let Usage {
+    let SpaceUsage {
         sectors,
         sector_size,
         erased,

@@ -6,7 +6,7 @@ use thiserror::Error;
 
 /// The word that a call begins with.
 #[derive(Clone, Copy, PartialEq, Eq)]
-enum Command {
+enum CommandWord {
     Format,
     List,
     Show,
@@ -22,23 +22,23 @@ enum Command {
     Serve,
 }
 
-impl Command {
+impl CommandWord {
     /// The command that a word names.
-    fn of(word: &str) -> Option<Command> {
+    fn of(word: &str) -> Option<CommandWord> {
         match word {
-            "format" => Some(Command::Format),
-            "ls" => Some(Command::List),
-            "cat" => Some(Command::Show),
-            "put" => Some(Command::Put),
-            "mkdir" => Some(Command::MakeDir),
-            "mv" => Some(Command::Move),
-            "rm" => Some(Command::Remove),
-            "df" => Some(Command::Usage),
-            "check" => Some(Command::Check),
-            "map" => Some(Command::Map),
-            "save" => Some(Command::Save),
-            "load" => Some(Command::Load),
-            "serve" => Some(Command::Serve),
+            "format" => Some(CommandWord::Format),
+            "ls" => Some(CommandWord::List),
+            "cat" => Some(CommandWord::Show),
+            "put" => Some(CommandWord::Put),
+            "mkdir" => Some(CommandWord::MakeDir),
+            "mv" => Some(CommandWord::Move),
+            "rm" => Some(CommandWord::Remove),
+            "df" => Some(CommandWord::Usage),
+            "check" => Some(CommandWord::Check),
+            "map" => Some(CommandWord::Map),
+            "save" => Some(CommandWord::Save),
+            "load" => Some(CommandWord::Load),
+            "serve" => Some(CommandWord::Serve),
             _ => None,
         }
     }
@@ -46,42 +46,44 @@ impl Command {
     /// The words of a call, as the help has them.
     fn form(self) -> &'static str {
         match self {
-            Command::Format => "format FILE SECTORS SECTOR_SIZE",
-            Command::List => "ls [-l] FILE [PATH]",
-            Command::Show => "cat FILE PATH",
-            Command::Put => "put FILE PATH",
-            Command::MakeDir => "mkdir FILE PATH",
-            Command::Move => "mv FILE PATH PATH",
-            Command::Remove => "rm [-r] FILE PATH",
-            Command::Usage => "df FILE",
-            Command::Check => "check FILE",
-            Command::Map => "map [--svg] FILE",
-            Command::Save => "save [--from-damaged] FILE DIRECTORY",
-            Command::Load => "load FILE DIRECTORY",
-            Command::Serve => "serve FILE",
+            CommandWord::Format => "format FILE SECTORS SECTOR_SIZE",
+            CommandWord::List => "ls [-l] FILE [PATH]",
+            CommandWord::Show => "cat FILE PATH",
+            CommandWord::Put => "put FILE PATH",
+            CommandWord::MakeDir => "mkdir FILE PATH",
+            CommandWord::Move => "mv FILE PATH PATH",
+            CommandWord::Remove => "rm [-r] FILE PATH",
+            CommandWord::Usage => "df FILE",
+            CommandWord::Check => "check FILE",
+            CommandWord::Map => "map [--svg] FILE",
+            CommandWord::Save => "save [--from-damaged] FILE DIRECTORY",
+            CommandWord::Load => "load FILE DIRECTORY",
+            CommandWord::Serve => "serve FILE",
         }
     }
 
     /// The fewest words that follow it.
     fn least(self) -> usize {
         match self {
-            Command::List | Command::Usage | Command::Check | Command::Map | Command::Serve => {
-                1
-            },
-            Command::Show
-            | Command::Put
-            | Command::MakeDir
-            | Command::Remove
-            | Command::Save
-            | Command::Load => { 2 },
-            Command::Format | Command::Move => 3,
+            CommandWord::List
+            | CommandWord::Usage
+            | CommandWord::Check
+            | CommandWord::Map
+            | CommandWord::Serve => { 1 },
+            CommandWord::Show
+            | CommandWord::Put
+            | CommandWord::MakeDir
+            | CommandWord::Remove
+            | CommandWord::Save
+            | CommandWord::Load => { 2 },
+            CommandWord::Format | CommandWord::Move => 3,
         }
     }
 
     /// The most words that follow it.
     fn most(self) -> usize {
         match self {
-            Command::List => 2,
+            CommandWord::List => 2,
             _ => self.least(),
         }
     }
@@ -92,12 +94,12 @@ impl Command {
 pub(crate) enum Call<'a> {
     Help,
     Version,
-    Do(Work<'a>),
+    Do(VolumeWork<'a>),
 }
 
 /// What is to be done with a volume, and in which file.
 #[derive(Clone, Copy)]
-pub(crate) struct Work<'a> {
+pub(crate) struct VolumeWork<'a> {
     pub task: Task<'a>,
     pub file: &'a str,
     /// The word after the file, as it stands; empty where there is none.
@@ -209,14 +211,14 @@ struct Options {
 
 impl Options {
     /// The first of these options that the command doesn't have.
-    fn foreign_to(self, command: Command) -> Option<&'static str> {
-        if self.long && command != Command::List {
+    fn foreign_to(self, command: CommandWord) -> Option<&'static str> {
+        if self.long && command != CommandWord::List {
             Some("-l")
-        } else if self.recursive && command != Command::Remove {
+        } else if self.recursive && command != CommandWord::Remove {
             Some("-r")
-        } else if self.svg && command != Command::Map {
+        } else if self.svg && command != CommandWord::Map {
             Some("--svg")
-        } else if self.from_damaged && command != Command::Save {
+        } else if self.from_damaged && command != CommandWord::Save {
             Some("--from-damaged")
         } else {
             None
@@ -280,11 +282,11 @@ fn alone<'a>(
 }
 
 /// A command with the words that follow it.
-fn work_of<'a>(words: &[&'a str], options: Options) -> Result<Work<'a>, CallFault<'a>> {
+fn work_of<'a>(words: &[&'a str], options: Options) -> Result<VolumeWork<'a>, CallFault<'a>> {
     let Some((&word, rest)) = words.split_first() else {
         return Err(CallFault::NoCommand);
     };
-    let Some(command) = Command::of(word) else {
+    let Some(command) = CommandWord::of(word) else {
         return Err(CallFault::Command(word));
     };
     if let Some(option) = options.foreign_to(command) {
@@ -298,7 +300,7 @@ fn work_of<'a>(words: &[&'a str], options: Options) -> Result<Work<'a>, CallFaul
     }
     let first = word_at(rest, 1);
     let second = word_at(rest, 2);
-    Ok(Work {
+    Ok(VolumeWork {
         task: task_of(command, first, second, options)?,
         file: word_at(rest, 0),
         first,
@@ -309,38 +311,38 @@ fn work_of<'a>(words: &[&'a str], options: Options) -> Result<Work<'a>, CallFaul
 
 /// What a command asks for with the words after the file, where it has as many as it wants.
 fn task_of<'a>(
-    command: Command,
+    command: CommandWord,
     first: &'a str,
     second: &'a str,
     options: Options,
 ) -> Result<Task<'a>, CallFault<'a>> {
     Ok(match command {
-        Command::Format => Task::Format {
+        CommandWord::Format => Task::Format {
             sectors: number_of(first)?,
             sector_size: number_of(second)?,
         },
-        Command::List => Task::Look(Look::List {
+        CommandWord::List => Task::Look(Look::List {
             path: if first.is_empty() { "/" } else { first },
             long: options.long,
         }),
-        Command::Show => Task::Look(Look::Show(first)),
-        Command::Usage => Task::Look(Look::Usage),
-        Command::Check => Task::Look(Look::Check),
-        Command::Map => Task::Look(Look::Map { svg: options.svg }),
-        Command::Save => Task::Save {
+        CommandWord::Show => Task::Look(Look::Show(first)),
+        CommandWord::Usage => Task::Look(Look::Usage),
+        CommandWord::Check => Task::Look(Look::Check),
+        CommandWord::Map => Task::Look(Look::Map { svg: options.svg }),
+        CommandWord::Save => Task::Save {
             directory: first,
             damaged: options.from_damaged,
         },
-        Command::Put => Task::Change(Change::Put(first)),
-        Command::MakeDir => Task::Change(Change::MakeDir(first)),
-        Command::Move => Task::Change(Change::Move {
+        CommandWord::Put => Task::Change(Change::Put(first)),
+        CommandWord::MakeDir => Task::Change(Change::MakeDir(first)),
+        CommandWord::Move => Task::Change(Change::Move {
             from: first,
             to: second,
         }),
-        Command::Remove if options.recursive => Task::Change(Change::RemoveAll(first)),
-        Command::Remove => Task::Change(Change::Remove(first)),
-        Command::Load => Task::Change(Change::Load(first)),
-        Command::Serve => Task::Serve,
+        CommandWord::Remove if options.recursive => Task::Change(Change::RemoveAll(first)),
+        CommandWord::Remove => Task::Change(Change::Remove(first)),
+        CommandWord::Load => Task::Change(Change::Load(first)),
+        CommandWord::Serve => Task::Serve,
     })
 }
 

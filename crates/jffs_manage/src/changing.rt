@@ -2,8 +2,8 @@
 
 use crate::fault::VolumeFault;
 use crate::looking::file_at;
+use crate::mounted_volume::MountedVolume;
 use crate::rooming::{Needed, make_room};
-use crate::session::Session;
 use crate::walking::below;
 use jffs_flash::Flash;
 use jffs_node::{FILE_MAX, Path, copied};
@@ -26,7 +26,7 @@ pub(crate) const UNFINISHED: &str = ".put.new";
 /// `Whole` where the old file was removed, and the rename refused: it stays with all its bytes.
 pub(crate) fn put<F: Flash>(
     alloc: Global,
-    session: &mut Session<F>,
+    volume: &mut MountedVolume<F>,
     text: &str,
     bytes: &[u8],
 ) -> Result<(), VolumeFault> {
@@ -39,28 +39,28 @@ pub(crate) fn put<F: Flash>(
         return Err(VolumeFault::Reserved);
     }
     let unfinished = Path::parse(alloc, beside.as_str())?;
-    if session.tree().resolve(&unfinished).is_some() {
+    if volume.tree().resolve(&unfinished).is_some() {
         return Err(VolumeFault::Left);
     }
-    let replaces = match file_at(session.tree(), &path) {
+    let replaces = match file_at(volume.tree(), &path) {
         Ok(_) => true,
         Err(VolumeFault::Nothing) => false,
         Err(fault) => return Err(fault),
     };
     let needed = Needed {
         bytes: bytes.len() as u32,
-        piece: session.write_max().max(1),
+        piece: volume.write_max().max(1),
     };
-    make_room(session, needed)?;
-    if let Err(fault) = write_file(alloc, session, &unfinished, bytes) {
-        return Err(taken_away(session, unfinished, fault));
+    make_room(volume, needed)?;
+    if let Err(fault) = write_file(alloc, volume, &unfinished, bytes) {
+        return Err(taken_away(volume, unfinished, fault));
     }
     if replaces {
-        if let Err(fault) = session.ask(Wish::Remove(path.clone()?)) {
-            return Err(taken_away(session, unfinished, fault));
+        if let Err(fault) = volume.ask(Wish::Remove(path.clone()?)) {
+            return Err(taken_away(volume, unfinished, fault));
         }
     }
-    let renamed = session.ask(Wish::Rename {
+    let renamed = volume.ask(Wish::Rename {
         from: unfinished,
         to: path,
     });
@@ -74,14 +74,14 @@ pub(crate) fn put<F: Flash>(
 /// Removes what a put has written, and gives what the put ends with: the fault that ended it, or
 /// `Part` where a part of the new file stays.
 fn taken_away<F: Flash>(
-    session: &mut Session<F>,
+    volume: &mut MountedVolume<F>,
     unfinished: Path,
     fault: VolumeFault,
 ) -> VolumeFault {
-    if session.tree().resolve(&unfinished).is_none() {
+    if volume.tree().resolve(&unfinished).is_none() {
         return fault;
     }
-    match (session.ask(Wish::Remove(unfinished)), fault) {
+    match (volume.ask(Wish::Remove(unfinished)), fault) {
         (Ok(()), _) => fault,
         (Err(_), VolumeFault::Refused(cause)) => VolumeFault::Part(cause),
         (Err(_), VolumeFault::NoSpace | VolumeFault::Stuck) => VolumeFault::Part(Cause::NoSpace),
@@ -101,15 +101,15 @@ fn beside(alloc: Global, text: &str) -> Result<String, VolumeFault> {
 /// Makes a file with these bytes, in as many writes as it takes.
 fn write_file<F: Flash>(
     alloc: Global,
-    session: &mut Session<F>,
+    volume: &mut MountedVolume<F>,
     path: &Path,
     bytes: &[u8],
 ) -> Result<(), VolumeFault> {
-    session.ask(Wish::Create(path.clone()?))?;
-    let most = session.write_max().max(1) as usize;
+    volume.ask(Wish::Create(path.clone()?))?;
+    let most = volume.write_max().max(1) as usize;
     let mut offset = 0u32;
     for part in bytes.chunks(most) {
-        session.ask(Wish::Write {
+        volume.ask(Wish::Write {
             path: path.clone()?,
             offset,
             bytes: copied(alloc, part)?,
@@ -126,7 +126,7 @@ fn write_file<F: Flash>(
 /// `reached` is left with the path at which it stopped.
 pub(crate) fn remove_all<F: Flash>(
     alloc: Global,
-    session: &mut Session<F>,
+    volume: &mut MountedVolume<F>,
     text: &str,
     reached: &mut String,
 ) -> Result<(), VolumeFault> {
@@ -134,14 +134,14 @@ pub(crate) fn remove_all<F: Flash>(
     if path.names().is_empty() {
         return Err(VolumeFault::Refused(Cause::RootFixed));
     }
-    let Some(inode) = session.tree().resolve(&path) else {
+    let Some(inode) = volume.tree().resolve(&path) else {
         return Err(VolumeFault::Refused(Cause::NotFound));
     };
-    let all = below(alloc, session.tree(), text, inode)?;
+    let all = below(alloc, volume.tree(), text, inode)?;
     for found in all.iter().rev() {
         reached.clear();
         reached.push_str(found.path.as_str())?;
-        session.ask(Wish::Remove(Path::parse(alloc, found.path.as_str())?))?;
+        volume.ask(Wish::Remove(Path::parse(alloc, found.path.as_str())?))?;
     }
     reached.clear();
     Ok(())

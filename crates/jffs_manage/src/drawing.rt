@@ -1,6 +1,6 @@
 //! The map of a volume, as text and as a picture.
 
-use crate::mapping::{CELLS, Held, Map, Part, Row, Totals};
+use crate::mapping::{CELLS, Held, Map, MapTotals, Part, Row};
 use std::io;
 use std::io::Write;
 
@@ -73,7 +73,7 @@ pub(crate) fn draw<W: Write>(map: &Map, coloured: bool, out: &mut W) -> io::Resu
         write!(out, "{:>2} {:<4} ", row.sector, row.part.word())?;
         draw_cells(row, coloured, out)?;
     }
-    let Totals {
+    let MapTotals {
         live,
         dead,
         unused,

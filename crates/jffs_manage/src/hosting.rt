@@ -3,7 +3,7 @@
 use crate::changing::{UNFINISHED, put, read_some};
 use crate::fault::VolumeFault;
 use crate::looking::show;
-use crate::session::Session;
+use crate::mounted_volume::MountedVolume;
 use crate::walking::{Entry, below};
 use jffs_flash::Flash;
 use jffs_node::{Path, ROOT_INODE};
@@ -100,7 +100,7 @@ fn save_file<Rt: Files>(rt: &Rt, tree: &Tree, inode: u32, path: &str) -> Result<
 /// what was put stays. `reached` is left with the path at which it stopped, or empty.
 pub(crate) fn load<Rt: Files + AllocGlobal + Clone + Drop, F: Flash>(
     rt: &Rt,
-    session: &mut Session<F>,
+    volume: &mut MountedVolume<F>,
     directory: &str,
     reached: &mut String,
 ) -> Result<(), VolumeFault> {
@@ -109,10 +109,10 @@ pub(crate) fn load<Rt: Files + AllocGlobal + Clone + Drop, F: Flash>(
         let path = path.as_str();
         set(reached, path)?;
         if *is_directory {
-            keep_directory(alloc, session, path)?;
+            keep_directory(alloc, volume, path)?;
         } else {
             let from = format!(in alloc; "{directory}{path}")?;
-            put(alloc, session, path, &read_file(rt, from.as_str())?)?;
+            put(alloc, volume, path, &read_file(rt, from.as_str())?)?;
         }
     }
     reached.clear();
@@ -122,13 +122,13 @@ pub(crate) fn load<Rt: Files + AllocGlobal + Clone + Drop, F: Flash>(
 /// Makes a directory on the volume, unless one stands there.
 fn keep_directory<F: Flash>(
     alloc: Global,
-    session: &mut Session<F>,
+    volume: &mut MountedVolume<F>,
     text: &str,
 ) -> Result<(), VolumeFault> {
     let path = Path::parse(alloc, text)?;
-    match session.tree().resolve(&path) {
-        Some(inode) if session.tree().is_directory(inode) => Ok(()),
-        _ => session.ask(Wish::MakeDir(path)),
+    match volume.tree().resolve(&path) {
+        Some(inode) if volume.tree().is_directory(inode) => Ok(()),
+        _ => volume.ask(Wish::MakeDir(path)),
     }
 }
 

@@ -9,7 +9,7 @@ ghost use Rattle.jffs_tree.specs.Look.{bytes_in};
 ghost use Rattle.jffs_log.specs.LogIndex.{weight_in, log_in};
 ghost use Rattle.jffs_log.specs.Room.{heavy};
 ghost use Rattle.jffs_manage.specs.Weights.{live_bytes_in};
-ghost use Rattle.jffs_manage.specs.Looks.{entry_text, sight_in, directory_lines, list_text};
+ghost use Rattle.jffs_manage.specs.Looks.{entry_text, stat_in, directory_lines, list_text};
 ghost use Rattle.jffs_manage.specs.Looks.{usage_text, usage_in};
 
 use crate::fault::VolumeFault;
@@ -27,7 +27,7 @@ const CHUNK_LEN: usize = 256;
 
 /// What is to be seen of a directory or file.
 #[derive(Clone, Copy)]
-pub(crate) struct Sight {
+pub(crate) struct Stat {
     pub directory: bool,
     /// How many bytes it has; a directory has none.
     pub size: u32,
@@ -58,7 +58,7 @@ pub(crate) fn list<F: Flash, W: Write>(
         return list_directory(core, inode, long, out);
     }
     if let Some((_, name)) = tree.parent_name(inode) {
-        write_entry(sight_of(core, inode, long), long, &name, out)?;
+        write_entry(stat_of(core, inode, long), long, &name, out)?;
     }
     Ok(())
 }
@@ -77,18 +77,18 @@ fn list_directory<F: Flash, W: Write>(
 {
     let names = core.tree().names(directory)?;
     for (name, inode) in names.iter() {
-        write_entry(sight_of(core, *inode, long), long, name, out)?;
+        write_entry(stat_of(core, *inode, long), long, name, out)?;
     }
     Ok(())
 }
 
 /// What is to be seen of an inode; what its records take is looked for only where `long` asks for
 /// it.
-pub(crate) fn sight_of<F: Flash>(core: &Core<F>, inode: u32, long: bool) -> Sight
-    ensures { result ≡ sight_in long core.now.tree core.now.index.records.items inode }
+pub(crate) fn stat_of<F: Flash>(core: &Core<F>, inode: u32, long: bool) -> Stat
+    ensures { result ≡ stat_in long core.now.tree core.now.index.records.items inode }
 {
     let tree = core.tree();
-    Sight {
+    Stat {
         directory: tree.is_directory(inode),
         size: tree.size(inode).unwrap_or(0),
         live: if long {
@@ -111,15 +111,15 @@ fn live_bytes(records: &VecDeque<RecordRef>, tree: &Tree, inode: u32) -> u64
         .sum()
 }
 
-fn write_entry<W: Write>(sight: Sight, long: bool, name: &Name, out: &mut W) -> io::Result<()>
+fn write_entry<W: Write>(stat: Stat, long: bool, name: &Name, out: &mut W) -> io::Result<()>
     ensures { OnOk result
-        (Appends (W.contents out.old) (W.contents out.new) (entry_text long sight name.now)) }
+        (Appends (W.contents out.old) (W.contents out.new) (entry_text long stat name.now)) }
 {
-    let Sight {
+    let Stat {
         directory,
         size,
         live,
-    } = sight;
+    } = stat;
     let letter = if directory { 'd' } else { 'f' };
     if long {
         write!(out, "{letter} {size} {live} ")?;
@@ -174,7 +174,7 @@ fn too_long() -> io::Error {
 
 /// How full a volume is.
 #[derive(Clone, Copy)]
-pub(crate) struct Usage {
+pub(crate) struct SpaceUsage {
     pub sectors: u32,
     /// How many bytes a sector has.
     pub sector_size: u32,
@@ -187,7 +187,7 @@ pub(crate) struct Usage {
     pub sure: u64,
 }
 
-pub(crate) fn usage_of<F: Flash>(core: &Core<F>) -> Usage
+pub(crate) fn usage_of<F: Flash>(core: &Core<F>) -> SpaceUsage
     ensures sizes { (result.sectors ≡ core.now.index.sectors)
         × (result.sector_size ≡ core.now.index.sector_size) }
     ensures erased { result.erased ≡ core.now.index.sectors - core.now.index.held }
@@ -196,7 +196,7 @@ pub(crate) fn usage_of<F: Flash>(core: &Core<F>) -> Usage
     ensures sure { result.sure ≡ heavy core.now.index.sectors core.now.index.sector_size }
 {
     let log = core.log();
-    Usage {
+    SpaceUsage {
         sectors: log.sectors(),
         sector_size: log.sector_size(),
         erased: log.erased(),
@@ -215,11 +215,11 @@ pub(crate) fn write_usage<F: Flash, W: Write>(core: &Core<F>, out: &mut W) -> io
     write_lines(usage_of(core), out)
 }
 
-fn write_lines<W: Write>(usage: Usage, out: &mut W) -> io::Result<()>
+fn write_lines<W: Write>(usage: SpaceUsage, out: &mut W) -> io::Result<()>
     ensures { OnOk result
         (Appends (W.contents out.old) (W.contents out.new) (usage_text usage)) }
 {
-    let Usage {
+    let SpaceUsage {
         sectors,
         sector_size,
         erased,

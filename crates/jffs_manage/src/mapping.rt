@@ -47,7 +47,7 @@ pub(crate) struct Row {
 
 /// How many bytes of a volume hold what.
 #[derive(Clone, Copy)]
-pub(crate) struct Totals {
+pub(crate) struct MapTotals {
     pub live: u64,
     pub dead: u64,
     pub unused: u64,
@@ -60,12 +60,12 @@ pub(crate) struct Map {
     /// How many bytes a cell stands for.
     pub cell_len: u32,
     pub rows: Vec<Row>,
-    pub totals: Totals,
+    pub totals: MapTotals,
 }
 
 /// The sector that was begun last.
 #[derive(Clone, Copy)]
-struct Tail {
+struct MapTail {
     sector: u32,
     /// How many bytes after its records are erased; none where a write was cut off there.
     free: u32,
@@ -94,7 +94,7 @@ pub(crate) fn map_of<F: Flash>(alloc: Global, core: &Core<F>) -> Result<Map, All
 }
 
 /// The tail of a log; `None` where it has no sector.
-fn tail_of<F: Flash>(log: &Log<F>) -> Option<Tail> {
+fn tail_of<F: Flash>(log: &Log<F>) -> Option<MapTail> {
     if log.held() == 0 {
         return None;
     }
@@ -104,7 +104,7 @@ fn tail_of<F: Flash>(log: &Log<F>) -> Option<Tail> {
     } else {
         at.saturating_sub(log.sectors())
     };
-    Some(Tail {
+    Some(MapTail {
         sector,
         free: log.free(),
     })
@@ -121,7 +121,7 @@ fn is_held<F: Flash>(log: &Log<F>, sector: u32) -> bool {
 }
 
 /// What stands in a sector after its records.
-fn rest_of<F: Flash>(log: &Log<F>, sector: u32, tail: Option<Tail>) -> Held {
+fn rest_of<F: Flash>(log: &Log<F>, sector: u32, tail: Option<MapTail>) -> Held {
     match tail {
         Some(tail) if tail.sector == sector && tail.free > 0 => Held::Erased,
         _ if is_held(log, sector) => Held::Unused,
@@ -130,7 +130,7 @@ fn rest_of<F: Flash>(log: &Log<F>, sector: u32, tail: Option<Tail>) -> Held {
 }
 
 /// What a sector is in the log.
-fn part_of<F: Flash>(log: &Log<F>, sector: u32, tail: Option<Tail>) -> Part {
+fn part_of<F: Flash>(log: &Log<F>, sector: u32, tail: Option<MapTail>) -> Part {
     match tail {
         Some(tail) if tail.sector == sector => Part::Tail,
         Some(_) if log.oldest() == sector => Part::Next,
@@ -161,7 +161,7 @@ fn paint<F: Flash>(core: &Core<F>, sector: u32, cell_len: u32, cells: &mut [Held
 }
 
 /// How many bytes hold what.
-fn totals_of<F: Flash>(core: &Core<F>, tail: Option<Tail>) -> Totals
+fn totals_of<F: Flash>(core: &Core<F>, tail: Option<MapTail>) -> MapTotals
     ensures live { core.now.failed ≡ false
         → result.live ≡ weight_in core.now.tree (log_in core.now.image core.now.index) }
     ensures dead { length core.now.index.records.items < 2 ^ 32
@@ -179,7 +179,7 @@ fn totals_of<F: Flash>(core: &Core<F>, tail: Option<Tail>) -> Totals
         .saturating_mul(size)
         .saturating_add(u64::from(free));
     let whole = u64::from(log.sectors()).saturating_mul(size);
-    Totals {
+    MapTotals {
         live,
         dead,
         unused: whole

@@ -1,7 +1,7 @@
 //! The program.
 
 use crate::answering::PATH_TEXT_MAX;
-use crate::arguments::{Call, CallFault, Change, Look, Task, Work, call_of};
+use crate::arguments::{Call, CallFault, Change, Look, Task, VolumeWork, call_of};
 use crate::changing::{put, read_all, remove_all};
 use crate::drawing::{draw, draw_svg};
 use crate::fault::{BROKEN, DONE, MISUSED, VolumeFault};
@@ -9,10 +9,10 @@ use crate::help::{HELP, VERSION};
 use crate::hosting::{load, save};
 use crate::looking::{check, file_at, list, show, write_usage};
 use crate::mapping::{Map, map_of};
+use crate::mounted_volume::MountedVolume;
 use crate::mounting::{lock, mount, mount_copy};
 use crate::salvaging::save_damaged;
-use crate::serving::Served;
-use crate::session::Session;
+use crate::serving::ServedVolume;
 use jffs_core::Core;
 use jffs_file::create_image;
 use jffs_flash::{Flash, MAX_SECTORS, MIN_SECTORS, is_geometry};
@@ -93,7 +93,7 @@ fn write_text<W: Write>(text: &str, out: &mut W) -> Result<(), VolumeFault> {
 /// Does what a call asks for. `reached` is left with the path at which a walk stopped.
 fn carry_out<Rt: Files<File = File> + AllocGlobal + Clone + Drop, R: Read, W: Write, E: Write>(
     rt: &Rt,
-    work: Work<'_>,
+    work: VolumeWork<'_>,
     input: &mut R,
     out: &mut W,
     errors: &mut E,
@@ -141,7 +141,7 @@ fn check_sizes(sectors: u32, sector_size: u32) -> Result<(), VolumeFault> {
 /// Mounts a copy of the volume and writes of it what is asked for. Nothing is changed.
 fn look<Rt: Files + AllocGlobal, W: Write>(
     rt: &Rt,
-    work: &Work<'_>,
+    work: &VolumeWork<'_>,
     asked: Look<'_>,
     out: &mut W,
     coloured: bool,
@@ -191,15 +191,15 @@ fn draw_as<W: Write>(map: &Map, svg: bool, coloured: bool, out: &mut W) -> io::R
 /// Mounts the volume, changes it, unmounts it and brings the file to its medium.
 fn change<Rt: Files<File = File> + AllocGlobal + Clone + Drop, R: Read>(
     rt: &Rt,
-    work: &Work<'_>,
+    work: &VolumeWork<'_>,
     asked: Change<'_>,
     input: &mut R,
     reached: &mut String,
 ) -> Result<(), VolumeFault> {
     let _locked = lock(rt, work.file)?;
-    let mut session = Session::new(mount(rt, work.file, work.sector_size)?);
-    let changed = change_in(rt, &mut session, asked, input, reached);
-    let (flash, closed) = session.close();
+    let mut volume = MountedVolume::new(mount(rt, work.file, work.sector_size)?);
+    let changed = change_in(rt, &mut volume, asked, input, reached);
+    let (flash, closed) = volume.close();
     changed?;
     closed?;
     flash.sync()?;
@@ -210,18 +210,18 @@ fn change<Rt: Files<File = File> + AllocGlobal + Clone + Drop, R: Read>(
 /// it is unmounted once the input or a stream ends. Then the file is brought to its medium.
 fn serve_volume<Rt: Files<File = File> + AllocGlobal, R: Read, W: Write>(
     rt: &Rt,
-    work: &Work<'_>,
+    work: &VolumeWork<'_>,
     input: &mut R,
     out: &mut W,
 ) -> Result<(), VolumeFault> {
     let _locked = lock(rt, work.file)?;
-    let session = Session::new(mount(rt, work.file, work.sector_size)?);
-    let data_max = session.write_max();
-    let mut served = Served::new(rt.alloc(), session);
+    let volume = MountedVolume::new(mount(rt, work.file, work.sector_size)?);
+    let data_max = volume.write_max();
+    let mut served = ServedVolume::new(rt.alloc(), volume);
     let mut room = Room::new(rt.alloc(), PATH_TEXT_MAX, data_max)?;
     let streams = serve(&mut served, &mut room, input, out);
-    let (session, failed) = served.into_parts();
-    let (flash, closed) = session.close();
+    let (volume, failed) = served.into_parts();
+    let (flash, closed) = volume.close();
     failed?;
     streams?;
     closed?;
@@ -232,21 +232,21 @@ fn serve_volume<Rt: Files<File = File> + AllocGlobal, R: Read, W: Write>(
 /// Asks for what a command says.
 fn change_in<Rt: Files + AllocGlobal + Clone + Drop, F: Flash, R: Read>(
     rt: &Rt,
-    session: &mut Session<F>,
+    volume: &mut MountedVolume<F>,
     asked: Change<'_>,
     input: &mut R,
     reached: &mut String,
 ) -> Result<(), VolumeFault> {
     let alloc = rt.alloc();
     match asked {
-        Change::Put(path) => put(alloc, session, path, &read_all(alloc, input)?),
-        Change::MakeDir(path) => session.ask(Wish::MakeDir(Path::parse(alloc, path)?)),
-        Change::Move { from, to } => session.ask(Wish::Rename {
+        Change::Put(path) => put(alloc, volume, path, &read_all(alloc, input)?),
+        Change::MakeDir(path) => volume.ask(Wish::MakeDir(Path::parse(alloc, path)?)),
+        Change::Move { from, to } => volume.ask(Wish::Rename {
             from: Path::parse(alloc, from)?,
             to: Path::parse(alloc, to)?,
         }),
-        Change::Remove(path) => session.ask(Wish::Remove(Path::parse(alloc, path)?)),
-        Change::RemoveAll(path) => remove_all(alloc, session, path, reached),
-        Change::Load(directory) => load(rt, session, directory, reached),
+        Change::Remove(path) => volume.ask(Wish::Remove(Path::parse(alloc, path)?)),
+        Change::RemoveAll(path) => remove_all(alloc, volume, path, reached),
+        Change::Load(directory) => load(rt, volume, directory, reached),
     }
 }

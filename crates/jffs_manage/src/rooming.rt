@@ -1,7 +1,7 @@
 //! Whether a put has room, before it begins.
 
 use crate::fault::VolumeFault;
-use crate::session::Session;
+use crate::mounted_volume::MountedVolume;
 use jffs_core::{Cleaned, Core};
 use jffs_flash::Flash;
 use jffs_node::HEADER_LEN;
@@ -88,17 +88,17 @@ impl Places {
 /// `NoSpace` where they have none even then: no file is changed, and nothing at all where they take
 /// more than the sectors that may hold records. `Refused` where cleaning is, for another cause.
 pub(crate) fn make_room<F: Flash>(
-    session: &mut Session<F>,
+    volume: &mut MountedVolume<F>,
     needed: Needed,
 ) -> Result<(), VolumeFault> {
-    if most(session.core()) < needed.weight() {
+    if most(volume.core()) < needed.weight() {
         return Err(VolumeFault::NoSpace);
     }
-    for _ in 0..session.core().log().held().saturating_add(1) {
-        if has_room(session, needed) {
+    for _ in 0..volume.core().log().held().saturating_add(1) {
+        if has_room(volume, needed) {
             return Ok(());
         }
-        match session.clean_oldest() {
+        match volume.clean_oldest() {
             Ok(Cleaned::Erased { .. }) => {}
             Ok(Cleaned::OneSector) | Err(Cause::NoSpace) => break,
             Err(cause) => return Err(VolumeFault::Refused(cause)),
@@ -117,8 +117,8 @@ fn most<F: Flash>(core: &Core<F>) -> u64 {
 
 /// Whether all records of a put surely have room now: the live records stay below the weight up to
 /// which each request has, or none of them needs a cleaning.
-fn has_room<F: Flash>(session: &Session<F>, needed: Needed) -> bool {
-    let core = session.core();
+fn has_room<F: Flash>(volume: &MountedVolume<F>, needed: Needed) -> bool {
+    let core = volume.core();
     let weight = core
         .log()
         .live_weight(core.tree())

@@ -1,6 +1,6 @@
 //! What is saved of a volume that a mount refuses.
 
-use crate::arguments::Work;
+use crate::arguments::VolumeWork;
 use crate::fault::VolumeFault;
 use crate::hosting::{has_dots, save, save_all};
 use crate::mounting::{find_volume, mount_bytes, only_size, read_image, sectors_of};
@@ -26,7 +26,7 @@ const LOST: &str = "/lost+found-of-the-volume";
 /// [`save`], but for `Dots`.
 pub(crate) fn save_damaged<Rt: Files + AllocGlobal, E: Write>(
     rt: &Rt,
-    work: &Work<'_>,
+    work: &VolumeWork<'_>,
     directory: &str,
     reached: &mut String,
     errors: &mut E,

@@ -7,7 +7,7 @@ ghost use Rattle.jffs_manage.specs.Manner.{IsManner, IsSynced, SaysRefused};
 
 use crate::answering::{answer_query, write_refusal};
 use crate::fault::VolumeFault;
-use crate::session::Session;
+use crate::mounted_volume::MountedVolume;
 use crate::wanting::{Query, Wanted, wants};
 use jffs_file::{FileFlash, FileStore, StoreFault};
 use jffs_flash::Flash;
@@ -31,39 +31,40 @@ impl<X: Write + Seek + OpenFile + Drop> SyncFlash for FileFlash<FileStore<X>> {
 
 /// A mounted volume that is served.
 #[derive(Drop)]
-pub(crate) struct Served<F: Flash> {
+pub(crate) struct ServedVolume<F: Flash> {
     alloc: Global,
-    session: Session<F>,
+    volume: MountedVolume<F>,
     /// What ended it, if it failed.
     fault: Option<VolumeFault>,
 }
 
-impl<F: Flash> Served<F> {
-    pub fn new(alloc: Global, session: Session<F>) -> Served<F> {
-        Served {
+impl<F: Flash> ServedVolume<F> {
+    /// A mounted volume, of which nothing was asked yet.
+    pub fn new(alloc: Global, volume: MountedVolume<F>) -> ServedVolume<F> {
+        ServedVolume {
             alloc,
-            session,
+            volume,
             fault: None,
         }
     }
 
-    /// The session, and what ended it, if it failed.
-    pub fn into_parts(self) -> (Session<F>, Result<(), VolumeFault>) {
-        let Served {
+    /// The volume, and what ended it, if it failed.
+    pub fn into_parts(self) -> (MountedVolume<F>, Result<(), VolumeFault>) {
+        let ServedVolume {
             alloc: _,
-            session,
+            volume,
             fault,
         } = self;
         match fault {
-            Some(fault) => (session, Err(fault)),
-            None => (session, Ok(())),
+            Some(fault) => (volume, Err(fault)),
+            None => (volume, Ok(())),
         }
     }
 }
 
-impl<F: Flash + SyncFlash> Server for Served<F> {
+impl<F: Flash + SyncFlash> Server for ServedVolume<F> {
     ghost manner = { λ old ask body new said written.
-        IsManner (wanted_of ask body) old.session.core new.session.core said written };
+        IsManner (wanted_of ask body) old.volume.core new.volume.core said written };
 
     fn answer(&mut self, ask: Ask, body: &[u8], out: &mut Vec<u8>) -> Said {
         match wants(self.alloc, ask, body) {
@@ -74,11 +75,11 @@ impl<F: Flash + SyncFlash> Server for Served<F> {
     }
 }
 
-impl<F: Flash + SyncFlash> Served<F> {
+impl<F: Flash + SyncFlash> ServedVolume<F> {
     /// Answers what is wanted.
     fn grant(&mut self, wanted: Wanted, out: &mut Vec<u8>) -> Said
         requires empty { out.old.items ≡ [] }
-        ensures { IsManner wanted self.old.session.core self.new.session.core result
+        ensures { IsManner wanted self.old.volume.core self.new.volume.core result
             out.new.items }
     {
         match wanted {
@@ -92,10 +93,10 @@ impl<F: Flash + SyncFlash> Served<F> {
     /// Answers a look.
     fn look(&self, query: &Query, out: &mut Vec<u8>) -> Said
         requires empty { out.old.items ≡ [] }
-        ensures { IsManner (Wanted.Query query.now) self.now.session.core self.now.session.core
+        ensures { IsManner (Wanted.Query query.now) self.now.volume.core self.now.volume.core
             result out.new.items }
     {
-        match answer_query(self.alloc, self.session.core(), query, out) {
+        match answer_query(self.alloc, self.volume.core(), query, out) {
             Ok(()) => Said::Answered,
             Err(_) => Said::Memory,
         }
@@ -104,13 +105,13 @@ impl<F: Flash + SyncFlash> Served<F> {
     /// Changes the volume, and says that it is done once the file has it.
     fn change(&mut self, wish: Wish, out: &mut Vec<u8>) -> Said
         requires empty { out.old.items ≡ [] }
-        ensures { IsManner (Wanted.Change wish) self.old.session.core self.new.session.core result
+        ensures { IsManner (Wanted.Change wish) self.old.volume.core self.new.volume.core result
             out.new.items }
     {
-        let Ok(outcome) = self.session.carry_out(wish) else {
+        let Ok(outcome) = self.volume.carry_out(wish) else {
             return Said::Memory;
         };
-        if self.session.core().failed() {
+        if self.volume.core().failed() {
             return self.fail(Failure::Device, VolumeFault::Refused(Cause::Device));
         }
         match outcome {
@@ -122,10 +123,10 @@ impl<F: Flash + SyncFlash> Served<F> {
 
     /// Brings the file to its medium, and then says this.
     fn sync(&mut self, said: Said) -> Said
-        ensures core { self.new.session ≡ self.old.session }
+        ensures core { self.new.volume ≡ self.old.volume }
         ensures said { IsSynced said result }
     {
-        match self.session.core().log().flash().sync_flash() {
+        match self.volume.core().log().flash().sync_flash() {
             Ok(()) => said,
             Err(_) => self.fail(Failure::Medium, VolumeFault::Medium),
         }
@@ -136,15 +137,15 @@ impl<F: Flash + SyncFlash> Served<F> {
         ensures { (old new : CoreState) (written : List ℕ) → IsManner Wanted.Unmount old new result
             written }
     {
-        match self.session.finish() {
+        match self.volume.finish() {
             Ok(()) => self.sync(Said::Last),
             Err(fault) => self.fail(why_left(fault), fault),
         }
     }
 
-    /// Keeps what ends the session, and says so.
+    /// Keeps what ends the serving, and says so.
     fn fail(&mut self, why: Failure, fault: VolumeFault) -> Said
-        ensures core { self.new.session ≡ self.old.session }
+        ensures core { self.new.volume ≡ self.old.volume }
         ensures said { result ≡ Said.Failed why }
     {
         self.fault = Some(fault);

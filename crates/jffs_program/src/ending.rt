@@ -52,12 +52,12 @@ pub(crate) enum Fault<'a> {
     },
     /// The line `fault: WHY`, status 1.
     #[error("{}", .0.text())]
-    Broken(Why),
+    Broken(ProgramWhy),
 }
 
 /// The name in a line `fault: WHY`.
 #[derive(Clone, Copy, Debug, PartialEq, Eq, Error)]
-pub(crate) enum Why {
+pub(crate) enum ProgramWhy {
     #[error("Read")]
     Read,
     #[error("Write")]
@@ -75,29 +75,29 @@ pub(crate) enum Why {
     Run(RunWhy),
 }
 
-impl Why {
+impl ProgramWhy {
     /// What people are told.
     fn text(self) -> &'static str {
         match self {
-            Why::Read => "standard input can't be read",
-            Why::Write => "standard output can't be written",
-            Why::Memory | Why::Run(RunWhy::Memory) => "out of memory",
-            Why::Geometry => "a volume may not have so many sectors of this size",
-            Why::Scan => "what the run left on the flash is no volume, or can't be read",
-            Why::Mount(_) | Why::Run(RunWhy::Mount) => "the volume can't be mounted",
-            Why::Run(RunWhy::Line) => "the line of requests can't be made",
-            Why::Run(RunWhy::Index) => "the index that readers look into can't be made",
-            Why::Run(RunWhy::Spawn) => "a thread can't be started",
-            Why::Run(RunWhy::Settle) => "the ends of the line can't be taken back",
+            ProgramWhy::Read => "standard input can't be read",
+            ProgramWhy::Write => "standard output can't be written",
+            ProgramWhy::Memory | ProgramWhy::Run(RunWhy::Memory) => "out of memory",
+            ProgramWhy::Geometry => "a volume may not have so many sectors of this size",
+            ProgramWhy::Scan => "what the run left on the flash is no volume, or can't be read",
+            ProgramWhy::Mount(_) | ProgramWhy::Run(RunWhy::Mount) => "the volume can't be mounted",
+            ProgramWhy::Run(RunWhy::Line) => "the line of requests can't be made",
+            ProgramWhy::Run(RunWhy::Index) => "the index that readers look into can't be made",
+            ProgramWhy::Run(RunWhy::Spawn) => "a thread can't be started",
+            ProgramWhy::Run(RunWhy::Settle) => "the ends of the line can't be taken back",
         }
     }
 }
 
 impl<'a> Fault<'a> {
     /// Why a run on the volume in a file was given up.
-    pub(crate) fn on_file(path: &'a str, why: Why) -> Fault<'a> {
+    pub(crate) fn on_file(path: &'a str, why: ProgramWhy) -> Fault<'a> {
         match why {
-            Why::Mount(why) => Fault::NoVolume {
+            ProgramWhy::Mount(why) => Fault::NoVolume {
                 path,
                 name: refusal_name(why),
                 why,
@@ -125,7 +125,7 @@ impl<'a> Fault<'a> {
     fn print<W: Write>(self, out: &mut W) -> io::Result<()> {
         match self {
             Fault::Script(mistake) => writeln!(out, "{}", mistake.fault)?,
-            Fault::NoVolume { why, .. } => writeln!(out, "fault: {}", Why::Mount(why))?,
+            Fault::NoVolume { why, .. } => writeln!(out, "fault: {}", ProgramWhy::Mount(why))?,
             Fault::Broken(why) => writeln!(out, "fault: {why}")?,
             Fault::NoScript { .. } | Fault::NoFlash { .. } | Fault::OtherLength { .. } => {}
         }
@@ -164,36 +164,36 @@ fn refusal_name(why: ScanWhy) -> &'static str {
     }
 }
 
-impl<'a> From<Why> for Fault<'a> {
-    fn from(why: Why) -> Fault<'a> {
+impl<'a> From<ProgramWhy> for Fault<'a> {
+    fn from(why: ProgramWhy) -> Fault<'a> {
         Fault::Broken(why)
     }
 }
 
 /// An error of standard output.
-impl From<io::Error> for Why {
-    fn from(error: io::Error) -> Why {
+impl From<io::Error> for ProgramWhy {
+    fn from(error: io::Error) -> ProgramWhy {
         match error.kind() {
-            ErrorKind::OutOfMemory => Why::Memory,
-            _ => Why::Write,
+            ErrorKind::OutOfMemory => ProgramWhy::Memory,
+            _ => ProgramWhy::Write,
         }
     }
 }
 
-impl From<DumpFault> for Why {
-    fn from(fault: DumpFault) -> Why {
+impl From<DumpFault> for ProgramWhy {
+    fn from(fault: DumpFault) -> ProgramWhy {
         match fault {
-            DumpFault::Write => Why::Write,
-            DumpFault::Memory => Why::Memory,
+            DumpFault::Write => ProgramWhy::Write,
+            DumpFault::Memory => ProgramWhy::Memory,
         }
     }
 }
 
-impl From<FlashNew> for Why {
-    fn from(fault: FlashNew) -> Why {
+impl From<FlashNew> for ProgramWhy {
+    fn from(fault: FlashNew) -> ProgramWhy {
         match fault {
-            FlashNew::Geometry => Why::Geometry,
-            FlashNew::Memory => Why::Memory,
+            FlashNew::Geometry => ProgramWhy::Geometry,
+            FlashNew::Memory => ProgramWhy::Memory,
         }
     }
 }
@@ -201,8 +201,8 @@ impl From<FlashNew> for Why {
 impl<'a> From<InputFault> for Fault<'a> {
     fn from(fault: InputFault) -> Fault<'a> {
         Fault::Broken(match fault {
-            InputFault::Read => Why::Read,
-            InputFault::Memory => Why::Memory,
+            InputFault::Read => ProgramWhy::Read,
+            InputFault::Memory => ProgramWhy::Memory,
         })
     }
 }

@@ -1,6 +1,6 @@
 //! The program: a script in, lines out.
 
-use crate::ending::{Fault, Why, status_of};
+use crate::ending::{Fault, ProgramWhy, status_of};
 use crate::printing::{print_answers, print_ending, print_readers};
 use crate::reading::{read_file, read_whole};
 use jffs_core::Answer;
@@ -160,7 +160,7 @@ fn run_in_memory<Rt: AllocGlobal + Threads + Wait + Sync, W: Write>(
     rt: &Rt,
     script: &Script<'_>,
     out: &mut W,
-) -> Result<(), Why> {
+) -> Result<(), ProgramWhy> {
     let flash = MemoryFlash::new(rt.alloc(), script.sectors, script.sector_size)?;
     run_on(rt, script, flash, out)
 }
@@ -194,7 +194,7 @@ fn flash_in<'a, Rt: AllocGlobal + Files>(
 
 /// What a run came to, and what a scan finds after it.
 #[derive(Drop)]
-struct Ended {
+struct RunReport {
     answers: Vec<Answer>,
     readers: Vec<ReaderEnd>,
     tree: Tree,
@@ -208,9 +208,9 @@ fn run_on<Rt: AllocGlobal + Threads + Wait + Sync, F: Flash + Send + Drop, W: Wr
     script: &Script<'_>,
     flash: F,
     out: &mut W,
-) -> Result<(), Why> {
-    let ended = run_and_scan(rt, script, flash)?;
-    print_ended(rt.alloc(), &ended, out)
+) -> Result<(), ProgramWhy> {
+    let report = run_and_scan(rt, script, flash)?;
+    print_report(rt.alloc(), &report, out)
 }
 
 /// Runs a script on a device, and scans the device then.
@@ -218,7 +218,7 @@ fn run_and_scan<Rt: AllocGlobal + Threads + Wait + Sync, F: Flash + Send + Drop>
     rt: &Rt,
     script: &Script<'_>,
     flash: F,
-) -> Result<Ended, Why> {
+) -> Result<RunReport, ProgramWhy> {
     let Run {
         accepted: _,
         answers,
@@ -234,7 +234,7 @@ fn run_and_scan<Rt: AllocGlobal + Threads + Wait + Sync, F: Flash + Send + Drop>
         clean,
         limits: _,
     } = scan(rt.alloc(), flash).map_err(scan_fault)?;
-    Ok(Ended {
+    Ok(RunReport {
         answers,
         readers,
         tree,
@@ -243,13 +243,17 @@ fn run_and_scan<Rt: AllocGlobal + Threads + Wait + Sync, F: Flash + Send + Drop>
 }
 
 /// Writes what became of a run, and the tree that the scan found.
-fn print_ended<W: Write>(alloc: Global, ended: &Ended, out: &mut W) -> Result<(), Why> {
-    print_answers(&ended.answers, out)?;
-    print_readers(&ended.readers, out)?;
-    print_ending(&ended.answers, out)?;
-    let clean = if ended.clean { "clean" } else { "unclean" };
+fn print_report<W: Write>(
+    alloc: Global,
+    report: &RunReport,
+    out: &mut W,
+) -> Result<(), ProgramWhy> {
+    print_answers(&report.answers, out)?;
+    print_readers(&report.readers, out)?;
+    print_ending(&report.answers, out)?;
+    let clean = if report.clean { "clean" } else { "unclean" };
     writeln!(out, "scan {clean}")?;
-    dump(alloc, &ended.tree, out)?;
+    dump(alloc, &report.tree, out)?;
     out.flush()?;
     Ok(())
 }
@@ -261,10 +265,12 @@ fn run_apart<Rt: AllocGlobal + Threads + Wait + Sync, F: Flash + Send + Drop>(
     rt: &Rt,
     script: &Script<'_>,
     flash: F,
-) -> Result<Run<F>, Why> {
-    thread::scope(thread::scope_env(), rt, |scope| -> Result<Run<F>, Why> {
-        run_in(rt, scope, script, flash)
-    })
+) -> Result<Run<F>, ProgramWhy> {
+    thread::scope(
+        thread::scope_env(),
+        rt,
+        |scope| -> Result<Run<F>, ProgramWhy> { run_in(rt, scope, script, flash) },
+    )
 }
 
 fn run_in<'s, E, Rt: AllocGlobal + Threads + Wait + Sync, F: Flash + Send + Drop + 's>(
@@ -272,8 +278,8 @@ fn run_in<'s, E, Rt: AllocGlobal + Threads + Wait + Sync, F: Flash + Send + Drop
     scope: &'s Scope<'s, E>,
     script: &'s Script<'s>,
     flash: F,
-) -> Result<Run<F>, Why> {
-    let started = scope.spawn(move || -> Result<Run<F>, Why> {
+) -> Result<Run<F>, ProgramWhy> {
+    let started = scope.spawn(move || -> Result<Run<F>, ProgramWhy> {
         match run_threads(rt, rt.alloc(), script, flash, &NoGate) {
             Ok(run) => Ok(run),
             Err(fault) => Err(run_fault(rt.alloc(), fault)),
@@ -281,14 +287,14 @@ fn run_in<'s, E, Rt: AllocGlobal + Threads + Wait + Sync, F: Flash + Send + Drop
     });
     match started {
         Ok(handle) => handle.join(rt),
-        Err(_) => Err(Why::Run(RunWhy::Spawn)),
+        Err(_) => Err(ProgramWhy::Run(RunWhy::Spawn)),
     }
 }
 
 /// The same answers in a new allocation. The old one lies among what the log thread freed, and
 /// would keep all before it from going back to the system while the scan needs as much again.
-fn moved_apart(answers: Vec<Answer>) -> Result<Vec<Answer>, Why> {
-    answers.clone().map_err(|_| Why::Memory)
+fn moved_apart(answers: Vec<Answer>) -> Result<Vec<Answer>, ProgramWhy> {
+    answers.clone().map_err(|_| ProgramWhy::Memory)
 }
 
 /// The script that a text is.
@@ -300,19 +306,19 @@ fn script_of<'a, 't>(alloc: Global, text: &'t [u8]) -> Result<Script<'t>, Fault<
 }
 
 /// Why a run was given up. A volume that can't be mounted is scanned once more, for the reason.
-fn run_fault<F: Flash + Drop>(alloc: Global, fault: RunFault<F>) -> Why {
+fn run_fault<F: Flash + Drop>(alloc: Global, fault: RunFault<F>) -> ProgramWhy {
     match fault {
         RunFault {
             why: RunWhy::Mount,
             flash: Some(flash),
         } => match scan(alloc, flash) {
-            Err(ScanFault { why, flash: _ }) => Why::Mount(why),
-            Ok(_) => Why::Run(RunWhy::Mount),
+            Err(ScanFault { why, flash: _ }) => ProgramWhy::Mount(why),
+            Ok(_) => ProgramWhy::Run(RunWhy::Mount),
         },
-        RunFault { why, flash: _ } => Why::Run(why),
+        RunFault { why, flash: _ } => ProgramWhy::Run(why),
     }
 }
 
-fn scan_fault<F: Drop>(_: ScanFault<F>) -> Why {
-    Why::Scan
+fn scan_fault<F: Drop>(_: ScanFault<F>) -> ProgramWhy {
+    ProgramWhy::Scan
 }

@@ -14,7 +14,7 @@ loop-name-preserved g c =
     let a = g.W.Write.contents c.args.out.now in
     let b = g.W.Write.contents c.loop-name.out in
     let name = c.loop-name-item.result in
-    let told = added_as b _ _ _ (ap (λ s. entry_text c.args.long s name.0) c.sight_of.ensures) c.in_ok-write_entry.ensures in
+    let told = added_as b _ _ _ (ap (λ s. entry_text c.args.long s name.0) c.stat_of.ensures) c.in_ok-write_entry.ensures in
     one_more line c.deref-name-items.result.now c.loop-name.name-index name (omega (arith, c.loop-name-test.true)) a b _ c.loop-name.invariant (added_as b _ _ _ (ap line c.loop-name-item.is) told)
 
 pub returns-clause-written : goal.returns-clause-written

@@ -14,21 +14,22 @@ use jffs_tree::{Cause, Limits, Outcome, Tree, Wish};
 /// The sender's number in the records.
 const WRITER: u16 = 1;
 
-/// A mounted volume, the number of the last request, and the numbers that came next when the
-/// session began.
+/// A mounted volume, the number of the last request, and the numbers that came next when it was
+/// mounted.
 #[derive(Drop)]
-pub(crate) struct Session<F: Flash> {
+pub(crate) struct MountedVolume<F: Flash> {
     core: Core<F>,
     seq: u32,
     begun: Limits,
 }
 
-impl<F: Flash> Session<F> {
-    pub fn new(core: Core<F>) -> Session<F>
+impl<F: Flash> MountedVolume<F> {
+    /// A volume that was just mounted.
+    pub fn new(core: Core<F>) -> MountedVolume<F>
         ensures { result.core ≡ core }
     {
         let begun = core.limits();
-        Session {
+        MountedVolume {
             core,
             seq: 0,
             begun,
@@ -132,10 +133,10 @@ impl<F: Flash> Session<F> {
         }
     }
 
-    /// Unmounts the volume, as [`finish`](Session::finish) does, and gives the device back.
+    /// Unmounts the volume, as [`finish`](MountedVolume::finish) does, and gives the device back.
     pub fn close(mut self) -> (F, Result<(), VolumeFault>) {
         let closed = self.finish();
-        let Session {
+        let MountedVolume {
             core,
             seq: _,
             begun: _,

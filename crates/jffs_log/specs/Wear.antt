@@ -54,8 +54,8 @@ erases_over count first (many ∷ sessions) k =
 
 -- So of any two sectors the one was erased at most once more often than the other, over any number
 -- of sessions.
-abbrev pub SessionsWearEvenly : Type 0
-SessionsWearEvenly =
+abbrev pub ErasesAreEven : Type 0
+ErasesAreEven =
     (count first : ℕ) (sessions : List ℕ) (j k : ℕ) → first < count → j < count → k < count
     → erases_over count first sessions j ≤ erases_over count first sessions k + 1
 

@@ -16,7 +16,7 @@ ghost use Rattle.jffs_log.specs.Work.{CopiesAreFew};
 ghost use Rattle.jffs_log.specs.History.{MountsAreHistories, HistoriesAreScanned};
 ghost use Rattle.jffs_log.specs.History.{AppendsKeepHistory, CutsKeepHistory, ErasingKeepsHistory};
 ghost use Rattle.jffs_log.specs.Wear.{WearIsEven, TurnsGoOn, ImagesFixFirst};
-ghost use Rattle.jffs_log.specs.Wear.{SessionsWearEvenly};
+ghost use Rattle.jffs_log.specs.Wear.{ErasesAreEven};
 
 /// What is erased without live nodes weighed nothing.
 pub fn weight_is_kept()
@@ -96,5 +96,5 @@ pub fn wear_is_even()
     ensures even { WearIsEven }
     ensures on { TurnsGoOn }
     ensures fixed { ImagesFixFirst }
-    ensures sessions { SessionsWearEvenly }
+    ensures sessions { ErasesAreEven }
 {}

@@ -3,7 +3,7 @@ use Rattle.std.proofs.Common.{◌≡◌, ℕ, zero, suc, ◌+◌, cond, eqb, Lis
 use Rattle.jffs_log.specs.Image.{Sector}
 use Rattle.jffs_log.specs.Ring.{IsRing}
 use Rattle.jffs_log.specs.Volume.{sectors_in}
-use Rattle.jffs_log.specs.Wear.{sector_after_each, erases_of, erases_over, ImagesFixFirst, SessionsWearEvenly}
+use Rattle.jffs_log.specs.Wear.{sector_after_each, erases_of, erases_over, ImagesFixFirst, ErasesAreEven}
 use Rattle.jffs_log.proofs.ring.Ring.{ring_once}
 use Rattle.jffs_log.proofs.erase.Wear.{after_both, wear_even}
 
@@ -37,7 +37,7 @@ over_is count first (many ∷ sessions) =
     let later = over_is count (sector_after_each count first many) sessions in
     (many + later.0, λ k. ap (λ (n : ℕ). erases_of count first many k + n) (later.1 k) ∙ sym (erases_both count first later.0 many k))
 
-pub sessions_wear_evenly : SessionsWearEvenly
+pub sessions_wear_evenly : ErasesAreEven
 sessions_wear_evenly count first sessions j k inside low high =
     let one = over_is count first sessions in
     let a = one.1 j in

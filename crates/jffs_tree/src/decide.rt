@@ -81,6 +81,7 @@ impl Tree {
     }
 
     /// A node for a new file or directory.
+    #[inline(never)]
     fn decide_new(&self, limits: Limits, kind: Kind, path: &Path) -> Result<NewNode, Cause>
         ensures decided { result ≡ decide_new (state_in self.now) limits kind path.now }
         ensures path { IsPath path.now }
@@ -156,6 +157,7 @@ impl Tree {
         Some((inode, self.present(inode)))
     }
 
+    #[inline(never)]
     fn decide_write(
         &self,
         limits: Limits,
@@ -201,6 +203,7 @@ impl Tree {
         Ok(node)
     }
 
+    #[inline(never)]
     fn decide_truncate(&self, limits: Limits, path: &Path, size: u32) -> Result<NewNode, Cause>
         ensures { result ≡ decide_on self.now limits (Truncate path.now size) }
     {
@@ -224,6 +227,7 @@ impl Tree {
         Ok(node)
     }
 
+    #[inline(never)]
     fn decide_rename(&self, limits: Limits, from: &Path, to: &Path) -> Result<NewNode, Cause>
         ensures decided { result ≡ decide_on self.now limits (Rename from.now to.now) }
         ensures path { IsPath to.now }
@@ -259,6 +263,7 @@ impl Tree {
         Ok(node)
     }
 
+    #[inline(never)]
     fn decide_remove(&self, limits: Limits, path: &Path) -> Result<NewNode, Cause>
         ensures { result ≡ decide_on self.now limits (Remove path.now) }
     {
@@ -280,6 +285,7 @@ impl Tree {
         Ok(node)
     }
 
+    #[inline(never)]
     fn decide_copy(
         &self,
         limits: Limits,
@@ -328,6 +334,8 @@ impl Tree {
         ensures last { result ≡ Err Memory → IsOk (decide_on self.now limits wish.now) }
         ensures wish { IsWish wish.now }
     {
+        // Each of these stays a call, which writes its node where this function hands it out, so
+        // that a request which is refused moves none.
         match wish {
             Wish::MakeDir(path) => self.decide_new(limits, Kind::Directory, path),
             Wish::Create(path) => self.decide_new(limits, Kind::File, path),
@@ -350,6 +358,7 @@ impl Tree {
         }
     }
 
+    #[inline(never)]
     fn decide_unmount(&self, limits: Limits) -> Result<NewNode, Cause>
         ensures { result ≡ decide_on self.now limits Unmount }
     {

@@ -1,5 +1,5 @@
 -- One byte more of the line, kept while there is room.
-use Rattle.std.proofs.Common.{◌≡◌, ◌≢◌, ◌∙◌, ℕ, [], ◌∷◌, ◌++◌, sym, ap, subst, Option, Vec, Global}
+use Rattle.std.proofs.Common.{◌≡◌, ◌≢◌, ◌∙◌, ℕ, [], ◌∷◌, ◌++◌, sym, subst, Option}
 use Rattle.std.specs.Io.KnownBytes.{Consumes}
 use Rattle.jffs_protocol.specs.Hearing.{TakesNext}
 use Rattle.jffs_protocol.proofs.Taking.{part_more}
@@ -14,7 +14,7 @@ loop-preserved g c =
     let other : byte ≢ 10 = c.in-Some.byte-test.1 in
     elim c.if-len-lt-LINE_MAX.branch [
       | then-len-lt-LINE_MAX+in_ok-push-in-Some w ↦
-          let items : c.if-len-lt-LINE_MAX.line.items ≡ c.loop.line.items ++ byte ∷ [] = ap (λ (v : Vec ℕ Global). v.items) w.line-is ∙ w.in_ok-push-in-Some.ensures.items in
+          let items : c.if-len-lt-LINE_MAX.line.items ≡ c.loop.line.items ++ byte ∷ [] = rw w.line-is w.in_ok-push-in-Some.ensures.items in
           part_more _ _ _ c.loop.long _ c.loop.line.items _ byte c.loop.invariant takes other (λ e. (sym w.long-is ∙ e, items))
       | in-Some-2 w ↦ part_more _ _ _ c.loop.long _ c.loop.line.items _ byte c.loop.invariant takes other (λ e. absurd (cc (w.long-is, e)))
     ]

@@ -1,10 +1,9 @@
 -- What stands in memory and in the store once bytes were programmed.
-use Rattle.std.proofs.Common.{ℕ, ◌+◌, List, Some, refl, sym, ap, subst, ◌∙◌, arith}
+use Rattle.std.proofs.Common.{◌+◌, refl, sym, ap, ◌∙◌, arith}
 use Rattle.jffs_flash.specs.declared.fuse.Fail.TheVariants.{Nothing}
-use Rattle.jffs_flash.specs.Device.{Device, Fails}
-use Rattle.jffs_flash.specs.Image.{window, both_bits, IsHalfProgrammed}
+use Rattle.jffs_flash.specs.Device.{Device}
+use Rattle.jffs_flash.specs.Image.{window, both_bits}
 use Rattle.jffs_flash.proofs.Halves.{half_programmed}
-use Rattle.jffs_file.specs.declared.flash.FileFlash.{FileFlash}
 use Rattle.jffs_file.specs.Kept.{seen_device, with_counts}
 use Rattle.jffs_file.proofs.Counting.{among_none, among_more, among_zero}
 use Rattle.jffs_file.proofs.Written.{all_programmed, part_programmed, length-new, kept_written, left_written}
@@ -24,13 +23,9 @@ returns-in-Ok-clause-kept g c = λ kept.
     let at = c.args.at in
     let bytes = c.args.bytes.now in
     let image = c.args.self.now.held.image in
-    let rest = c.write_through.ensures.rest in
     let now = ap (λ (d : Device). d.image) c.in_ok-program.ensures.device in
     let same = kept_written _ at _ _ (both_bits (window at _ image) bytes) image c.program.new.self.image _ _ c.from.ensures refl (length-new at bytes image c.requires) c.requires now (c.in-Ok.ensures.written kept.sound) kept.same in
-    record {
-      sound = ap (λ (f : FileFlash g.row.S.Denot). f.faults) rest ∙ kept.sound;
-      same = same ∙ ap (λ (f : FileFlash g.row.S.Denot). Some f.held.image) (sym rest);
-    }
+    rw c.write_through.ensures.rest (record { sound = kept.sound; same = same })
 
 pub returns-in-Err-clause-left : goal.returns-in-Err-clause-left
 returns-in-Err-clause-left g c = λ kept.
@@ -43,14 +38,11 @@ returns-in-Err-clause-left g c = λ kept.
 
 pub returns-in-Err-clause-device : goal.returns-in-Err-clause-device
 returns-in-Err-clause-device g c =
-    let at = c.args.at in
     let bytes = c.args.bytes.now in
     let old = c.args.self.now in
     let now = c.program.new.self in
-    let P : FileFlash g.row.S.Denot → Type 0 = λ f. Fails (IsHalfProgrammed at bytes old.held.image) (seen_device old.held old.faults old.failed_erases) (seen_device f.held (f.faults + 1) 0) in
-    let Half : List ℕ → Type 0 = λ xs. IsHalfProgrammed at bytes old.held.image xs in
-    subst P (sym c.write_through.ensures.rest) (record {
-      left = subst Half (sym (ap (λ (d : Device). d.image) c.in_ok-program.ensures.device)) (all_programmed at bytes old.held.image c.requires);
+    rw c.write_through.ensures.rest (record {
+      left = rw (ap (λ (d : Device). d.image) c.in_ok-program.ensures.device) (all_programmed c.args.at bytes old.held.image c.requires);
       faults = omega arith;
       rest = ap (with_counts now (old.faults + 1)) (among_zero (old.faults + 1) ∙ sym (among_none old.faults old.failed_erases (c.in-Err.ensures.sound refl)))
           ∙ ap (λ (d : Device). record (seen_device d old.faults old.failed_erases) { image = now.image; faults = old.faults + 1 }) c.in_ok-program.ensures.device;

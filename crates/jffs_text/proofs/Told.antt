@@ -50,13 +50,9 @@ module _ (bytes : List ℕ) (o n : ℕ) (behind chunk : List ℕ) (read : chunk 
     pub hex_begun : 0 < length bytes → IsBegun b c (hex x) → IsBegun a c (shown_bytes bytes)
     hex_begun some h = subst (λ l. IsBegun a c l) (sym (shown_some bytes some)) (part_begun bytes o n (hex x) (ap hex (it ∙ chunk_is)) a b c so_far h)
 
--- The text of one name.
-module _ (s : State) (deeper : List ℕ → ℕ → List ℕ) (above : List ℕ) (a : List ℕ × ℕ) where
-  pub text_of_directory : is_directory_in s a.1 ≡ true → name_text s deeper above a ≡ directory_line (extended_path above a.0) ++ deeper (extended_path above a.0) a.1
-  text_of_directory here = cond-true _ _ _ here
-
-  pub text_of_file : is_directory_in s a.1 ≡ false → name_text s deeper above a ≡ file_line (extended_path above a.0) (bytes_of (at s a.1))
-  text_of_file here = cond-false _ _ _ here
+-- the text of one name in the directory of that path, at most so many levels down
+abbrev pub text_in : Tree → ℕ → List ℕ → (List ℕ × ℕ) → List ℕ
+text_in tree levels = name_text (state_in tree) (below (levels - 1) (state_in tree))
 
 pub below_none : (s : State) (above : List ℕ) (i : ℕ) → below 0 s above i ≡ []
 unfolding below
@@ -71,34 +67,34 @@ below_some (suc levels) s above i some =
 
 module _ (tree : Tree) (levels : ℕ) (path : List ℕ) (i : ℕ) (names items : List (List ℕ × ℕ)) where
   pub text_below : 0 < levels → is_directory_in (state_in tree) i ≡ true → IsPermutation (names_in tree i) names → IsSorted name_cmp names → items ≡ names
-      → flat_map (name_text (state_in tree) (below (levels - 1) (state_in tree)) path) items ≡ below levels (state_in tree) path i
+      → flat_map (text_in tree levels path) items ≡ below levels (state_in tree) path i
   text_below some here shuffled sorted is =
-      ap (λ l. flat_map (name_text (state_in tree) (below (levels - 1) (state_in tree)) path) l) (is ∙ names_told tree i names here shuffled sorted)
+      ap (λ l. flat_map (text_in tree levels path) l) (is ∙ names_told tree i names here shuffled sorted)
       ∙ sym (below_some levels (state_in tree) path i some)
 
 -- What is written of one name.
-module _ (s : State) (deeper : List ℕ → ℕ → List ℕ) (above : List ℕ) (a : List ℕ × ℕ) (path : List ℕ) (is : path ≡ extended_path above a.0) (x y : Option (List ℕ)) where
-  directory_is : is_directory_in s a.1 ≡ true → directory_line path ++ deeper path a.1 ≡ name_text s deeper above a
-  directory_is here = ap (λ p. directory_line p ++ deeper p a.1) is ∙ sym (text_of_directory s deeper above a here)
+module _ (tree : Tree) (levels : ℕ) (above : List ℕ) (a : List ℕ × ℕ) (path : List ℕ) (is : path ≡ extended_path above a.0) (x y : Option (List ℕ)) where
+  directory_is : is_directory_in (state_in tree) a.1 ≡ true → directory_line path ++ below (levels - 1) (state_in tree) path a.1 ≡ text_in tree levels above a
+  directory_is here = ap (λ p. directory_line p ++ below (levels - 1) (state_in tree) p a.1) is ∙ sym (cond-true _ _ _ here)
 
-  file_is : is_directory_in s a.1 ≡ false → file_line path (bytes_of (at s a.1)) ≡ name_text s deeper above a
-  file_is here = ap (λ p. file_line p (bytes_of (at s a.1))) is ∙ sym (text_of_file s deeper above a here)
+  file_is : is_directory_in (state_in tree) a.1 ≡ false → file_line path (bytes_of (at (state_in tree) a.1)) ≡ text_in tree levels above a
+  file_is here = ap (λ p. file_line p (bytes_of (at (state_in tree) a.1))) is ∙ sym (cond-false _ _ _ here)
 
-  pub line_begun : is_directory_in s a.1 ≡ true → IsBegun x y (directory_line path) → IsBegun x y (name_text s deeper above a)
-  line_begun here h = begun_as x y _ _ (directory_is here) (begun_more x y (directory_line path) (deeper path a.1) h)
+  pub line_begun : is_directory_in (state_in tree) a.1 ≡ true → IsBegun x y (directory_line path) → IsBegun x y (text_in tree levels above a)
+  line_begun here h = begun_as x y _ _ (directory_is here) (begun_more x y (directory_line path) (below (levels - 1) (state_in tree) path a.1) h)
 
-  pub file_begun : is_directory_in s a.1 ≡ false → IsBegun x y (file_line path (bytes_of (at s a.1))) → IsBegun x y (name_text s deeper above a)
+  pub file_begun : is_directory_in (state_in tree) a.1 ≡ false → IsBegun x y (file_line path (bytes_of (at (state_in tree) a.1))) → IsBegun x y (text_in tree levels above a)
   file_begun here h = begun_as x y _ _ (file_is here) h
 
-  pub file_told : is_directory_in s a.1 ≡ false → Appends x y (file_line path (bytes_of (at s a.1))) → Appends x y (name_text s deeper above a)
+  pub file_told : is_directory_in (state_in tree) a.1 ≡ false → Appends x y (file_line path (bytes_of (at (state_in tree) a.1))) → Appends x y (text_in tree levels above a)
   file_told here h = added_as x y _ _ (file_is here) h
 
-  module _ (z : Option (List ℕ)) (here : is_directory_in s a.1 ≡ true) (h : Appends x y (directory_line path)) where
-    pub deeper_begun : IsBegun y z (deeper path a.1) → IsBegun x z (name_text s deeper above a)
-    deeper_begun k = begun_as x z _ _ (directory_is here) (begun_then x y z (directory_line path) (deeper path a.1) h k)
+  module _ (z : Option (List ℕ)) (here : is_directory_in (state_in tree) a.1 ≡ true) (h : Appends x y (directory_line path)) where
+    pub deeper_begun : IsBegun y z (below (levels - 1) (state_in tree) path a.1) → IsBegun x z (text_in tree levels above a)
+    deeper_begun k = begun_as x z _ _ (directory_is here) (begun_then x y z (directory_line path) (below (levels - 1) (state_in tree) path a.1) h k)
 
-    pub directory_told : Appends y z (deeper path a.1) → Appends x z (name_text s deeper above a)
-    directory_told k = added_as x z _ _ (directory_is here) (Appends-trans x y z (directory_line path) (deeper path a.1) h k)
+    pub directory_told : Appends y z (below (levels - 1) (state_in tree) path a.1) → Appends x z (text_in tree levels above a)
+    directory_told k = added_as x z _ _ (directory_is here) (Appends-trans x y z (directory_line path) (below (levels - 1) (state_in tree) path a.1) h k)
 
 -- the path of a name, cut back to its directory's
 pub cut_back : (n : ℕ) (above path name : List ℕ) → n ≡ length above → path ≡ extended_path above name → take n path ≡ above

@@ -75,12 +75,6 @@ pub on_ok : {T E : Type 0} (r : Result T E) (P : Type 0) → is_ok r ≡ true �
 on_ok (Ok x) P ok p = p
 on_ok (Err e) P ok p = absurd (true≢false (sym ok))
 
--- two rings are taken from the end
-pub rings_two : (all_rings one two : List Ring) (of_control of_cleaner : Ring) (ends : List End) → all_rings ≡ one ++ of_control ∷ [] → one ≡ two ++ of_cleaner ∷ []
-    → map ring_end all_rings ≡ ends → map ring_end ((two ++ of_cleaner ∷ []) ++ of_control ∷ []) ≡ ends
-rings_two all_rings one two of_control of_cleaner ends first second is =
-    ap (map ring_end) (ap (λ (l : List Ring). l ++ of_control ∷ []) (sym second) ∙ sym first) ∙ is
-
 -- the ends of the control's ring and of the cleaner's
 pub ends_two : (rs : List Ring) (of_cleaner of_control : Ring) (hs : List RingHand) (cleaner control : RingHand)
     → map ring_end ((rs ++ of_cleaner ∷ []) ++ of_control ∷ []) ≡ map ring_hand_end (hs ++ cleaner ∷ control ∷ [])

@@ -2,7 +2,7 @@
 use Rattle.std.proofs.Common.{◌≡◌, ◌≢◌, ℕ, zero, suc, ◌+◌, ◌<◌, ◌≤◌, Bool, true, false, true≢false, List, [], ◌∷◌, ◌++◌, length, set, cond, eqb, sym, refl, ap, ◌∙◌, subst, ⊎_elim, ◌⊎◌, inl, inr, append_assoc, append-nil, arith}
 use Rattle.std.specs.List.{All}
 use Rattle.std.proofs.lemmas.Bool.{eq-eqb, ne_eqb, cond-true, cond-false}
-use Rattle.std.proofs.lemmas.List.Elements.{All-nil, All-cons, All-head, All-tail, All-append, filter-append}
+use Rattle.std.proofs.lemmas.List.Elements.{All-nil, All-cons, All-head, All-tail, All-append, All-weaker, filter-append}
 use mathlib.Core.Option.{some, some-injective, some-ne-none}
 use lib.ListN.{get_elem?}
 use Rattle.crossbeam_channel.specs.Fifo.{Pushes, Pops, Forks, Merges, Learns, Held}
@@ -36,6 +36,11 @@ IsAllOf all s = s.accepted ≡ of s.sender all
 
 each_of : (P Q R : Sent → Type 0) (sent : List Sent) → All P sent → All Q sent → ((s : Sent) → P s → Q s → R s) → All R sent
 each_of P Q R sent p q f k d h = f _ (p k d h) (q k d h)
+
+-- a pass fits still, where the senders that it has are with it still
+fits_still : (holder holder' : ℕ → ℕ) (taker : ℕ) (taken items : List Request) (pass : ℕ) (v : Knows) → ((w : ℕ) → holder w ≡ pass → holder' w ≡ pass)
+    → Fits holder taker taken items pass v → Fits holder' taker taken items pass v
+fits_still holder holder' taker taken items pass v still fits = (All-weaker (HeldBy holder pass) (HeldBy holder' pass) (λ s is. still s.sender is) v.sent fits.0, fits.1, fits.2)
 
 -- the requests of one sender
 
@@ -131,7 +136,7 @@ parts pass may taken s rest apart items views h at =
             All-tail (IsAllOf all) s rest mine.1,
             mine.2,
           )
-          (λ j y else e. let its = h.passes j y e in (each_of (HeldBy holder j) (HeldBy holder j) (HeldBy holder' j) y.sent its.0 its.0 (λ t is _. other t.sender (λ same. else (sym is ∙ ap holder same ∙ held)) ∙ is), its.1, its.2)) j y)
+          (λ j y else e. fits_still holder holder' h.taker h.taken items j y (λ w is. other w (λ same. else (sym is ∙ ap holder same ∙ held)) ∙ is) (h.passes j y e)) j y)
           (λ (is : (j ≡ length vs) × (right ≡ y)). subst (λ (z : ℕ × Knows). Fits holder' h.taker h.taken items z.0 z.1) (λ i. (sym is.0 i, is.1 i)) new) (at_end vs right y j e);
     }
 
@@ -155,7 +160,8 @@ merges pass v other u items views h at two at' =
     let Now : ℕ → Knows → Type 0 = λ j y. j ≢ other → F j y in
     let all : List Request = h.taken ++ items in
     let of_both : F pass both = (
-      All-append (HeldBy holder' pass) v.sent u.sent (each_of (HeldBy holder pass) (HeldBy holder pass) (HeldBy holder' pass) v.sent mine.0 mine.0 (λ t is _. apart t.sender (λ same. two (sym same ∙ is)) ∙ is)) (each_of (HeldBy holder other) (HeldBy holder other) (HeldBy holder' pass) u.sent theirs.0 theirs.0 (λ t is _. came t.sender is)),
+      All-append (HeldBy holder' pass) v.sent u.sent (All-weaker (HeldBy holder pass) (HeldBy holder' pass) (λ t is. apart t.sender (λ same. two (sym same ∙ is)) ∙ is) v.sent mine.0)
+          (All-weaker (HeldBy holder other) (HeldBy holder' pass) (λ t is. came t.sender is) u.sent theirs.0),
       All-append (IsAllOf all) v.sent u.sent mine.1 theirs.1,
       mine.2,
     ) in
@@ -166,7 +172,7 @@ merges pass v other u items views h at two at' =
       strangers = h.strangers;
       passes = each_set F vs other spent (All-nil (HeldBy holder' other), All-nil (IsAllOf all), λ t. absurd (true≢false (sym t)))
           (λ j y n e. each_set Now views pass both (λ _. of_both)
-          (λ j y _ e n. let its = h.passes j y e in (each_of (HeldBy holder j) (HeldBy holder j) (HeldBy holder' j) y.sent its.0 its.0 (λ t is _. apart t.sender (λ same. n (sym is ∙ same)) ∙ is), its.1, its.2)) j y e n);
+          (λ j y _ e n. fits_still holder holder' h.taker h.taken items j y (λ w is. apart w (λ same. n (sym is ∙ same)) ∙ is) (h.passes j y e)) j y e n);
     }
 
 pub learns : (pass : ℕ) (v : Knows) → Learns InOrder pass v (Learned v)

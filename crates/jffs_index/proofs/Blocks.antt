@@ -218,9 +218,9 @@ module _ (blocks : Blocks) (w s b : ℕ) (block : b ≡ s / SLOTS) where
 
 -- what stood there is put back
 module _ (blocks : Blocks) (w s : ℕ) where
-  pub put_back : (outcome : Outcome) (was : Option Outcome) → was ≡ outcome_at (outcomes_of blocks) w s → restored (with_outcome (outcomes_of blocks) w s outcome) w s was ≡ outcomes_of blocks
-  put_back outcome None none = back_at (w, s) outcome (outcomes_of blocks) (sym none)
-  put_back outcome (Some v) some =
+  restores : (outcome : Outcome) (was : Option Outcome) → was ≡ outcome_at (outcomes_of blocks) w s → restored (with_outcome (outcomes_of blocks) w s outcome) w s was ≡ outcomes_of blocks
+  restores outcome None none = back_at (w, s) outcome (outcomes_of blocks) (sym none)
+  restores outcome (Some v) some =
       ap (λ (es : Outcomes). with_outcome es w s v) (sym (entries_with m (w, s) outcome)) ∙ sym (entries_with (map.insert m (w, s) outcome) (w, s) v) ∙ ap map.entries whole
     where
       m : Entries
@@ -241,6 +241,12 @@ module _ (blocks : Blocks) (w s : ℕ) where
               map.get-insert request_total (map.insert m (w, s) outcome) (w, s) v q
               ∙ ap (cond (is_eq (request_cmp q (w, s))) (Some v)) (map.get-insert request_total m (w, s) outcome q)
               ∙ again q (is_eq (request_cmp q (w, s))) refl
+
+  pub put_back : (outcome : Outcome) (was : Option Outcome) (before after : Outcomes) → outcomes_of blocks ≡ before → after ≡ with_outcome before w s outcome
+      → was ≡ outcome_at (outcomes_of blocks) w s → restored after w s was ≡ before
+  put_back outcome was before after is entered held =
+      ap (λ (z : Outcomes). restored z w s was) entered
+      ∙ subst (λ (z : Outcomes). restored (with_outcome z w s outcome) w s was ≡ z) is (restores outcome was held)
 
 -- a slot that nothing was put into
 pub none_filled : (n at : ℕ) → get_or (replicate n false) at false ≡ false

@@ -142,7 +142,7 @@ steps_put (Put t ∷ changes) s = ap (λ (z : List Step). t ∷ z) (steps_put ch
 steps_put (Reach t ∷ changes) s = steps_put changes s
 
 -- q stands for any page that has seen so much
-pub steps_reach : (changes : List Change) (q : Page) → steps_of (changes ++ Reach q.seen ∷ []) ≡ steps_of changes
+steps_reach : (changes : List Change) (q : Page) → steps_of (changes ++ Reach q.seen ∷ []) ≡ steps_of changes
 steps_reach [] q = refl
 steps_reach (Put t ∷ changes) q = ap (λ (z : List Step). t ∷ z) (steps_reach changes q)
 steps_reach (Reach t ∷ changes) q = steps_reach changes q
@@ -153,7 +153,7 @@ fold-reach p q (Put s ∷ changes) = fold-reach (after_change p (Put s)) q chang
 fold-reach p q (Reach t ∷ changes) = fold-reach (after_change p (Reach t)) q changes
 
 -- the page after all changes, the last of which brings the history that has their steps
-pub reached : (p q next : Page) (changes all : List Change) → IsFaithful p → all_fit p.view (steps_of changes) ≡ true → q.seen.book ≡ p.seen.book → q.seen.log ≡ p.seen.log ++ steps_of changes
+reached : (p q next : Page) (changes all : List Change) → IsFaithful p → all_fit p.view (steps_of changes) ≡ true → q.seen.book ≡ p.seen.book → q.seen.log ≡ p.seen.log ++ steps_of changes
     → all ≡ changes ++ Reach q.seen ∷ [] → next ≡ fold after_change p all
     → (page_index next ≡ page_index p) × IsFaithful next × (history_of next ≡ extended (history_of p) (steps_of changes)) × (next.seen.log ≡ q.seen.log)
 reached p q next changes all faithful fit book log is to =
@@ -223,25 +223,44 @@ same_steps page changes changes' book logged known head count all sound is =
       fit = ap (all_fit page.view) is ∙ sound.fit;
     }
 
--- all is published
-pub publishes : (page q next : Page) (changes all : List Change) (known known' : Option Index) (head : Named) (count total : ℕ) → IsInStep page changes q.seen.book q.seen.log known head count total
-    → (held page changes q.seen.log).unlogged ≡ [] → all ≡ changes ++ Reach q.seen ∷ [] → next ≡ fold after_change page all → Sees known page next known' → (none : List Change) → none ≡ []
-    → IsInStep next none q.seen.book q.seen.log known' head count total
-publishes page q next changes all known known' head count total sound whole is to sees none empty =
-    let log : q.seen.log ≡ page.seen.log ++ steps_of changes = whole_of q.seen.log (page.seen.log ++ steps_of changes) sound.begins whole in
-    let r = reached page q next changes all sound.faithful sound.fit sound.same_book log is to in
-    let nothing : steps_of none ≡ [] = ap steps_of empty in
-    let long : total ≡ length next.seen.log = omega (arith, sound.counted_all, ap (length {A = Step}) log, ap (length {A = Step}) r.3, length-append page.seen.log (steps_of changes)) in
-    record {
-      faithful = r.1;
-      knows = sees.0;
-      word = sound.word ∙ sym (ap (λ (i : Index). i.head) r.0);
-      same_book = sound.same_book ∙ sym (ap (λ (i : Index). i.head.book) r.0);
-      begins = prefix_self _ _ (sym r.3 ∙ (sym (append-nil next.seen.log) ∙ ap (λ (z : List Step). next.seen.log ++ z) (sym nothing)));
-      counted = sound.counted;
-      counted_all = omega (arith, long, ap (length {A = Step}) nothing);
-      fit = ap (all_fit next.view) nothing;
-    }
+-- the history of q has all that was put, and the last change brings it to the page
+pub record IsLogged (page q : Page) (changes all : List Change) (known : Option Index) (head : Named) (count total : ℕ) : Type 0 where
+  pub sound : IsInStep page changes q.seen.book q.seen.log known head count total
+  pub whole : (held page changes q.seen.log).unlogged ≡ []
+  pub last : all ≡ changes ++ Reach q.seen ∷ []
+
+-- the change that brings it is no step
+pub logged_steps : {page q : Page} {changes all : List Change} {known : Option Index} {head : Named} {count total : ℕ}
+    → IsLogged page q changes all known head count total → steps_of all ≡ steps_of changes
+logged_steps {q = q} {changes = changes} logged = ap steps_of logged.last ∙ steps_reach changes q
+
+module _ (page q next : Page) (changes all : List Change) (known : Option Index) (head : Named) (count total : ℕ) (logged : IsLogged page q changes all known head count total) (to : next ≡ fold after_change page all) where
+  log_is : q.seen.log ≡ page.seen.log ++ steps_of changes
+  log_is = let sound = logged.sound in whole_of q.seen.log (page.seen.log ++ steps_of changes) sound.begins logged.whole
+
+  all_reached : (page_index next ≡ page_index page) × IsFaithful next × (history_of next ≡ extended (history_of page) (steps_of changes)) × (next.seen.log ≡ q.seen.log)
+  all_reached = let sound = logged.sound in reached page q next changes all sound.faithful sound.fit sound.same_book log_is logged.last to
+
+  -- all is published
+  publishes : (known' : Option Index) → Sees known page next known' → (none : List Change) → none ≡ [] → IsInStep next none q.seen.book q.seen.log known' head count total
+  publishes known' sees none empty =
+      let sound = logged.sound in
+      let nothing : steps_of none ≡ [] = ap steps_of empty in
+      let long : total ≡ length next.seen.log = omega (arith, sound.counted_all, ap (length {A = Step}) log_is, ap (length {A = Step}) all_reached.3, length-append page.seen.log (steps_of changes)) in
+      record {
+        faithful = all_reached.1;
+        knows = sees.0;
+        word = sound.word ∙ sym (ap (λ (i : Index). i.head) all_reached.0);
+        same_book = sound.same_book ∙ sym (ap (λ (i : Index). i.head.book) all_reached.0);
+        begins = prefix_self _ _ (sym all_reached.3 ∙ (sym (append-nil next.seen.log) ∙ ap (λ (z : List Step). next.seen.log ++ z) (sym nothing)));
+        counted = sound.counted;
+        counted_all = omega (arith, long, ap (length {A = Step}) nothing);
+        fit = ap (all_fit next.view) nothing;
+      }
+
+  -- the change of page that publishes all
+  pub publishing : (seat : ℕ) → TurnsAt Keeps seat known page next Sees
+  publishing seat = turns seat known page next all_reached.0 (λ _. all_reached.1)
 
 pub pages_alike : (p q : Page) → p.view ≡ q.view → p.seen ≡ q.seen → p.opening ≡ q.opening → p ≡ q
 pages_alike p q v s o = λ i. record { view = v i; seen = s i; opening = o i }
@@ -250,13 +269,6 @@ pages_alike p q v s o = λ i. record { view = v i; seen = s i; opening = o i }
 pub opens : (seat : ℕ) (known : Option Index) (x : Page) (changes : List Change) → changes ≡ [] → (next : Page) → next ≡ fold after_change x changes → TurnsAt Keeps seat known x next Sees
 opens seat known x changes none next is =
     let same : next ≡ x = is ∙ ap (fold after_change x) none in turns seat known x next (ap page_index same) (subst IsFaithful (sym same))
-
--- the change of page that publishes all
-pub publishing : (seat : ℕ) (page q next : Page) (changes all : List Change) (known known' : Option Index) (head : Named) (count total : ℕ) → IsInStep page changes q.seen.book q.seen.log known' head count total
-    → (held page changes q.seen.log).unlogged ≡ [] → all ≡ changes ++ Reach q.seen ∷ [] → next ≡ fold after_change page all → TurnsAt Keeps seat known page next Sees
-publishing seat page q next changes all known known' head count total sound whole is to =
-    let log : q.seen.log ≡ page.seen.log ++ steps_of changes = whole_of q.seen.log (page.seen.log ++ steps_of changes) sound.begins whole in
-    let r = reached page q next changes all sound.faithful sound.fit sound.same_book log is to in turns seat known page next r.0 (λ _. r.1)
 
 -- nothing is published, and the last change stays pending
 pub unpublished : (page page' q : Page) (changes all : List Change) (book : Book) (logged : List Step) (known known' : Option Index) (head : Named) (count total : ℕ) → IsInStep page changes book logged known head count total
@@ -274,21 +286,19 @@ at_fault r x e page page' next all all' known known' values rule =
 
 -- what is left of a publish, whether it was refused or not
 pub published_or_not : {E : Type 0} (r : Result (Unit {0}) E) (page page' q next : Page) (changes all all' : List Change) (known known' : Option Index) (head : Named) (count total : ℕ)
-    → IsInStep page changes q.seen.book q.seen.log known head count total → (held page changes q.seen.log).unlogged ≡ [] → all ≡ changes ++ Reach q.seen ∷ [] → next ≡ fold after_change page all
+    → IsLogged page q changes all known head count total → next ≡ fold after_change page all
     → MatchResult r (λ _. (page' ≡ next) × (all' ≡ [])) (λ _. (page' ≡ page) × (all' ≡ all)) → MatchResult r (λ _. Sees known page page' known') (λ _. known' ≡ known)
     → IsInStep page' all' q.seen.book q.seen.log known' head count total
-published_or_not (Ok x) page page' q next changes all all' known known' head count total sound whole is to values rule =
-    publishes page q page' changes all known known' head count total sound whole is (values.0 ∙ to) rule all' values.1
-published_or_not (Err x) page page' q next changes all all' known known' head count total sound whole is to values rule =
-    unpublished page page' q changes all' q.seen.book q.seen.log known known' head count total sound values.0 (values.1 ∙ is) rule
+published_or_not (Ok x) page page' q next changes all all' known known' head count total logged to values rule =
+    publishes page q page' changes all known head count total logged (values.0 ∙ to) known' rule all' values.1
+published_or_not (Err x) page page' q next changes all all' known known' head count total logged to values rule =
+    unpublished page page' q changes all' q.seen.book q.seen.log known known' head count total logged.sound values.0 (values.1 ∙ logged.last) rule
 
 -- a publish that isn't refused shows all that was put
 pub published_all : {E : Type 0} (r : Result (Unit {0}) E) (x : Unit {0}) → r ≡ Ok x → (page page' q next : Page) (changes all all' : List Change) (known : Option Index) (head : Named) (count total : ℕ)
-    → IsInStep page changes q.seen.book q.seen.log known head count total → (held page changes q.seen.log).unlogged ≡ [] → all ≡ changes ++ Reach q.seen ∷ [] → next ≡ fold after_change page all
+    → IsLogged page q changes all known head count total → next ≡ fold after_change page all
     → MatchResult r (λ _. (page' ≡ next) × (all' ≡ [])) (λ _. (page' ≡ page) × (all' ≡ all))
     → (history_of page' ≡ extended (history_of page) (steps_of changes)) × (steps_of all' ≡ [])
-published_all r x e page page' q next changes all all' known head count total sound whole is to values =
+published_all r x e page page' q next changes all all' known head count total logged to values =
     let v = MatchResult-at_ok (λ _. (page' ≡ next) × (all' ≡ [])) (λ _. (page' ≡ page) × (all' ≡ all)) x e values in
-    let log = whole_of q.seen.log (page.seen.log ++ steps_of changes) sound.begins whole in
-    let far = reached page q next changes all sound.faithful sound.fit sound.same_book log is to in
-    (ap history_of v.0 ∙ far.2, ap steps_of v.1)
+    (ap history_of v.0 ∙ (all_reached page q next changes all known head count total logged to).2, ap steps_of v.1)

@@ -10,39 +10,34 @@ use Rattle.jffs_flash.proofs.Halves.{length-window}
 pub get_or-window : (at n : ℕ) (image : List ℕ) (k : ℕ) → k < n → get_or (window at n image) k 0 ≡ get_or image (at + k) 0
 get_or-window at n image k h = get_or-take n (drop at image) k 0 h ∙ get_or-drop at image k 0
 
-pub length-replaced : (at : ℕ) (part image : List ℕ) → at + length part ≤ length image → length (replaced at part image) ≡ length image
-length-replaced at part image inside =
-    let front : length (take at image) ≡ at = length-take-le at image (omega arith) in
-    let begun = length-append (take at image) part in
-    let whole = length-append (take at image ++ part) (drop (at + length part) image) in
-    let back = length-drop (at + length part) image in
-    omega arith
+-- The bytes of an image of which a part was replaced: before it, in it, and after it.
+module _ (at : ℕ) (part image : List ℕ) (inside : at + length part ≤ length image) where
+  front : length (take at image) ≡ at
+  front = length-take-le at image (omega arith)
 
-get_or-replaced_in : (at : ℕ) (part image : List ℕ) (k : ℕ) → at + length part ≤ length image → k < length part
-    → get_or (replaced at part image) (at + k) 0 ≡ get_or part k 0
-get_or-replaced_in at part image k inside h =
-    let front : length (take at image) ≡ at = length-take-le at image (omega arith) in
-    let begun = length-append (take at image) part in
-    let there : at + k - at ≡ k = omega arith in
-    get_or_append_left (take at image ++ part) (drop (at + length part) image) 0 (at + k) (omega arith)
-    ∙ get_or-append_right (take at image) part at (at + k) 0 front (omega arith)
-    ∙ ap (λ i. get_or part i 0) there
+  begun : length (take at image ++ part) ≡ at + length part
+  begun = omega (arith, front, length-append (take at image) part)
 
-get_or-replaced_out : (at : ℕ) (part image : List ℕ) (k : ℕ) → at + length part ≤ length image → (k < at) ⊎ (at + length part ≤ k)
-    → get_or (replaced at part image) k 0 ≡ get_or image k 0
-get_or-replaced_out at part image k inside (inl before) =
-    let front : length (take at image) ≡ at = length-take-le at image (omega arith) in
-    let begun = length-append (take at image) part in
-    get_or_append_left (take at image ++ part) (drop (at + length part) image) 0 k (omega arith)
-    ∙ get_or_append_left (take at image) part 0 k (omega arith)
-    ∙ get_or-take at image k 0 before
-get_or-replaced_out at part image k inside (inr after) =
-    let front : length (take at image) ≡ at = length-take-le at image (omega arith) in
-    let begun : length (take at image ++ part) ≡ at + length part = omega (arith, length-append (take at image) part) in
-    let there : at + length part + (k - (at + length part)) ≡ k = omega arith in
-    get_or-append_right (take at image ++ part) (drop (at + length part) image) (at + length part) k 0 begun after
-    ∙ get_or-drop (at + length part) image (k - (at + length part)) 0
-    ∙ ap (λ i. get_or image i 0) there
+  pub length-replaced : length (replaced at part image) ≡ length image
+  length-replaced = omega (arith, begun, length-append (take at image ++ part) (drop (at + length part) image), length-drop (at + length part) image)
+
+  get_or-replaced_in : (k : ℕ) → k < length part → get_or (replaced at part image) (at + k) 0 ≡ get_or part k 0
+  get_or-replaced_in k h =
+      let there : at + k - at ≡ k = omega arith in
+      get_or_append_left (take at image ++ part) (drop (at + length part) image) 0 (at + k) (omega (arith, begun))
+      ∙ get_or-append_right (take at image) part at (at + k) 0 front (omega arith)
+      ∙ ap (λ i. get_or part i 0) there
+
+  get_or-replaced_out : (k : ℕ) → (k < at) ⊎ (at + length part ≤ k) → get_or (replaced at part image) k 0 ≡ get_or image k 0
+  get_or-replaced_out k (inl before) =
+      get_or_append_left (take at image ++ part) (drop (at + length part) image) 0 k (omega (arith, begun))
+      ∙ get_or_append_left (take at image) part 0 k (omega (arith, front))
+      ∙ get_or-take at image k 0 before
+  get_or-replaced_out k (inr after) =
+      let there : at + length part + (k - (at + length part)) ≡ k = omega arith in
+      get_or-append_right (take at image ++ part) (drop (at + length part) image) (at + length part) k 0 begun after
+      ∙ get_or-drop (at + length part) image (k - (at + length part)) 0
+      ∙ ap (λ i. get_or image i 0) there
 
 -- Of a buffer that shows a window, a first part was changed as the image was: bytes of `short` are
 -- those of `part` from `skip` on, and both stand at the same place of the image.
@@ -68,7 +63,7 @@ laid_part from at first skip short part old image inside there shows fits within
         → (k < first) ⊎ (first + length short ≤ k) → (from + k < at) ⊎ (at + length part ≤ from + k)
         → get_or (replaced first short old) k 0 ≡ get_or (replaced at part image) (from + k) 0
     outside k h kept away far =
-        get_or-replaced_out first short old k fits away ∙ kept k h ∙ sym (get_or-replaced_out at part image (from + k) inside far)
+        get_or-replaced_out first short old fits k away ∙ kept k h ∙ sym (get_or-replaced_out at part image inside (from + k) far)
 
     -- what isn't of the changed bytes is outside the part
     far_off : (k : ℕ) → k < length old → (k < first) ⊎ (first + length short ≤ k) → (from + k < at) ⊎ (at ≤ from + k)
@@ -88,9 +83,9 @@ laid_part from at first skip short part old image inside there shows fits within
         let here : first + (k - first) ≡ k = omega arith in
         let image_at : at + (skip + (k - first)) ≡ from + k = omega arith in
         ap (λ i. get_or (replaced first short old) i 0) (sym here)
-        ∙ get_or-replaced_in first short old (k - first) fits (omega arith)
+        ∙ get_or-replaced_in first short old fits (k - first) (omega arith)
         ∙ alike (k - first) (omega arith)
-        ∙ sym (get_or-replaced_in at part image (skip + (k - first)) inside (omega arith))
+        ∙ sym (get_or-replaced_in at part image inside (skip + (k - first)) (omega arith))
         ∙ ap (λ i. get_or (replaced at part image) i 0) image_at
 
 -- of a sector that is erased, its bytes in the buffer are erased

@@ -21,7 +21,7 @@ use Rattle.jffs_core.specs.Run.{OnlyCopies, AreAnswered, IsInOrder, is_failure}
 use Rattle.jffs_core.specs.Answering.{ProgramsFor, turn_of, keeps_two, is_closed}
 use Rattle.jffs_core.specs.declared.answer.Answer.{Answer}
 use Rattle.jffs_core.proofs.answers.Lawful.{none_made}
-use Rattle.jffs_core.specs.Calls.{ProgramsOnce}
+use Rattle.jffs_core.specs.Calls.{FailsIn, ProgramsOnce}
 use Rattle.jffs_core.proofs.room.Erasing.{uses_nothing, uses_along}
 use Rattle.jffs_core.proofs.answers.Refusing.{failed_more, same_programs, programs_along}
 use Rattle.jffs_core.proofs.answers.Stepping.{unmounts_have_room}
@@ -167,32 +167,32 @@ ends_same : (mounted began past : List Node) (start old new : CoreState) (replie
 ends_same mounted began past start old new replies keeps so = record {
   sizes = (so.sizes.0 ∙ keeps.sizes.0, so.sizes.1 ∙ keeps.sizes.1);
   stands = keeps.stands mounted past so.stands;
-  two = λ keep works two.
-      let worked = keeps_worked old new keeps works in
-      keeps.two works past (working worked) (so.two keep worked two);
-  device = let erases = keeps.erases in uses_along start old new (keeps_worked old new keeps) so.device erases.device;
+  two = λ keep works two. keeps.two works past (working (worked works)) (so.two keep (worked works) two);
+  device = let erases = keeps.erases in uses_along start old new worked so.device erases.device;
   programs = λ works.
-      let so_far = so.programs (keeps_worked old new keeps works) in
+      let so_far = so.programs (worked works) in
       let none = keeps.programs mounted past so.stands in
       omega (arith, so_far, none);
-  works = λ works.
-      let worked = keeps_worked old new keeps works in
-      keeps.faults works past (working worked) ∙ so.works worked;
+  works = λ works. keeps.faults works past (working (worked works)) ∙ so.works (worked works);
   faults = λ began fails. ⊎_elim
       (λ had. subst (λ (c : CoreState). start.faults < c.faults) (sym (keeps.failed had)) (so.faults began had))
-      (λ now. let f = keeps.fails now fails past (working now) in subst (λ (n : ℕ). n < new.faults) (so.works now) f.faults)
+      (λ now. let f = fell now fails in subst (λ (n : ℕ). n < new.faults) (so.works now) f.faults)
       (cases_Bool old.failed);
   failed = λ f. stays_failed old new keeps (so.failed f);
   in_hand = λ works fails. ⊎_elim
       (λ had. failed_but_capacity (InHandOf (volume_of start) replies past) past old new (keeps.failed had) (so.in_hand works had))
-      (λ now.
-      let f = keeps.fails now fails past (working now) in
-      failed_more (λ n. ⊥) (InHandOf (volume_of start) replies past) (λ n none. absurd none) past new f.left)
+      (λ now. let f = fell now fails in failed_more (λ n. ⊥) (InHandOf (volume_of start) replies past) (λ n none. absurd none) past new f.left)
       (cases_Bool old.failed);
 }
   where
     working : old.failed ≡ false → RepresentsWorking past old
     working = let s = so.stands in s.stands.working
+
+    worked : new.failed ≡ false → old.failed ≡ false
+    worked = keeps_worked old new keeps
+
+    fell : old.failed ≡ false → new.failed ≡ true → FailsIn (λ n. ⊥) past past old new
+    fell now fails = keeps.fails now fails past (working now)
 
 -- with one turn more
 ends_more :

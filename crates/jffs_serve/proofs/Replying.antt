@@ -220,6 +220,15 @@ module _ {F : Type 0} where
   no_reply session put taken =
       nothing_more (start_of session put taken) session.core session.unsent put taken None (nothing_replied session put taken) refl
 
+  -- nothing but the capacity for answers was changed
+  pub reserved :
+      (session : Session F) (core : CoreState) (put : List Step) (taken : ℕ → List Request)
+      → IsSameButCapacity session.core core → RepliesMore session put taken (record session { core = core }) put taken None
+  reserved session core put taken same =
+      nothing_more (start_of session put taken) core session.unsent put taken None
+      (replied_capacity (start_of session put taken) session.core core session.unsent put taken taken [] same (λ w. refl) (nothing_replied session put taken))
+      (still_owed None session.core core session.unsent session.unsent (ap (λ (s : CoreState). s.closed) same) refl)
+
   -- two stretches of replies are one, where the first leaves what is owed
   pub then_more :
       (a b c : Session F) (put_a put_b put_c : List Step) (taken_a taken_b taken_c : ℕ → List Request) (between ending : Option Served)

@@ -41,16 +41,19 @@ tree_along a b c h k = λ works. let later = k works in let first = h later.0 in
 pub read_tree : (old new : CoreState) → old.failed ≡ false → new ≡ record old { failed = new.failed; faults = new.faults } → KeepsTree old new
 read_tree old new worked same = λ works. (worked, ap (λ (c : CoreState). c.tree) same)
 
-pub capacity_tree : (old new : CoreState) → IsSameButCapacity old new → KeepsTree old new
+capacity_tree : (old new : CoreState) → IsSameButCapacity old new → KeepsTree old new
 capacity_tree old new same = λ works. (ap (λ (c : CoreState). c.failed) (sym same) ∙ works, ap (λ (c : CoreState). c.tree) same)
 
 shows_on : (tree : Tree) (old new : CoreState) → KeepsTree old new → ShowsCore tree old → ShowsCore tree new
 shows_on tree old new keeps shows = λ works. let k = keeps works in shows k.0 ∙ ap state_in (sym k.1)
 
-pub shown_on : (unsent : Option PendingStep) (shown : Shown) (old new : CoreState) → KeepsTree old new → IsShown unsent shown old → IsShown unsent shown new
+shown_on : (unsent : Option PendingStep) (shown : Shown) (old new : CoreState) → KeepsTree old new → IsShown unsent shown old → IsShown unsent shown new
 shown_on None shown old new keeps is = shows_on shown.tree old new keeps is
 shown_on (Some (Unput step ending)) shown old new keeps is = (is.0, shows_on (after_step shown step).tree old new keeps is.1)
 shown_on (Some (Unpublished ending)) shown old new keeps is = shows_on shown.tree old new keeps is
+
+pub shown_capacity : (unsent : Option PendingStep) (shown : Shown) (old new : CoreState) → IsSameButCapacity old new → IsShown unsent shown old → IsShown unsent shown new
+shown_capacity unsent shown old new same is = shown_on unsent shown old new (capacity_tree old new same) is
 
 -- where no step is left to be put, what was put shows the core
 pub shown_sent : (unsent : Option PendingStep) (shown : Shown) (core : CoreState) → unput unsent ≡ [] → IsShown unsent shown core → ShowsCore shown.tree core

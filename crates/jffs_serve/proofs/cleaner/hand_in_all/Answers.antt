@@ -1,4 +1,4 @@
-use Rattle.std.proofs.Common.{rules, ◌≤◌, List, [], ◌∷◌, ◌++◌, length, map, refl, sym, ap, subst, ◌∙◌, append_assoc, append-nil, arith}
+use Rattle.std.proofs.Common.{rules, ◌≤◌, List, [], ◌∷◌, ◌++◌, length, map, refl, sym, subst, ◌∙◌, append_assoc, append-nil, arith}
 use Rattle.jffs_tree.specs.declared.wish.Wish.{Wish}
 use Rattle.jffs_line.specs.declared.request.Request.{Request}
 use Rattle.jffs_line.specs.Requests.{request}
@@ -18,7 +18,7 @@ loop-copy-preserved-in-Some-hand_in g c =
       copies = λ before was. hands_in_more before (g.H.Hand.accepted c.loop-copy.hand) (g.H.Hand.accepted c.hand_in.new.hand) c.loop-copy.end.handed_in 1 (c.loop-copy.invariant.copies before was) one;
       asked = (
         before.0 ++ r ∷ [],
-        c.in-Some-hand_in.ensures.asked ∙ (ap (λ (l : List Request). l ++ r ∷ []) before.1 ∙ append_assoc (g.H.Hand.accepted c.args.hand.now) before.0 (r ∷ [])),
+        rw (c.in-Some-hand_in.ensures.asked, before.1) (append_assoc (g.H.Hand.accepted c.args.hand.now) before.0 (r ∷ [])),
         asks_one before.0 r c.in-Some.copy c.loop-copy.copy-iterator.rest.items c.next.new.self.rest.items c.args.copies.items c.in-Some.ensures.steps.0 refl before.2,
       );
       sender = search rules;

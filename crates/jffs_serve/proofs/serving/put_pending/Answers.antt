@@ -9,12 +9,14 @@ use Rattle.jffs_serve.specs.Answered.{start_of, HasReplied}
 use Rattle.jffs_serve.proofs.Replying.{nothing_more, nothing_replied, no_reply, replied_put}
 use Rattle.jffs_serve.proofs.Showing.{can_put, steps_put, put_shown}
 use Rattle.jffs_serve.proofs.serving.put_pending.Goals as goal
+use Rattle.jffs_serve.proofs.serving.put_pending.Goals.{In-Some-Unput}
+
+unsent : (g : _) (c : In-Some-Unput g) → c.args.session.now.unsent ≡ Some (Unput c.in-Some-Unput.step c.in-Some-Unput.ending)
+unsent g c = search rules
 
 pub put-requires : goal.put-requires
 put-requires g c =
-    let arm = c.in-Some-Unput in
-    let unsent : c.args.session.now.unsent ≡ Some (Unput arm.step arm.ending) = search rules in
-    (can_put c.args.session.now c.args.publisher.now arm.step arm.ending unsent c.requires.ready).0
+    (can_put c.args.session.now c.args.publisher.now _ _ (unsent g (goal.at.put-requires g c).In-Some-Unput) c.requires.ready).0
 
 pub returns-in-Ok-clause-replies : goal.returns-in-Ok-clause-replies
 returns-in-Ok-clause-replies g c taken =
@@ -24,19 +26,15 @@ returns-in-Ok-clause-replies g c taken =
     let now = (all_put c.put.new.self).steps in
     let start = start_of session before taken in
     let arm = c.in-Some-Unput in
-    let unsent : session.unsent ≡ Some (Unput arm.step arm.ending) = search rules in
-    let unput = subst (λ (k : Option PendingStep). HasReplied start core k before taken []) unsent (nothing_replied session before taken) in
+    let is = unsent g (goal.at.returns-in-Ok-clause-replies g c).In-Some-Unput in
+    let unput = subst (λ (k : Option PendingStep). HasReplied start core k before taken []) is (nothing_replied session before taken) in
     nothing_more start core (Some (Unpublished arm.ending)) now taken None
     (replied_put start core arm.step arm.ending before now taken [] (steps_put c.args.publisher.now c.put.new.self arm.step c.put.ensures.published.0 c.in-Ok.ensures.pending) unput)
-    (ap (λ (k : Option PendingStep). or_closed (ending_of k) core.closed) unsent)
+    (ap (λ (k : Option PendingStep). or_closed (ending_of k) core.closed) is)
 
 pub returns-in-Ok-clause-ready : goal.returns-in-Ok-clause-ready
 returns-in-Ok-clause-ready g c =
-    let arm = c.in-Some-Unput in
-    let unsent : c.args.session.now.unsent ≡ Some (Unput arm.step arm.ending) = search rules in
-    record {
-      shown = put_shown c.args.session.now c.args.publisher.now c.put.new.self arm.step arm.ending unsent c.requires.ready c.in-Ok.ensures.view;
-    }
+    record { shown = put_shown c.args.session.now c.args.publisher.now c.put.new.self _ _ (unsent g (goal.at.returns-in-Ok-clause-ready g c).In-Some-Unput) c.requires.ready c.in-Ok.ensures.view }
 
 pub returns-in-Err-clause-replies : goal.returns-in-Err-clause-replies
 returns-in-Err-clause-replies g c taken =

@@ -18,8 +18,8 @@ same_replies : (g : _) (c : After-oldest_image g) → HasSameReplies c.args.self
 same_replies g c =
     let old : CoreState = c.args.self.now.core in
     let read = c.oldest_image.ensures in (
-      ap (λ (s : CoreState). s.answers) read.same,
-      ap (λ (s : CoreState). s.closed) read.same,
+      rw read.same refl,
+      rw read.same refl,
       refl,
       read_kept old c.oldest_image.new.self c.oldest_image.result (worked g c) read.same read.works read.refused read.stands,
     )

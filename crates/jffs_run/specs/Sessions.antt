@@ -1,5 +1,5 @@
 -- Sessions that follow one another on one device.
-use Rattle.std.specs.Prelude.{◌≡◌, ◌⊎◌, true, false, List, [], ◌∷◌, Ok}
+use Rattle.std.specs.Prelude.{◌≡◌, ◌⊎◌, true, List, [], ◌∷◌, Ok}
 use Rattle.jffs_tree.specs.State.{State}
 use Rattle.jffs_tree.specs.Origin.{state_in}
 use Rattle.jffs_flash.specs.Device.{Device}

@@ -1,4 +1,4 @@
-use Rattle.std.proofs.Common.{rules, inl, inr, ◌≡◌, List, ◌++◌, length, sym, ◌∙◌, ap, ap₂, subst, arith, vec_len, Option, Some, IfSome}
+use Rattle.std.proofs.Common.{rules, inl, inr, ◌≡◌, List, ◌++◌, sym, ◌∙◌, ap, ap₂, subst, arith, vec_len, Option, Some, None, IfSome}
 use Rattle.jffs_line.specs.Line.{senders}
 use Rattle.jffs_core.specs.CoreState.{CoreState}
 use Rattle.jffs_index.specs.declared.step.Step.{Step}
@@ -20,6 +20,17 @@ use Rattle.jffs_run.specs.declared.fault.RunWhy.{RunWhy}
 use Rattle.jffs_run.proofs.asked.Asked.{left_at_once, left_by_run}
 use Rattle.jffs_run.proofs.ends.Faults.{gives_back, gives_back_so, threads_later, index_mounted}
 use Rattle.jffs_run.proofs.run.run_over.Goals as goal
+use Rattle.jffs_run.proofs.run.run_over.Goals.{After-run_all-finished}
+
+-- nothing was owed when serving began, so it stopped with the first answer by which it ends
+stops : (g : _) (c : After-run_all-finished g) → let log = c.run_all-finished.result.log in
+    StopsAt None c.run_all-finished.ensures.finished.served.replies.0 (ending_in (Some log.served) log.side.session.core log.side.session.unsent)
+stops g c =
+    let log = c.run_all-finished.result.log in
+    let more = c.run_all-finished.ensures.finished.served.replies in
+    let opened = ap (λ (s : CoreState). s.closed) c.new.ensures.core ∙ c.requires.core.1 in
+    subst (λ (from : Option Unmounted). StopsAt from more.0 (ending_in (Some log.served) log.side.session.core log.side.session.unsent))
+    (nothing_owed c.new.result.core c.new.result.unsent c.new.ensures.unsent opened) more.2
 
 pub run_all-finished-requires-clause-crew : goal.run_all-finished-requires-clause-crew
 run_all-finished-requires-clause-crew g c κs within =
@@ -62,19 +73,15 @@ returns-clause-run g c =
     let start : Start = start_of c.new.result put taken in
     let more = ran.served.replies in
     let no_fault = settled.rest.3 in
-    let opened_then = ap (λ (s : CoreState). s.closed) c.new.ensures.core ∙ c.requires.core.1 in
-    let owes = nothing_owed c.new.result.core c.new.result.unsent c.new.ensures.unsent opened_then in
-    let stops = subst (λ (from : Option Unmounted). StopsAt from more.0 (ending_in (Some finished.log.served) finished.log.side.session.core finished.log.side.session.unsent)) owes more.2 in
     let opened = c.in-Ok.ensures.published in
-    let count : vec_len script.writers ≡ length script.writers.items = let ok = script.writers.ok in omega arith in
     let run = whole_run g.T.Of.Hand script.writers.items script.cleaner script.readers.items _ finished.hands
     finished.log.side.session.core finished.log.side.session.unsent (published finished.log.side.publisher) (pending finished.log.side.publisher)
     start (g.T.Taker.taken finished.log.side.taker) more.0 c.in_ok-run.run'.waiting.items finished.readers.items finished.log.served _ _
-    (let eight = line.eight in omega (arith, count)) (line.numbers ∙ ap senders count) ran.hands (ran.whole no_fault)
+    (let eight = line.eight in omega (arith, script.writers.ok.0)) (line.numbers ∙ ap senders script.writers.ok.0) ran.hands (ran.whole no_fault)
     line.untaken (ap (λ (s : CoreState). s.answers) c.new.ensures.core ∙ c.requires.core.0)
     (ap₂ (λ (s : List Step) (k : Option PendingStep). s ++ unput k) (ap₂ (λ (h : History) (s : List Step). h.steps ++ s) opened.0 opened.1) c.new.ensures.unsent)
     (ran.served.opening ∙ (ap (λ (h : History). h.opening) opened.0 ∙ sym (ap (λ (s : CoreState). s.tree) c.new.ensures.core)))
-    more.1 settled.settled.each settled.settled.numbered settled.settled.others (ran.readers no_fault) settled.left settled.worn stops in
+    more.1 settled.settled.each settled.settled.numbered settled.settled.others (ran.readers no_fault) settled.left settled.worn (stops g (goal.at.returns-clause-run g c).After-run_all-finished) in
     rw (← c.new.ensures.core, c.of-accepted.ensures, settled.rest.0, settled.rest.1, settled.rest.2) run
 
 pub returns-in-Err-clause-fault : goal.returns-in-Err-clause-fault
@@ -91,14 +98,10 @@ returns-in_err-run-clause-fault g c =
     let settled = c.in_err-run.ensures in
     let start : Start = start_of c.new.result (all_put c.in-Ok.opened.publisher).steps (g.T.Taker.taken c.args.line.taker) in
     let more = ran.served.replies in
-    let opened_then = ap (λ (s : CoreState). s.closed) c.new.ensures.core ∙ c.requires.core.1 in
-    let owes = nothing_owed c.new.result.core c.new.result.unsent c.new.ensures.unsent opened_then in
-    let stops = subst (λ (from : Option Unmounted). StopsAt from more.0 (ending_in (Some finished.log.served) finished.log.side.session.core finished.log.side.session.unsent)) owes more.2 in
-    let count : vec_len script.writers ≡ length script.writers.items = let ok = script.writers.ok in omega arith in
     let turned = gives_back_so g.F.Flash.device _ (LeftByRun script.writers.items c.args.core) _
     (λ why d given.
     let later = threads_later why (elim given.0 [ inl threads ↦ inl (subst (λ (o : Option RunWhy). IfSome o IsOfThreads) threads ran.named) | inr settle ↦ inr settle ]) in
     left_by_run g.T.Of.Hand script.writers.items _ finished.hands c.args.core finished.log.side.session.core _ _ start _ more.0 _ why d c.new.ensures.core
-    (line.numbers ∙ ap senders count) ran.hands line.untaken more.1 settled.taken stops later.mounted later.opened given.1)
+    (line.numbers ∙ ap senders script.writers.ok.0) ran.hands line.untaken more.1 settled.taken (stops g (goal.at.returns-in_err-run-clause-fault g c).After-run_all-finished) later.mounted later.opened given.1)
     settled.fault in
     err_from c.from_residual.result _ (GivesBack g.F.Flash.device (LeftByRun script.writers.items c.args.core)) c.from_residual.ensures.1 turned

@@ -1,7 +1,6 @@
 -- What a run leaves on its device.
-use Rattle.std.proofs.Common.{◌≡◌, inl, inr, false, List, map, sym, subst, ◌∙◌, arith}
+use Rattle.std.proofs.Common.{◌≡◌, inl, inr, false, List, sym, subst, ◌∙◌, arith}
 use Rattle.std.proofs.lemmas.Bool.{cases_Bool, false_from_ne_true}
-use Rattle.jffs_node.specs.declared.node.Node.{Node}
 use Rattle.jffs_log.specs.Image.{past_of}
 use Rattle.jffs_log.specs.Volume.{split}
 use Rattle.jffs_log.specs.Scan.{scan}
@@ -11,26 +10,31 @@ use Rattle.jffs_core.specs.declared.answer.Answer.{Answer}
 use Rattle.jffs_core.proofs.scans.Scanning.{scans_find, failed_finds_with}
 use Rattle.jffs_serve.specs.Chain.{RunsTo}
 use Rattle.jffs_serve.specs.ChainLaws.{EndsSo, volume_of, IsRequested, any_failure}
-use Rattle.jffs_serve.specs.Replies.{Reply, AllReply, answer_in}
+use Rattle.jffs_serve.specs.Replies.{Reply}
 use Rattle.jffs_serve.proofs.ChainLaws.{chains_end_so, failures_are_faults, replies_are_lawful}
 use Rattle.jffs_flash.specs.Device.{Device}
 use Rattle.jffs_log.specs.ScanFound.{scan_of}
-use Rattle.jffs_core.specs.Past.{IsFresh, IsLeftBy, Represents}
+use Rattle.jffs_core.specs.Past.{IsFresh, IsLeftBy}
 use Rattle.jffs_core.specs.Erases.{UsesDevice}
-use Rattle.jffs_run.specs.Headline.{requests_in}
+use Rattle.jffs_run.specs.Account.{Account}
+use Rattle.jffs_run.specs.Headline.{IsRun, requests_in}
 use Rattle.jffs_run.specs.Scanned.{RunsLeaveContents, FailedRunsLeaveHistory, RunsWithoutFaults}
 
 -- from the log that was mounted, the answers are lawful for the requests
 lawful_answers :
-    (start core : CoreState) (mounted : List Node) (replies : List Reply) (answers : List Answer)
-    → AllReply replies → answers ≡ map answer_in replies → (ran : RunsTo start core mounted mounted replies)
-    → IsLawful (volume_of start) mounted (requests_in replies) answers ran.after
-lawful_answers start core mounted replies answers all are ran =
-    subst (λ (given : List Answer). IsLawful (volume_of start) mounted (requests_in replies) given ran.after) (sym are) (replies_are_lawful start core mounted mounted replies all ran)
+    {before : Device} {start : CoreState} {account : Account} (fresh : IsFresh before start) (run : IsRun start account)
+    (ran : RunsTo start run.core (past_of fresh.scanned.log) (past_of fresh.scanned.log) run.replies)
+    → IsLawful (volume_of start) (past_of fresh.scanned.log) (requests_in run.replies) account.answers ran.after
+lawful_answers {start = start} fresh run ran =
+    let mounted = past_of fresh.scanned.log in
+    subst (λ (given : List Answer). IsLawful (volume_of start) mounted (requests_in run.replies) given ran.after) (sym run.answers_are)
+    (replies_are_lawful start run.core mounted mounted run.replies run.each_replies ran)
 
 -- what the chain of a run from a mount on tells of its end
-pub ends_so : (start core : CoreState) (mounted : List Node) (replies : List Reply) → Represents mounted mounted start → (ran : RunsTo start core mounted mounted replies) → EndsSo mounted mounted start core replies ran.after
-ends_so start core mounted replies stands ran = chains_end_so mounted mounted ran.after start core replies stands ran.chain
+pub ends_so :
+    {before : Device} {start core : CoreState} {replies : List Reply} (fresh : IsFresh before start) (ran : RunsTo start core (past_of fresh.scanned.log) (past_of fresh.scanned.log) replies)
+    → EndsSo (past_of fresh.scanned.log) (past_of fresh.scanned.log) start core replies ran.after
+ends_so {start = start} {core = core} {replies = replies} fresh ran = chains_end_so _ _ ran.after start core replies fresh.stands ran.chain
 
 -- where the device's count of failed erases is as it was, none failed
 pub no_erase_failed : (before after : Device) (start core : CoreState) → IsFresh before start → IsLeftBy core after → UsesDevice start core → after.failed_erases ≡ before.failed_erases → core.erase_failed ≡ false
@@ -46,13 +50,12 @@ same_scan core device left = λ i. scan (left.sizes.1 i) (split (left.sizes.0 i)
 
 pub runs_leave_contents : RunsLeaveContents
 runs_leave_contents before start account fresh run works =
-    let mounted = past_of fresh.scanned.log in
-    let ran = run.lawful mounted mounted fresh.stands in
-    let ends = ends_so start run.core mounted run.replies fresh.stands ran in
-    let finds = scans_find mounted ran.after run.core ends.stands works in
+    let ran = run.lawful _ _ fresh.stands in
+    let ends = ends_so fresh ran in
+    let finds = scans_find _ ran.after run.core ends.stands works in
     record {
       after = ran.after;
-      lawful = lawful_answers start run.core mounted run.replies account.answers run.each_replies run.answers_are ran;
+      lawful = lawful_answers fresh run ran;
       added = finds.added;
       since = finds.since;
       scanned = finds.scanned;
@@ -62,15 +65,13 @@ runs_leave_contents before start account fresh run works =
 
 pub failed_runs_leave_history : FailedRunsLeaveHistory
 failed_runs_leave_history before start account fresh run fails intact =
-    let mounted = past_of fresh.scanned.log in
-    let ran = run.lawful mounted mounted fresh.stands in
-    let left = run.left in
-    let ends = ends_so start run.core mounted run.replies fresh.stands ran in
-    let f = failed_finds_with (IsRequested (volume_of start) run.replies ran.after) mounted ran.after run.core (let s = ends.stands in s.grown) (ends.in_hand fresh.works fails)
-    (no_erase_failed before account.device start run.core fresh left ends.device intact) in
+    let ran = run.lawful _ _ fresh.stands in
+    let ends = ends_so fresh ran in
+    let f = failed_finds_with (IsRequested (volume_of start) run.replies ran.after) _ ran.after run.core (let s = ends.stands in s.grown) (ends.in_hand fresh.works fails)
+    (no_erase_failed before account.device start run.core fresh run.left ends.device intact) in
     record {
       after = ran.after;
-      lawful = lawful_answers start run.core mounted run.replies account.answers run.each_replies run.answers_are ran;
+      lawful = lawful_answers fresh run ran;
       finds = record {
         scanned = f.scanned;
         found = same_scan run.core account.device run.left ∙ f.found;
@@ -82,15 +83,14 @@ failed_runs_leave_history before start account fresh run fails intact =
 
 pub runs_without_faults : RunsWithoutFaults
 runs_without_faults before start account fresh run same =
-    let mounted = past_of fresh.scanned.log in
-    let ran = run.lawful mounted mounted fresh.stands in
+    let ran = run.lawful _ _ fresh.stands in
     let left = run.left in
-    let ends = ends_so start run.core mounted run.replies fresh.stands ran in
+    let ends = ends_so fresh ran in
     let still : run.core.faults ≡ start.faults = sym left.faults_are ∙ (same ∙ fresh.device_is.faults_are) in
     let works : run.core.failed ≡ false = elim (cases_Bool run.core.failed) [
       | inl fails ↦ absurd (let risen = ends.faults fresh.works fails in omega (arith, still, risen))
       | inr works ↦ works
     ] in (
-      subst (λ (given : List Answer). any_failure given ≡ false) (sym run.answers_are) (failures_are_faults start run.core mounted mounted run.replies fresh.stands ran fresh.works still),
+      subst (λ (given : List Answer). any_failure given ≡ false) (sym run.answers_are) (failures_are_faults start run.core _ _ run.replies fresh.stands ran fresh.works still),
       runs_leave_contents before start account fresh run works,
     )

@@ -64,9 +64,8 @@ state_mounted before start fresh =
 
 pub runs_are_free : RunsAreFree
 runs_are_free before start account fresh run =
-    let mounted = past_of fresh.scanned.log in
-    let ran = run.lawful mounted mounted fresh.stands in
-    subst (λ (s : State). AllFree s run.replies) (state_mounted before start fresh) (chain_free mounted mounted ran.after start run.core run.replies ran.chain)
+    let ran = run.lawful _ _ fresh.stands in
+    subst (λ (s : State). AllFree s run.replies) (state_mounted before start fresh) (chain_free _ _ ran.after start run.core run.replies ran.chain)
 
 -- a run's turns
 abbrev pub turns_of : (start : CoreState) (account : Account) → IsRun start account → LeftByTurns start account.device
@@ -84,16 +83,15 @@ pub turned_done :
     (before after : Device) (start : CoreState) (fresh : IsFresh before start) (turns : LeftByTurns start after) → turns.core.failed ≡ false
     → ScanFinds (λ s. s ≡ granted_done fresh turns.replies) after.sectors after.sector_size after.image
 turned_done before after start fresh turns works =
-    let mounted = past_of fresh.scanned.log in
-    let ran = turns.lawful mounted mounted fresh.stands in
-    let ends = ends_so start turns.core mounted turns.replies fresh.stands ran in
+    let ran = turns.lawful _ _ fresh.stands in
+    let ends = ends_so fresh ran in
     let s = ends.stands in
-    let finds = scans_find mounted ran.after turns.core s works in
+    let finds = scans_find _ ran.after turns.core s works in
     record {
       scanned = finds.scanned;
       found = same_scan turns.core after turns.left ∙ finds.found;
       state_is = ap state_in finds.tree_is ∙ state_known ran.after turns.core (s.stands.working works)
-          ∙ chain_done mounted mounted ran.after start turns.core turns.replies ran.chain
+          ∙ chain_done _ _ ran.after start turns.core turns.replies ran.chain
           ∙ ap (λ x. done_by_all x turns.replies) (state_mounted before start fresh);
     }
 
@@ -102,20 +100,19 @@ granted_is_done before start account fresh run works = turned_done before accoun
 
 pub each_is_done : EachIsDone
 each_is_done before start account fresh run first later r are tells =
-    let mounted = past_of fresh.scanned.log in
-    let turn = turn_in run mounted first r later fresh.stands are in
+    let turn = turn_in fresh run first r later are in
     let at = turn.within in
     let s = at.replied.answer.answers.stands in
     let now_works = fails_as at.replied ∙ tells in
-    let finds = scans_find mounted (after_reply at.replied) at.now s now_works in (
+    let finds = scans_find _ (after_reply at.replied) at.now s now_works in (
       turn,
       record {
         scanned = finds.scanned;
         found = finds.found;
         state_is = ap state_in finds.tree_is ∙ state_known (after_reply at.replied) at.now (s.stands.working now_works)
-            ∙ reply_done mounted at.taken at.was at.now r at.replied
+            ∙ reply_done _ at.taken at.was at.now r at.replied
             ∙ ap (λ x. done_by x r.request.wish r.step.outcome)
-            (chain_done mounted mounted at.taken start at.was first at.so_far ∙ ap (λ x. done_by_all x first) (state_mounted before start fresh))
+            (chain_done _ _ at.taken start at.was first at.so_far ∙ ap (λ x. done_by_all x first) (state_mounted before start fresh))
             ∙ sym (done_last (state_in fresh.scanned.tree) first r);
       },
     )
@@ -142,13 +139,11 @@ pub turned_failed :
     → turns.core.failed ≡ true → after.failed_erases ≡ before.failed_erases
     → ScanFinds (λ s. (s ≡ granted_done fresh turns.replies) ⊎ IsDoneToo turns.replies (granted_done fresh turns.replies) s) after.sectors after.sector_size after.image
 turned_failed before after start fresh turns fails intact =
-    let mounted = past_of fresh.scanned.log in
-    let ran = turns.lawful mounted mounted fresh.stands in
-    let left = turns.left in
-    let ends = ends_so start turns.core mounted turns.replies fresh.stands ran in
+    let ran = turns.lawful _ _ fresh.stands in
+    let ends = ends_so fresh ran in
     let f = failed_found (IsRequested (volume_of start) turns.replies ran.after) ran.after turns.core (ends.in_hand fresh.works fails)
-    (no_erase_failed before after start turns.core fresh left ends.device intact) in
-    let done_all = chain_done mounted mounted ran.after start turns.core turns.replies ran.chain ∙ ap (λ x. done_by_all x turns.replies) (state_mounted before start fresh) in
+    (no_erase_failed before after start turns.core fresh turns.left ends.device intact) in
+    let done_all = chain_done _ _ ran.after start turns.core turns.replies ran.chain ∙ ap (λ x. done_by_all x turns.replies) (state_mounted before start fresh) in
     record {
       scanned = f.0;
       found = same_scan turns.core after turns.left ∙ f.1;

@@ -2,7 +2,6 @@
 use Rattle.std.proofs.Common.{◌≡◌, ℕ, ◌<◌, ◌≤◌, false, List, [], ◌∷◌, refl, sym, ap, ◌∙◌}
 use Rattle.jffs_flash.specs.Device.{Device}
 use Rattle.jffs_node.specs.declared.node.Node.{Node}
-use Rattle.jffs_log.specs.Image.{past_of}
 use Rattle.jffs_log.specs.Wear.{sector_after_each}
 use Rattle.jffs_log.proofs.erase.Wear.{wear_even}
 use Rattle.jffs_log.proofs.erase.WearOverSessions.{sessions_wear_evenly}
@@ -10,11 +9,11 @@ use Rattle.jffs_core.specs.CoreState.{CoreState}
 use Rattle.jffs_core.specs.Past.{Represents, IsLeftBy}
 use Rattle.jffs_core.specs.Erases.{ErasesInTurn}
 use Rattle.jffs_core.proofs.room.Erasing.{mounts_go_on, uses_along}
-use Rattle.jffs_serve.specs.ChainLaws.{EndsSo}
-use Rattle.jffs_serve.proofs.ChainLaws.{chains_end_so, worked_before}
+use Rattle.jffs_serve.proofs.ChainLaws.{worked_before}
 use Rattle.jffs_run.specs.Sessions.{Stretch, Sessions}
 use Rattle.jffs_run.specs.Wear.{IsWornEvenly, EachRunWearsEvenly, ErasedInSessions, EndWorking, SessionsWearEvenly, RunsWearEvenly}
-use Rattle.jffs_run.proofs.promises.Turns.{turn_in}
+use Rattle.jffs_run.proofs.ends.Scanning.{ends_so}
+use Rattle.jffs_run.proofs.promises.Turns.{turn_in, so_far}
 
 worn : (start now : CoreState) → start.index.first < start.index.sectors → ErasesInTurn start now → IsWornEvenly start now
 worn start now begins erases = record {
@@ -24,16 +23,14 @@ worn start now begins erases = record {
 
 each_run_wears_evenly : EachRunWearsEvenly
 each_run_wears_evenly before start account fresh run =
-    let mounted = past_of fresh.scanned.log in
-    let ran = run.lawful mounted mounted fresh.stands in
-    let so : EndsSo mounted mounted start run.core run.replies ran.after = chains_end_so mounted mounted ran.after start run.core run.replies fresh.stands ran.chain in (
+    let so = ends_so fresh (run.lawful _ _ fresh.stands) in (
       λ works. worn start run.core fresh.begins (let device = so.device in device.erases works),
       λ first later r are.
-          let turn = turn_in run mounted first r later fresh.stands are in
+          let turn = turn_in fresh run first r later are in
           let at = turn.within in
-          let so_far : EndsSo mounted mounted start at.was first at.taken = chains_end_so mounted mounted at.taken start at.was first fresh.stands at.so_far in
+          let before_it = so_far fresh turn in
           let erases = at.replied.erases in
-          (turn, λ works. worn start at.now fresh.begins (let device = uses_along start at.was at.now (worked_before at.replied) so_far.device erases.device in device.erases works)),
+          (turn, λ works. worn start at.now fresh.begins (let device = uses_along start at.was at.now (worked_before at.replied) before_it.device erases.device in device.erases works)),
     )
 
 -- the first of these sessions begins with that sector
@@ -59,16 +56,15 @@ each_erased count first device (stretch ∷ later) sessions worked at =
     let session = sessions.1 in
     let turns = session.turns in
     let start = session.start in
-    let mounted = past_of session.fresh.scanned.log in
-    let ran = turns.lawful mounted mounted session.fresh.stands in
-    let so : EndsSo mounted mounted start turns.core turns.replies ran.after = chains_end_so mounted mounted ran.after start turns.core turns.replies session.fresh.stands ran.chain in
+    let ran = turns.lawful _ _ session.fresh.stands in
+    let so = ends_so session.fresh ran in
     let erased = (let device = so.device in device.erases worked.0) in
     let turned = erased.turned in
     let to : turns.core.index.first ≡ sector_after_each count first turned.many =
     turned.first
     ∙ ap (λ (c : ℕ). sector_after_each c start.index.first turned.many) at.0
     ∙ ap (λ (f : ℕ). sector_after_each count f turned.many) at.1 in
-    let begins = next_begins count (sector_after_each count first turned.many) mounted ran.after turns.core stretch.left later sessions.3 so.stands worked.0 worked.1 turns.left (turned.sectors ∙ at.0) to in
+    let begins = next_begins count (sector_after_each count first turned.many) _ ran.after turns.core stretch.left later sessions.3 so.stands worked.0 worked.1 turns.left (turned.sectors ∙ at.0) to in
     let rest = each_erased count (sector_after_each count first turned.many) stretch.left later sessions.3 worked.2 begins in
     (turned.many ∷ rest.0, (record { erases = erased; many_are = refl; sectors = at.0; begins = at.1 }, rest.1))
 

@@ -76,18 +76,19 @@ steps_cut opening replies first statement end outcome begins shows fits =
     let all = cut step replies first.steps begins.0 (ap (λ (h : History). h.steps) begins.1) in
     let parts = cut step all.0 shows.before (shows.step ∷ shows.after) (all.3 ∙ shows.steps_are) in
     let one = cut_first step parts.1 shows.step shows.after parts.4 in
-    let seen : all.0 ≡ parts.0 ++ one.0 ∷ one.1 = parts.2 ∙ ap (λ (l : List Reply). parts.0 ++ l) one.2 in
-    let same : first ≡ history_of opening (parts.0 ++ one.0 ∷ one.1) =
-    ap₂ (λ (t : Tree) (l : List Step). let h : History = record { opening = t; steps = l } in h) (sym (ap (λ (h : History). h.opening) begins.1)) (sym all.3 ∙ ap (map step) seen) in
+    let seen : all.0 ≡ parts.0 ++ one.0 ∷ one.1 = rw one.2 at parts.2 in
+    let steps_are : first.steps ≡ map step (parts.0 ++ one.0 ∷ one.1) = rw seen at (sym all.3) in
+    let tree_is : first.opening ≡ opening = sym (ap (λ (h : History). h.opening) begins.1) in
+    let same : first ≡ history_of opening (parts.0 ++ one.0 ∷ one.1) = λ i. record { opening = tree_is i; steps = steps_are i } in
     record {
       before = parts.0;
       reply = one.0;
       after = one.1;
       rest = all.1;
-      replies_are = all.2 ∙ ap (λ (l : List Reply). l ++ all.1) seen;
+      replies_are = rw seen at all.2;
       writer_is = ap (λ (s : Step). s.writer) one.3 ∙ shows.sender_is;
       number_is = ap (λ (s : Step). s.seq) one.3 ∙ shows.number_is;
-      read = subst (λ (h : History). FitsPath (view_of h) statement.path end) same fits;
+      read = rw same at fits;
     }
 
 -- a view that shows the awaited answer shows its reply

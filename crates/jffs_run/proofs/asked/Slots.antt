@@ -5,22 +5,22 @@ use Rattle.jffs_text.specs.declared.script.Writer.{Writer}
 use Rattle.jffs_run.specs.Ends.{EachFrom, commands_of}
 
 -- the same fact of the same list, written in another way
-pub EachFrom-same : {X : Type 0} (P : ℕ → X → Type 0) (n m : ℕ) (xs ys : List X) → n ≡ m → xs ≡ ys → EachFrom P n xs → EachFrom P m ys
+EachFrom-same : {X : Type 0} (P : ℕ → X → Type 0) (n m : ℕ) (xs ys : List X) → n ≡ m → xs ≡ ys → EachFrom P n xs → EachFrom P m ys
 EachFrom-same {X} P n m xs ys slot list each =
     subst (λ (k : ℕ). EachFrom P k ys) slot (subst (λ (zs : List X). EachFrom P n zs) list each)
 
--- the first element, and the others
-pub EachFrom-next : {X : Type 0} (P : ℕ → X → Type 0) (n m : ℕ) (xs : List X) (x : X) (rest : List X) → m ≡ n + 1 → xs ≡ x ∷ rest → EachFrom P n xs → P n x × EachFrom P m rest
-EachFrom-next {X} P n m xs x rest slot list each =
-    let both = EachFrom-same P n n xs (x ∷ rest) refl list each in
-    (both.0, EachFrom-same P (n + 1) m rest rest (sym slot) refl both.1)
-
 -- an element more
-pub EachFrom-push : {X : Type 0} (P : ℕ → X → Type 0) (n : ℕ) (xs : List X) (x : X) → EachFrom P n xs → P (n + length xs) x → EachFrom P n (xs ++ x ∷ [])
+EachFrom-push : {X : Type 0} (P : ℕ → X → Type 0) (n : ℕ) (xs : List X) (x : X) → EachFrom P n xs → P (n + length xs) x → EachFrom P n (xs ++ x ∷ [])
 EachFrom-push {X} P n [] x each here = let e : n + length {A = X} [] ≡ n = omega arith in (subst (λ (k : ℕ). P k x) e here, tt)
 EachFrom-push P n (y ∷ ys) x each here =
     let e : n + length (y ∷ ys) ≡ (n + 1) + length ys = omega arith in
     (each.0, EachFrom-push P (n + 1) ys x each.1 (subst (λ (k : ℕ). P k x) e here))
+
+-- the list with that element more, whose slot is written in another way
+pub EachFrom-more : {X : Type 0} (P : ℕ → X → Type 0) (xs now : List X) (x : X) (slot : ℕ) → now ≡ xs ++ x ∷ [] → slot ≡ length xs → EachFrom P 0 xs → P slot x → EachFrom P 0 now
+EachFrom-more P xs now x slot is last each here =
+    let at : slot ≡ 0 + length xs = omega arith in
+    EachFrom-same P 0 0 _ now refl (sym is) (EachFrom-push P 0 xs x each (subst (λ (k : ℕ). P k x) at here))
 
 -- the commands of a writer, whatever stands for one that isn't there
 pub commands-at : (writers : List Writer) (i : ℕ) (d : Writer) → i < length writers → get_or (commands_of writers) i [] ≡ (get_or writers i d).commands.items
@@ -29,11 +29,7 @@ commands-at (writer ∷ writers) zero d below = refl
 commands-at (writer ∷ writers) (suc i) d below = commands-at writers i d (omega arith)
 
 -- an element moves from the front of one list to the end of another, and what both show stays
-pub moved : {X Y E : Type 0} (f : X → E) (k : Y → E) (xs now : List X) (x : X) (from : List Y) (y : Y) (rest : List Y) (all : List E)
-    → now ≡ xs ++ x ∷ [] → from ≡ y ∷ rest → f x ≡ k y → map f xs ++ map k from ≡ all → map f now ++ map k rest ≡ all
-moved {X} {Y} {E} f k xs now x from y rest all is begins same was =
-    ap (λ (l : List X). map f l ++ map k rest) is
-    ∙ (ap (λ (l : List E). l ++ map k rest) (map-append f xs (x ∷ []))
-    ∙ (append_assoc (map f xs) (f x ∷ []) (map k rest)
-    ∙ (ap (λ (e : E). map f xs ++ e ∷ map k rest) same
-    ∙ (ap (λ (l : List Y). map f xs ++ map k l) (sym begins) ∙ was))))
+pub moved : {X Y E : Type 0} (f : X → E) (k : Y → E) (xs : List X) (x : X) (y : Y) (rest : List Y) → f x ≡ k y → map f (xs ++ x ∷ []) ++ map k rest ≡ map f xs ++ map k (y ∷ rest)
+moved {E = E} f k xs x y rest same =
+    ap (λ (l : List E). l ++ map k rest) (map-append f xs (x ∷ []))
+    ∙ (append_assoc (map f xs) (f x ∷ []) (map k rest) ∙ ap (λ (e : E). map f xs ++ e ∷ map k rest) same)

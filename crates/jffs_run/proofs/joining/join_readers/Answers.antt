@@ -1,9 +1,8 @@
-use Rattle.std.proofs.Common.{rules, ◌≡◌, ◌+◌, ◌∷◌, length, refl, sym, ap, arith, vec_len}
+use Rattle.std.proofs.Common.{rules, ◌≡◌, ◌+◌, ◌∷◌, length, arith, vec_len}
 use Rattle.std.specs.Vec.Iter.{into_iter_items}
 use Rattle.jffs_index.specs.Ends.{published, publisher_index, told_of}
 use Rattle.jffs_run.specs.Looking.{HasSeen}
-use Rattle.jffs_run.specs.Started.{IsLooking}
-use Rattle.jffs_run.proofs.asked.Slots.{EachFrom-same, EachFrom-next, EachFrom-push}
+use Rattle.jffs_run.proofs.asked.Slots.{EachFrom-more}
 use Rattle.jffs_run.proofs.ends.Seeing.{has_seen}
 use Rattle.jffs_run.proofs.joining.join_readers.Goals as goal
 
@@ -14,18 +13,16 @@ loop-handle-preserved g c =
     let pushed = c.push_reserved.ensures in
     let index = publisher_index c.args.publisher.now in
     let longer : vec_len c.push_reserved.new.self ≡ vec_len c.loop-handle.ends + 1 = search rules in
-    let here : vec_len c.loop-handle.ends ≡ 0 + length c.loop-handle.ends.items = let ok = c.loop-handle.ends.ok in omega arith in
     record {
       can = search rules;
       ends = search rules;
-      count = let cons : length (into_iter_items c.loop-handle.handle-iterator) ≡ length (c.in-Some.handle ∷ into_iter_items c.next.new.self) = ap length step.0 in let count = before.count in omega arith;
+      count = let cons : length (into_iter_items c.loop-handle.handle-iterator) ≡ length (c.in-Some.handle ∷ into_iter_items c.next.new.self) = rw step.0 in let count = before.count in omega arith;
       room = let room = before.room in omega (arith, pushed.capacity);
       whole = before.whole;
-      started = λ statements each. (EachFrom-next (IsLooking index statements) _ _ _ _ _ longer step.0 (before.started statements each)).1;
+      started = λ statements each. rw longer (rw step.0 at (before.started statements each)).1;
       seen = λ statements history each whole.
-          let looking = (EachFrom-next (IsLooking index statements) _ _ _ _ _ longer step.0 (before.started statements each)).0 in
+          let looking = (rw step.0 at (before.started statements each)).0 in
           let now = has_seen (published c.args.publisher.now) history (told_of c.tell.result) c.args.answered index statements (vec_len c.loop-handle.ends)
           c.in-Some.handle c.join-reader.result c.last_look.result looking c.join-reader.ensures.1 c.tell.ensures.0 whole c.last_look.ensures in
-          EachFrom-same (HasSeen history statements) 0 0 _ _ refl (sym pushed.items)
-          (EachFrom-push (HasSeen history statements) 0 c.loop-handle.ends.items _ (before.seen statements history each whole) (rw (← here) now));
+          EachFrom-more (HasSeen history statements) c.loop-handle.ends.items _ _ _ pushed.items c.loop-handle.ends.ok.0 (before.seen statements history each whole) now;
     }

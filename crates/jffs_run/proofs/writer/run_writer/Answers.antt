@@ -1,8 +1,5 @@
-use Rattle.std.proofs.Common.{◌≡◌, ◌+◌, ◌++◌, ◌∷◌, [], ℕ, List, length, arith, sym, ◌∙◌, ap, length-append}
-use Rattle.jffs_tree.specs.declared.wish.Wish.{Wish}
+use Rattle.std.proofs.Common.{◌≡◌, ◌+◌, ℕ, List, length, arith, sym, ◌∙◌, length-append}
 use Rattle.jffs_line.specs.declared.request.Request.{Request}
-use Rattle.jffs_line.specs.Requests.{request}
-use Rattle.jffs_text.specs.Wishes.{wish_of}
 use Rattle.jffs_run.proofs.asked.Numbers.{numbered-more}
 use Rattle.jffs_run.proofs.writer.run_writer.Goals as goal
 
@@ -15,15 +12,10 @@ loop-command-preserved g c =
     let added = c.offer_until.ensures.accepted c.in-Accepted.is in
     let more = numbered-more sender 1 c.args.commands.now slot c.command-item.result c.loop-command-test.true (sym c.command-item.is) in
     let number : length old + 1 ≡ 1 + slot = let count = before.count in omega arith in
-    let longer : length (g.H.Hand.accepted c.offer_until.new.hand) ≡ length old + 1 = ap (length {A = Request}) added ∙ length-append {A = Request} old _ in
+    let longer : length (g.H.Hand.accepted c.offer_until.new.hand) ≡ length old + 1 = rw (added, length-append) in
     record {
       sender = c.offer_until.ensures.end.0 ∙ before.sender;
       line = c.offer_until.ensures.end.1 ∙ before.line;
       count = let count = before.count in omega arith;
-      accepted = added
-          ∙ (ap (λ (w : ℕ). old ++ request w (length old + 1) c.in-Ok.wish ∷ []) before.sender
-          ∙ (ap (λ (n : ℕ). old ++ request sender n c.in-Ok.wish ∷ []) number
-          ∙ (ap (λ (x : Wish). old ++ request sender (1 + slot) x ∷ []) c.in-Ok.ensures
-          ∙ (ap (λ (rs : List Request). rs ++ request sender (1 + slot) (wish_of c.command-item.result) ∷ []) before.accepted
-          ∙ sym more))));
+      accepted = rw (added, before.sender, number, c.in-Ok.ensures, before.accepted) (sym more);
     }

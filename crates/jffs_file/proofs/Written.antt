@@ -1,6 +1,6 @@
 -- What a store holds once bytes in memory were written through, and what may be left of a call that
 -- failed.
-use Rattle.std.proofs.Common.{◌≡◌, ℕ, zero, suc, ◌+◌, ◌*◌, ◌<◌, ◌≤◌, List, [], ◌∷◌, ◌++◌, length, take, drop, replicate, Some, refl, sym, ap, subst, ◌∙◌, arith, append_assoc}
+use Rattle.std.proofs.Common.{◌≡◌, ℕ, zero, suc, ◌+◌, ◌*◌, ◌<◌, ◌≤◌, List, [], ◌∷◌, ◌++◌, length, take, drop, replicate, Some, refl, sym, ap, subst₂, ◌∙◌, arith, append_assoc}
 use Rattle.std.specs.Prelude.{Option}
 use Rattle.std.proofs.lemmas.List.{length-take-le, length-replicate}
 use Rattle.std.proofs.Math.Nat.{mul-le-mul_right}
@@ -70,11 +70,13 @@ PutsPart at bytes old new =
     (image : List ℕ) → old ≡ Some image → at + length bytes ≤ length image
     → (count : ℕ) × (new ≡ Some (replaced at (first_part count bytes (window at (length bytes) image)) image))
 
--- what is read from memory at the offset of these bytes
-put_there : (at n : ℕ) (part image : List ℕ) → length part ≡ n → at + n ≤ length image
-    → window at n (replaced at part image) ≡ part
-put_there at n part image long inside =
-    ap (λ k. window at k (replaced at part image)) (sym long) ∙ window-replaced at part image (omega arith)
+-- what is so of the bytes that are read from memory where a part was put is so of that part
+of_put : (Puts : ℕ → List ℕ → Type 0) (offset at len n : ℕ) (part image now : List ℕ)
+    → offset ≡ at → len ≡ n → length part ≡ n → at + n ≤ length image → now ≡ replaced at part image
+    → Puts offset (window offset len now) → Puts at part
+of_put Puts offset at len n part image now there many long inside is =
+    let read : window offset len now ≡ part = (λ i. window (there i) ((many ∙ sym long) i) (is i)) ∙ window-replaced at part image (omega arith) in
+    subst₂ Puts there read
 
 -- after a write that passed the store holds what stands in memory
 pub kept_written : (offset at len n : ℕ) (part image now : List ℕ) (old new : Option (List ℕ))
@@ -83,12 +85,7 @@ pub kept_written : (offset at len n : ℕ) (part image now : List ℕ) (old new 
     → old ≡ Some image
     → new ≡ Some now
 kept_written offset at len n part image now old new there many long inside is over same =
-    let P : ℕ → Type 0 = λ p. PutsAll p (window p len now) old new in
-    let N : ℕ → Type 0 = λ k. PutsAll at (window at k now) old new in
-    let Q : List ℕ → Type 0 = λ xs. PutsAll at (window at n xs) old new in
-    let R : List ℕ → Type 0 = λ xs. PutsAll at xs old new in
-    let puts = subst R (put_there at n part image long inside) (subst Q is (subst N many (subst P there over))) in
-    puts image same (omega arith) ∙ ap (λ (xs : List ℕ). Some xs) (sym is)
+    of_put (λ p xs. PutsAll p xs old new) offset at len n part image now there many long inside is over image same (omega arith) ∙ ap (λ (xs : List ℕ). Some xs) (sym is)
 
 -- after one that failed it holds a first part of that
 pub left_written : (offset at len n : ℕ) (part image now : List ℕ) (old new : Option (List ℕ))
@@ -97,12 +94,7 @@ pub left_written : (offset at len n : ℕ) (part image now : List ℕ) (old new 
     → old ≡ Some image
     → (count : ℕ) × (new ≡ Some (replaced at (first_part count part (window at n image)) image))
 left_written offset at len n part image now old new there many long inside is over same =
-    let P : ℕ → Type 0 = λ p. PutsPart p (window p len now) old new in
-    let N : ℕ → Type 0 = λ k. PutsPart at (window at k now) old new in
-    let Q : List ℕ → Type 0 = λ xs. PutsPart at (window at n xs) old new in
-    let R : List ℕ → Type 0 = λ xs. PutsPart at xs old new in
-    let puts = subst R (put_there at n part image long inside) (subst Q is (subst N many (subst P there over))) in
-    let some = puts image same (omega arith) in
+    let some = of_put (λ p xs. PutsPart p xs old new) offset at len n part image now there many long inside is over image same (omega arith) in
     (some.0, some.1 ∙ ap (λ k. Some (replaced at (first_part some.0 part (window at k image)) image)) long)
 
 -- the new bytes of a program are as many as were given

@@ -59,8 +59,10 @@ one_less old new some first = from old.calls refl
         omega arith
 
 -- callers see as many bytes as the sectors have
-pub length-seen : (q : Queued) → IsQueue q → length (seen_device q).image ≡ q.sectors * q.sector_size
-length-seen q sound = length-carried_out q.sectors q.sector_size q.calls q.medium sound.whole sound.inside
+pub length-seen : (held seen : Queued) → held ≡ seen → IsQueue held → length (seen_device seen).image ≡ seen.sectors * seen.sector_size
+length-seen held seen is sound =
+    subst (λ (q : Queued). length (seen_device q).image ≡ q.sectors * q.sector_size) is
+    (length-carried_out held.sectors held.sector_size held.calls held.medium sound.whole sound.inside)
 
 -- a program that had no memory was a failure that did nothing
 pub program_fails : (at : ℕ) (bytes : List ℕ) (old new : Queued) → at + length bytes ≤ length (seen_device old).image → new ≡ old

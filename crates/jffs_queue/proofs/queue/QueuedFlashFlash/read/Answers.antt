@@ -1,4 +1,4 @@
-use Rattle.std.proofs.Common.{◌≡◌, ◌+◌, ◌*◌, ◌≤◌, ◌++◌, List, length, subst, sym, ap, ◌∙◌, arith}
+use Rattle.std.proofs.Common.{◌≡◌, ◌+◌, ◌*◌, ◌≤◌, ◌++◌, List, length, refl, subst, sym, ap, ◌∙◌, arith}
 use Rattle.jffs_flash.specs.Device.{Device}
 use Rattle.jffs_queue.specs.declared.call.Call.{Call}
 use Rattle.jffs_queue.specs.Queue.{Queued, IsQueue, seen_device, carried_out, IsLaidOver}
@@ -7,7 +7,7 @@ use Rattle.jffs_queue.proofs.queue.QueuedFlashFlash.read.Goals as goal
 
 pub read-requires : goal.read-requires
 read-requires c =
-    let long = length-seen _ c.self.invariant in
+    let long = length-seen _ _ refl c.self.invariant in
     let P : Queued → Type 0 = λ q. c.args.at + length c.args.buffer.now ≤ length (seen_device q).image in
     let inside = subst P (sym c.self.view_is) c.requires in
     omega (arith, long, inside, c.self.invariant.whole)
@@ -16,10 +16,8 @@ pub calls-preserved : goal.calls-preserved
 calls-preserved c =
     let q = c.args.self.now in
     let n = length c.args.buffer.now in
-    let P : Queued → Type 0 = λ q. c.args.at + n ≤ length (seen_device q).image in
-    let R : Queued → Type 0 = λ q. c.args.at + n ≤ q.sectors * q.sector_size in
-    let inside = subst P (sym c.self.view_is) c.requires in
-    let fits = subst R c.self.view_is (omega (arith, inside, length-seen _ c.self.invariant)) in
+    let long = length-seen _ q c.self.view_is c.self.invariant in
+    let fits : c.args.at + n ≤ q.sectors * q.sector_size = omega (arith, long, c.requires) in
     let size : c.sector_size-size.result ≡ q.sector_size =
     c.sector_size-size.ensures.size ∙ ap (λ (d : Device). d.sector_size) c.in_ok-read.ensures.device ∙ ap (λ (f : Queued). f.sector_size) c.self.view_is in
     let laid = subst (λ k. IsLaidOver k c.in-Some.call.now c.args.at c.calls.buffer c.lay_over.new.buffer) size c.lay_over.ensures in

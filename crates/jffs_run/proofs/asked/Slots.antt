@@ -1,13 +1,8 @@
 -- Lemmas on facts about each element of a list, at its slot.
-use Rattle.std.proofs.Common.{◌≡◌, ℕ, ◌+◌, ◌<◌, zero, suc, List, [], ◌∷◌, ◌++◌, length, map, refl, sym, ap, ◌∙◌, subst, arith, get_or, append_assoc}
+use Rattle.std.proofs.Common.{◌≡◌, ℕ, ◌+◌, ◌<◌, zero, suc, List, [], ◌∷◌, ◌++◌, length, map, refl, ap, ◌∙◌, subst, arith, get_or, append_assoc}
 use Rattle.std.proofs.lemmas.List.{map-append}
 use Rattle.jffs_text.specs.declared.script.Writer.{Writer}
 use Rattle.jffs_run.specs.Ends.{EachFrom, commands_of}
-
--- the same fact of the same list, written in another way
-EachFrom-same : {X : Type 0} (P : ℕ → X → Type 0) (n m : ℕ) (xs ys : List X) → n ≡ m → xs ≡ ys → EachFrom P n xs → EachFrom P m ys
-EachFrom-same {X} P n m xs ys slot list each =
-    subst (λ (k : ℕ). EachFrom P k ys) slot (subst (λ (zs : List X). EachFrom P n zs) list each)
 
 -- an element more
 EachFrom-push : {X : Type 0} (P : ℕ → X → Type 0) (n : ℕ) (xs : List X) (x : X) → EachFrom P n xs → P (n + length xs) x → EachFrom P n (xs ++ x ∷ [])
@@ -16,11 +11,9 @@ EachFrom-push P n (y ∷ ys) x each here =
     let e : n + length (y ∷ ys) ≡ (n + 1) + length ys = omega arith in
     (each.0, EachFrom-push P (n + 1) ys x each.1 (subst (λ (k : ℕ). P k x) e here))
 
--- the list with that element more, whose slot is written in another way
-pub EachFrom-more : {X : Type 0} (P : ℕ → X → Type 0) (xs now : List X) (x : X) (slot : ℕ) → now ≡ xs ++ x ∷ [] → slot ≡ length xs → EachFrom P 0 xs → P slot x → EachFrom P 0 now
-EachFrom-more P xs now x slot is last each here =
-    let at : slot ≡ 0 + length xs = omega arith in
-    EachFrom-same P 0 0 _ now refl (sym is) (EachFrom-push P 0 xs x each (subst (λ (k : ℕ). P k x) at here))
+-- an element more, whose slot is written in another way
+pub EachFrom-more : {X : Type 0} (P : ℕ → X → Type 0) (xs : List X) (x : X) (slot : ℕ) → slot ≡ length xs → EachFrom P 0 xs → P slot x → EachFrom P 0 (xs ++ x ∷ [])
+EachFrom-more P xs x slot last each here = let at : slot ≡ 0 + length xs = omega arith in EachFrom-push P 0 xs x each (subst (λ (k : ℕ). P k x) at here)
 
 -- the commands of a writer, whatever stands for one that isn't there
 pub commands-at : (writers : List Writer) (i : ℕ) (d : Writer) → i < length writers → get_or (commands_of writers) i [] ≡ (get_or writers i d).commands.items

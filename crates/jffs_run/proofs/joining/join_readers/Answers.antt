@@ -24,5 +24,5 @@ loop-handle-preserved g c =
           let looking = (rw step.0 at (before.started statements each)).0 in
           let now = has_seen (published c.args.publisher.now) history (told_of c.tell.result) c.args.answered index statements (vec_len c.loop-handle.ends)
           c.in-Some.handle c.join-reader.result c.last_look.result looking c.join-reader.ensures.1 c.tell.ensures.0 whole c.last_look.ensures in
-          EachFrom-more (HasSeen history statements) c.loop-handle.ends.items _ _ _ pushed.items c.loop-handle.ends.ok.0 (before.seen statements history each whole) now;
+          rw pushed.items (EachFrom-more (HasSeen history statements) c.loop-handle.ends.items c.last_look.result _ c.loop-handle.ends.ok.0 (before.seen statements history each whole) now);
     }

@@ -23,10 +23,10 @@ loop-one-preserved g c =
       handed_in = λ script each.
           let started = (rw step.0 at (before.started script each)).0 in
           let now = (kept.wrote (commands_at script (vec_len c.loop-one.hands)) started).first in
-          EachFrom-more (HandedIn g.H.Hand script) c.loop-one.hands.items _ hand _ pushed.items c.loop-one.hands.ok.0 (before.handed_in script each) now;
+          rw pushed.items (EachFrom-more (HandedIn g.H.Hand script) c.loop-one.hands.items hand _ c.loop-one.hands.ok.0 (before.handed_in script each) now);
       whole = λ script each goes_on calm.
           let started = (rw step.0 at (before.started script each)).0 in
           let stops = c.note.ensures goes_on calm in
           let now = (kept.wrote (commands_at script (vec_len c.loop-one.hands)) started).whole stops.2 in
-          EachFrom-more (HandedInAll g.H.Hand script) c.loop-one.hands.items _ hand _ pushed.items c.loop-one.hands.ok.0 (before.whole script each stops.0 stops.1) now;
+          rw pushed.items (EachFrom-more (HandedInAll g.H.Hand script) c.loop-one.hands.items hand _ c.loop-one.hands.ok.0 (before.whole script each stops.0 stops.1) now);
     }

@@ -30,6 +30,6 @@ loop-reader-preserved g c =
             get_or_default c.args.statements.now c.len.result c.in-Some-start_reader.handle.promise.statement.now c.index-statements-len.result below
                 ∙ (sym c.index-statements-len.is ∙ sym c.in-Some-start_reader.ensures.1),
           ) in
-          EachFrom-more (IsLooking index c.args.statements.now) c.loop-reader.handles.items _ _ _ pushed.items (at_len ∙ c.loop-reader.handles.ok.0) (before.started index all)
-          (ap index_of c.in-Some-start_reader.ensures.0 ∙ first, at);
+          rw pushed.items (EachFrom-more (IsLooking index c.args.statements.now) c.loop-reader.handles.items c.in-Some-start_reader.handle c.len.result (at_len ∙ c.loop-reader.handles.ok.0) (before.started index all)
+          (ap index_of c.in-Some-start_reader.ensures.0 ∙ first, at));
     }

@@ -25,6 +25,6 @@ loop-hand-preserved g c =
       number = let number = before.number in omega (arith, pushed.len);
       room = let room = before.room in omega (arith, pushed.capacity);
       fresh = All-tail (λ hand. g.H.Hand.accepted hand ≡ []) c.in-Some.hand _ (rw step.0 at before.fresh);
-      started = EachFrom-more (IsStarted g.H.Hand c.args.writers.now) c.loop-hand.writing.items _ c.start_writer.result _ pushed.items (at_len ∙ c.loop-hand.writing.ok.0) before.started started;
+      started = rw pushed.items (EachFrom-more (IsStarted g.H.Hand c.args.writers.now) c.loop-hand.writing.items c.start_writer.result c.len.result (at_len ∙ c.loop-hand.writing.ok.0) before.started started);
       same = rw (pushed.items, moved (end_given g.H.Hand) (end_of g.H.Hand) c.loop-hand.writing.items c.start_writer.result c.in-Some.hand (into_iter_items c.next.new.self) c.start_writer.ensures.end) (rw step.0 at before.same);
     }

@@ -3,6 +3,7 @@ pub mod Lawfulness
 pub mod Found
 pub mod Sound
 pub mod Each
+pub mod Results
 pub mod Names
 pub mod NameOrder
 pub mod Rules

@@ -3,6 +3,7 @@ use Rattle.std.proofs.Common.{◌≡◌, ◌≢◌, inl, inr, ℕ, zero, suc, �
 use Rattle.std.proofs.lemmas.Bool.{cond-true, cond-false, cases_eq, cases_lt, eq-eqb, ne_eqb}
 use Rattle.jffs_log.specs.Ring.{IsAt}
 use Rattle.jffs_log.specs.declared.log_index.LogIndex.{LogIndex}
+use Rattle.jffs_log.proofs.ring.Ring.{at_once}
 use Rattle.jffs_log.specs.Wear.{sector_after, sector_after_each, erases_of, ErasedInTurn, WearIsEven, TurnsGoOn}
 
 -- the last sector is followed by the first, each other by the next
@@ -34,13 +35,6 @@ steps_to first count k inside below = elim (cases_lt k first) [
   | inl before ↦ (k + count - first, omega arith, inr (omega arith, before))
   | inr there ↦ (k - first, omega arith, inl (omega arith, below))
 ]
-
--- sectors as many steps after the first are the same
-same_steps : (first count e j k : ℕ) → IsAt first count e j → IsAt first count e k → j ≡ k
-same_steps first count e j k (inl a) (inl b) = omega arith
-same_steps first count e j k (inl a) (inr b) = absurd (omega arith)
-same_steps first count e j k (inr a) (inl b) = absurd (omega arith)
-same_steps first count e j k (inr a) (inr b) = omega arith
 
 -- and others aren't
 other_steps : (first count d e k : ℕ) → d < count → e < count → d ≢ e → IsAt first count d k → IsAt first count e k → ⊥
@@ -103,7 +97,7 @@ around_more count first many inside a = elim (cases_eq (a.steps + 1) count) [
     c = sector_after_each count first many
 
     more_of : (e k : ℕ) → a.steps ≡ e → IsAt first count e k → erases_of count first (suc many) k ≡ 1 + erases_of count first many k
-    more_of e k last there = one_more count first many k (same_steps first count e c k (subst (λ (n : ℕ). IsAt first count n c) last a.at) there)
+    more_of e k last there = one_more count first many k (at_once first count e c k (subst (λ (n : ℕ). IsAt first count n c) last a.at) there)
 
     none_of : (e k : ℕ) → e < count → a.steps ≢ e → IsAt first count e k → erases_of count first (suc many) k ≡ erases_of count first many k
     none_of e k below other there =

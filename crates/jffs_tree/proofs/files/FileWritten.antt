@@ -2,7 +2,8 @@
 use Rattle.std.proofs.Common.{◌≡◌, ◌≢◌, ℕ, max, ◌+◌, ◌-◌, ◌<◌, ◌≤◌, true, false, cond, eqb, List, [], ◌∷◌, ◌++◌, Bool, length, map, take, drop, ◌⊎◌, inl, ⊎_elim, Option, Some, None, unwrap_or, refl, sym, ap, subst, ◌∙◌, arith, append_assoc, length-append}
 use Rattle.std.specs.List.{filter}
 use Rattle.std.proofs.lemmas.Bool.{cases_Bool, cases_lt, eqb-true, eqb-false}
-use Rattle.std.proofs.lemmas.List.{append-nil, nil_from_length, length-replicate, length-drop}
+use Rattle.std.proofs.Math.ListN.{drop_of_length-le}
+use Rattle.std.proofs.lemmas.List.{append-nil, nil_from_length, length-replicate}
 use Rattle.jffs_node.specs.declared.node.Node.{Node}
 use Rattle.jffs_node.specs.Record.{dsize, file_max}
 use Rattle.jffs_node.proofs.Each.{each_append}
@@ -68,9 +69,6 @@ module _ (n : Node) (size end after : ℕ) (es : Fragments) (h : AreLaid 0 size 
       ∙ ap (λ x. x ++ (node_cells n ++ drop (n.offset + n.rsize) (padded_with None n.offset (laid 0 size es)))) (sym f)
       ∙ sym (append_assoc (take n.offset (padded_with None n.offset (laid 0 size es))) (node_cells n) (drop (n.offset + n.rsize) (padded_with None n.offset (laid 0 size es))))
 
-drop_past : {A : Type 0} (k : ℕ) (xs : List A) → length xs ≤ k → drop k xs ≡ []
-drop_past k xs l = nil_from_length (drop k xs) (let e = length-drop k xs in omega arith)
-
 length_padded : (k : ℕ) (c : List Cell) → length (padded_with None k c) ≡ length c + (k - length c)
 length_padded k c = length-append c (blanks (k - length c)) ∙ ap (λ n. length c + n) (length-replicate {A = Cell} (k - length c) None)
 
@@ -92,7 +90,7 @@ module _ (n : Node) (size : ℕ) (es : Fragments) (h : AreLaid 0 size es) (same 
       let gap : max (n.offset + dsize n) size - (n.offset + dsize n) ≡ 0 = omega arith in
       ap (laid (n.offset + dsize n) (max (n.offset + dsize n) size)) none
       ∙ ap blanks gap
-      ∙ sym (drop_past (n.offset + n.rsize) (padded_with None n.offset (laid 0 size es)) (omega arith)))
+      ∙ sym (drop_of_length-le (padded_with None n.offset (laid 0 size es)) {i = n.offset + n.rsize} (omega arith)))
       (λ long.
       let gap : n.offset - length (laid 0 size es) ≡ 0 = omega arith in
       let reach : max (n.offset + dsize n) size ≡ size = omega arith in
@@ -117,7 +115,7 @@ module _ (n : Node) (size : ℕ) (es : Fragments) (h : AreLaid 0 size es) (small
       let gap : (n.offset + dsize n) - (n.offset + dsize n) ≡ 0 = omega arith in
       ap (laid (n.offset + dsize n) (n.offset + dsize n)) none_left
       ∙ ap blanks gap
-      ∙ sym (drop_past (n.offset + n.rsize) (padded_with None n.offset (laid 0 size es)) (omega arith))
+      ∙ sym (drop_of_length-le (padded_with None n.offset (laid 0 size es)) {i = n.offset + n.rsize} (omega arith))
 
 -- The data don't reach across the size that the node states.
 pub cut_with_node_data : (s end : ℕ) (n : Node) (es : Fragments) → AreCut s es → n.offset + dsize n ≤ s → AreCut s (with_node_data end n es)

@@ -11,6 +11,7 @@ use borrow.Rule.Slice.PartMut.{put_mid}
 use Rattle.jffs_node.proofs.Each.{each_append, each_front}
 use Rattle.jffs_tree.specs.declared.fragment.Fragment.{Fragment}
 use Rattle.jffs_tree.specs.Fragments.{Fragments, Cell, byte_of, writer_of, cells_of, end_of, laid, AreLaid, NoneHolds, Says, outside}
+use Rattle.jffs_tree.proofs.files.Counted.{bytes_of_cells, writers_of_cells}
 use Rattle.jffs_tree.proofs.files.Fragments.{blanks, length_cells, laid_bound, laid_append, length-laid}
 use Rattle.jffs_tree.proofs.files.Splitting.{AllFrom, LastBefore, found, laid_parts}
 use Rattle.jffs_tree.proofs.files.Taking.{drop_within}
@@ -169,10 +170,6 @@ part_stands at part whole b =
     ∙ ap (λ x. take (length part) x) (drop-append_seam b.front (part ++ b.back))
     ∙ take-append_seam part b.back
 
-bytes_of_cells : (v : ℕ) (bs : List ℕ) → map byte_of (map (λ b. Some (b, v)) bs) ≡ bs
-bytes_of_cells v [] = refl
-bytes_of_cells v (b ∷ bs) = ap (λ x. b ∷ x) (bytes_of_cells v bs)
-
 bytes_of_blanks : (n : ℕ) → map byte_of (blanks n) ≡ replicate n 0
 bytes_of_blanks zero = refl
 bytes_of_blanks (suc n) = ap (λ x. 0 ∷ x) (bytes_of_blanks n)
@@ -227,10 +224,6 @@ says_hole at n es clear = λ size h fits.
     (bytes_beside at (blanks n) (laid 0 size es) (replicate n 0) (bytes_of_blanks n) (hole_cells size at n es h clear (omega (arith, length-replicate {A = ℕ} n 0))))
 
 -- ---- writers
-writers_of_cells : (v : ℕ) (bs : List ℕ) → map writer_of (map (λ b. Some (b, v)) bs) ≡ replicate (length bs) (Some v)
-writers_of_cells v [] = refl
-writers_of_cells v (b ∷ bs) = ap (λ x. Some v ∷ x) (writers_of_cells v bs)
-
 -- the writer of one of the cells beside others
 one_writer : (part whole : List Cell) (k at : ℕ) → Beside k part whole → k ≤ at → at < k + length part → get_or (map writer_of whole) at None ≡ get_or (map writer_of part) (at - k) None
 one_writer part whole k at b low high =

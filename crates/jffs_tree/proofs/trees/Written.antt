@@ -1,17 +1,12 @@
 -- One node more, in a tree.
-use Rattle.std.proofs.Common.{◌≡◌, T, IsTrue, Result, Ok, Err, sym, ap, subst, ◌∙◌, nat_cmp}
+use Rattle.std.proofs.Common.{◌≡◌, T, IsTrue, sym, ap, subst, ◌∙◌, nat_cmp}
 use Rattle.std.specs.Cmp.{nat_cmp_total}
 use Rattle.std.specs.FinMap.{nat_cmp-IsAntisymmetric}
 use Rattle.std.specs.FinMap.Entries as entries
-use Rattle.std.specs.Result.{OnErr}
 use Rattle.jffs_node.specs.declared.node.Node.{Node}
 use Rattle.jffs_tree.specs.Origin.{Tree}
 use Rattle.jffs_tree.specs.After.{held_in, held_after, put_node, WritesInode}
 use Rattle.jffs_tree.proofs.states.Pointwise.{find_rewritten}
-
-pub at_error : {A E P : Type 0} (r : Result A E) → P → OnErr r P
-at_error (Ok x) p = tt
-at_error (Err e) p = p
 
 -- That is the tree with the node put in.
 pub put_there : (old seen new : Tree) (n : Node) → old ≡ seen → IsTrue (entries.is_sorted nat_cmp old) → WritesInode old new n → new ≡ put_node seen n

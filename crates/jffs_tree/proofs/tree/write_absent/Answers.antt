@@ -4,7 +4,7 @@ use Rattle.jffs_tree.specs.Origin.{Held, Tree}
 use Rattle.jffs_tree.specs.After.{held_in, held_after, writers_after, with_inode, put_node}
 use Rattle.jffs_tree.specs.Marks.{SameMarks}
 use Rattle.jffs_tree.proofs.trees.InOrder.{put_written, found_put}
-use Rattle.jffs_tree.proofs.trees.Written.{at_error}
+use Rattle.jffs_node.proofs.Results.{at_error}
 use Rattle.jffs_tree.proofs.files.FirstWritten.{first_same, first_moved, absent_none}
 use Rattle.jffs_tree.proofs.tree.write_absent.Goals as goal
 

@@ -5,7 +5,7 @@ use Rattle.std.proofs.lemmas.Map.Steps.{set_value_same}
 use Rattle.jffs_tree.specs.declared.fragment.Fragment.{Fragment}
 use Rattle.jffs_tree.specs.Fragments.{FragmentMap, ascending, get}
 use Rattle.jffs_tree.proofs.files.Reversed.{view, lookup_ascending, set_ascending}
-use Rattle.jffs_tree.proofs.trees.Written.{at_error}
+use Rattle.jffs_node.proofs.Results.{at_error}
 use Rattle.jffs_tree.proofs.fragment_map.Fragments.swap.Goals as goal
 
 pub returns-then-len-clause-none : goal.returns-then-len-clause-none

@@ -7,7 +7,7 @@ use Rattle.jffs_tree.specs.Origin.{Held}
 use Rattle.jffs_tree.specs.After.{held_in, held_after, in_order, with_inode, put_node}
 use Rattle.jffs_tree.proofs.trees.InOrder.{found_in_order, in_order_ordered, one_put, put_written}
 use Rattle.jffs_tree.proofs.versions.Marked.{moved_own}
-use Rattle.jffs_tree.proofs.trees.Written.{at_error}
+use Rattle.jffs_node.proofs.Results.{at_error}
 use Rattle.jffs_tree.proofs.inodes.Inodes.write.Goals as goal
 use Rattle.jffs_tree.proofs.inodes.Inodes.write.Goals.{In-Some}
 

@@ -3,7 +3,7 @@ use Rattle.std.proofs.Common.{not, sym, ap, ◌∙◌}
 use Rattle.std.proofs.lemmas.Bool.{and_from}
 use Rattle.jffs_node.specs.Record.{is_unmount}
 use Rattle.jffs_tree.proofs.trees.Applied.{small_by_numbers, suits_parts, unmounted, grown, removed, stepped}
-use Rattle.jffs_tree.proofs.trees.Written.{at_error}
+use Rattle.jffs_node.proofs.Results.{at_error}
 use Rattle.jffs_tree.proofs.tree.Tree.apply.Goals as goal
 
 pub returns-then-is_unmount-clause-after : goal.returns-then-is_unmount-clause-after

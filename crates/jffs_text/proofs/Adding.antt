@@ -25,25 +25,23 @@ begun_then a b c x y h k = record {
   added = Appends-trans a b c x k.done h k.added;
 }
 
--- The texts of a list's elements, of which those before the i-th, which is x, were added.
-module _ {X : Type 0} (f : X → List ℕ) (xs : List X) (i : ℕ) (x : X) (is : x ≡ get_or xs i x) (inside : i < length xs) where
-  before_next : flat_map f (take (i + 1) xs) ≡ flat_map f (take i xs) ++ f x
-  before_next =
-      ap (λ l. flat_map f l) (take_more xs i x inside) ∙ sym (flat_map_more f [] (take i xs) (get_or xs i x))
-      ∙ ap (λ y. flat_map f (take i xs) ++ f y) (sym is)
+-- The texts of a list's elements, of which those before the i-th were added.
+module _ {X : Type 0} (f : X → List ℕ) (xs : List X) (i : ℕ) (d : X) (inside : i < length xs) where
+  before_next : flat_map f (take (i + 1) xs) ≡ flat_map f (take i xs) ++ f (get_or xs i d)
+  before_next = ap (λ l. flat_map f l) (take_more xs i d inside) ∙ sym (flat_map_more f [] (take i xs) (get_or xs i d))
 
-  from_next : (flat_map f (take i xs) ++ f x) ++ flat_map f (drop (i + 1) xs) ≡ flat_map f xs
+  from_next : (flat_map f (take i xs) ++ f (get_or xs i d)) ++ flat_map f (drop (i + 1) xs) ≡ flat_map f xs
   from_next =
       ap (λ l. l ++ flat_map f (drop (i + 1) xs)) (sym before_next)
       ∙ sym (flat_map-append f (take (i + 1) xs) (drop (i + 1) xs))
       ∙ ap (λ l. flat_map f l) (take-append-drop (i + 1) xs)
 
   module _ (a b c : Option (List ℕ)) (so_far : Appends a b (flat_map f (take i xs))) where
-    pub one_more : Appends b c (f x) → Appends a c (flat_map f (take (i + 1) xs))
-    one_more h = subst (λ l. Appends a c l) (sym before_next) (Appends-trans a b c (flat_map f (take i xs)) (f x) so_far h)
+    pub one_more : Appends b c (f (get_or xs i d)) → Appends a c (flat_map f (take (i + 1) xs))
+    one_more h = subst (λ l. Appends a c l) (sym before_next) (Appends-trans a b c (flat_map f (take i xs)) (f (get_or xs i d)) so_far h)
 
-    pub begun_here : IsBegun b c (f x) → IsBegun a c (flat_map f xs)
-    begun_here h = subst (λ l. IsBegun a c l) from_next (begun_more a c (flat_map f (take i xs) ++ f x) (flat_map f (drop (i + 1) xs)) (begun_then a b c (flat_map f (take i xs)) (f x) so_far h))
+    pub begun_here : IsBegun b c (f (get_or xs i d)) → IsBegun a c (flat_map f xs)
+    begun_here h = subst (λ l. IsBegun a c l) from_next (begun_more a c (flat_map f (take i xs) ++ f (get_or xs i d)) (flat_map f (drop (i + 1) xs)) (begun_then a b c (flat_map f (take i xs)) (f (get_or xs i d)) so_far h))
 
 pub begun_taken : (a b : Option (List ℕ)) (x : List ℕ) (n : ℕ) → Appends a b (take n x) → IsBegun a b x
 begun_taken a b x n h = record { done = take n x; rest = drop n x; whole = take-append-drop n x; added = h }

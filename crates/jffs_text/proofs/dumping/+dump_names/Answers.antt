@@ -17,7 +17,7 @@ begins_here : (g : _) (t : ℕ) (c : After-push_name g t) (now : Option (List �
 begins_here g t c now h =
     let text = text_in c.args.tree.now c.args.levels c.args.path.now.items in
     begun_as _ _ _ _ (text_below c.args.tree.now c.args.levels c.args.path.now.items c.args.directory _ _ (omega (arith, c.if-levels-eq0.false)) c.requires c.in_ok-names.ensures.all c.in_ok-names.ensures.ordered c.deref-name-items.ensures.value)
-    (begun_here text c.deref-name-items.result.now c.loop-name.name-index c.loop-name-item.result c.loop-name-item.is (omega (arith, c.loop-name-test.true)) _ _ _ c.loop-name.invariant.0 h)
+    (begun_here text c.deref-name-items.result.now c.loop-name.name-index c.loop-name-item.result (omega (arith, c.loop-name-test.true)) _ _ _ c.loop-name.invariant.0 (rw c.loop-name-item.is at h))
 
 -- the path is that of the name at hand
 named : (g : _) (t : ℕ) (c : In_ok-push_name g t) → c.push_name.new.path.items ≡ extended_path c.args.path.now.items c.loop-name-item.result.0
@@ -68,7 +68,7 @@ loop-name-preserved g t c =
         ap (λ p. p.items) w.path-is,
       )
     ] in (
-      one_more text c.deref-name-items.result.now c.loop-name.name-index name c.loop-name-item.is (omega (arith, c.loop-name-test.true)) _ _ now c.loop-name.invariant.0 told.0,
+      one_more text c.deref-name-items.result.now c.loop-name.name-index name (omega (arith, c.loop-name-test.true)) _ _ now c.loop-name.invariant.0 (rw c.loop-name-item.is at told.0),
       rw c.truncate.ensures.items (cut_back _ _ _ name.0 (c.len-above.ensures ∙ c.loop-name.path.ok.0) (told.1 ∙ c.in_ok-push_name.ensures) ∙ c.loop-name.invariant.1),
     )
 

@@ -1,18 +1,17 @@
 -- A lawful run keeps the contents.
-use Rattle.std.proofs.Common.{◌≡◌, ℕ, is_none, true, false, cond, not, List, [], ◌∷◌, ◌++◌, filter, inl, inr, ⊎_elim, Option, Some, None, Ok, refl, sym, ap, subst, ◌∙◌, append_assoc}
+use Rattle.std.proofs.Common.{◌≡◌, ℕ, true, false, cond, not, List, [], ◌∷◌, ◌++◌, filter, inl, inr, ⊎_elim, Ok, refl, sym, ap, subst, ◌∙◌, append_assoc}
 use Rattle.std.proofs.lemmas.Bool.{and_left, and_right, not_from_true}
 use Rattle.jffs_node.specs.declared.node.Node.{Node}
 use Rattle.jffs_node.specs.Record.{is_fresh, is_unmount}
 use Rattle.jffs_tree.specs.declared.wish.Wish.{Wish}
 use Rattle.jffs_tree.specs.declared.wish.Wish.TheVariants.{Copy, Unmount}
 use Rattle.jffs_tree.specs.declared.wish.Limits.{Limits}
-use Rattle.jffs_tree.specs.declared.wish.Cause.TheVariants.{VersionsSpent}
 use Rattle.jffs_tree.specs.declared.wish.NewNode.{NewNode}
 use Rattle.jffs_tree.specs.declared.wish.Outcome.{Outcome}
 use Rattle.jffs_tree.specs.declared.wish.Outcome.TheVariants.{Appended, Copied, Closed, Refused}
 use Rattle.jffs_tree.specs.State.{Entry, State, apply, state_of_past}
 use Rattle.jffs_tree.specs.Origin.{IsTrueCopy}
-use Rattle.jffs_tree.specs.Decide.{decide, with, unless, unmount_node, is_copy_wish, is_unmount_wish}
+use Rattle.jffs_tree.specs.Decide.{decide, with, unmount_node, is_copy_wish, is_unmount_wish}
 use Rattle.jffs_line.specs.declared.request.Request.{Request}
 use Rattle.jffs_core.specs.declared.answer.Answer.{Answer}
 use Rattle.jffs_core.specs.History.{apply_all, AreOwnCopies, MayFollow, IsGrown, Grows, ContentsAreState}
@@ -20,6 +19,7 @@ use Rattle.jffs_core.specs.Step.{Volume, Turn, IsStep, OutcomeIs, node_of}
 use Rattle.jffs_core.specs.Run.{OnlyCopies, AreAnswered, LawfulRunsGrow}
 use Rattle.jffs_tree.proofs.states.TrueCopy.{true_copy_keeps_state}
 use Rattle.jffs_tree.proofs.decisions.Copies.{accepted_copies_are_true}
+use Rattle.jffs_tree.proofs.decisions.Decided.{nothing_stands}
 
 fresh_step : (s : State) (n : Node) (nodes : List Node) → is_fresh n ≡ true → apply_all s (filter is_fresh (n ∷ nodes)) ≡ apply (apply_all s (filter is_fresh nodes)) n
 fresh_step s n nodes f = ap (λ t. apply_all s (cond t (n ∷ filter is_fresh nodes) (filter is_fresh nodes))) f
@@ -68,13 +68,9 @@ copies_grow past (c ∷ copies) h = (copies_grow past copies h.0, inr (inr h.1.3
 pub only_copies_grow : (past after : List Node) → OnlyCopies past after → Grows past after
 only_copies_grow past after h = record { added = h.copies; joined = h.joined; grown = copies_grow past h.copies h.true_copies }
 
-unmount_passed : (next : Option ℕ) (n : NewNode) → unless ((is_none next, VersionsSpent) ∷ []) unmount_node ≡ Ok n → is_unmount n.kind ≡ true
-unmount_passed None n is = cc
-unmount_passed (Some v) n is = let same : unmount_node ≡ n = cc in ap (λ m. is_unmount m.kind) (sym same)
-
--- an accepted Unmount gives an unmount node
-pub unmount_given : (past : List Node) (limits : Limits) (wish : Wish) (n : NewNode) → is_unmount_wish wish ≡ true → decide past limits wish ≡ Ok n → is_unmount n.kind ≡ true
-unmount_given past limits Unmount n w is = unmount_passed limits.next_version n is
+-- an accepted Unmount gives the unmount node
+pub unmount_given : (past : List Node) (limits : Limits) (wish : Wish) (n : NewNode) → is_unmount_wish wish ≡ true → decide past limits wish ≡ Ok n → unmount_node ≡ n
+unmount_given past limits Unmount n w is = (nothing_stands past limits Unmount n is).1
 unmount_given past limits _ n w is = cc
 
 -- an accepted Copy gives a true copy
@@ -94,7 +90,7 @@ own_grows t q (Copied version) copies own h =
 own_grows t q Closed copies own h = ⊎_elim
     (λ clean. subst (λ nodes. IsGrown (copies ++ t.past) nodes) (sym clean.1) tt)
     (λ made. subst (λ nodes. IsGrown (copies ++ t.past) nodes) (sym made.added)
-    (tt, inr (inl (unmount_given t.past _ q.wish made.new h.wish made.decided))))
+    (tt, inr (inl (ap (λ (n : NewNode). is_unmount n.kind) (sym (unmount_given t.past _ q.wish made.new h.wish made.decided))))))
     h.node
 own_grows t q (Refused cause) copies own h = subst (λ nodes. IsGrown (copies ++ t.past) nodes) (sym h.1) tt
 

@@ -25,16 +25,16 @@ use Rattle.jffs_core.specs.RoomSteps.{UnmountsHaveRoom}
 use Rattle.jffs_core.specs.Past.{RepresentsWorking, RepresentsPast, HasFailed, gc_state, has_room_for}
 use Rattle.jffs_core.specs.Calls.{RefusedWith, KeepsTwo, ProgramsOnce}
 use Rattle.jffs_core.specs.Appending.{MayPut, HasPut, PutRefused}
-use Rattle.jffs_core.specs.Answering.{IsNodeOf, HasAnswered, AnswersWith, DoesNothing, KeepsAnswer, MayStand, ProgramsFor, keeps_two, turn_of}
+use Rattle.jffs_core.specs.Answering.{IsNodeOf, WantsFresh, HasAnswered, AnswersWith, DoesNothing, KeepsAnswer, MayStand, ProgramsFor, keeps_two, turn_of}
 use Rattle.jffs_log.specs.Cleaning.{GcState, Layout, used}
 use Rattle.jffs_log.specs.Work.{live_and_free}
 use Rattle.jffs_log.proofs.rooms.Bound.{fresh_keeps_two}
 use Rattle.jffs_core.proofs.answers.Deciding.{is_of_tree}
-use Rattle.jffs_core.proofs.answers.Contents.{grows_along, step_grows}
+use Rattle.jffs_core.proofs.answers.Contents.{grows_along, step_grows, unmount_given}
 use Rattle.jffs_core.proofs.scans.Mounting.{clean_ends}
 use Rattle.jffs_core.proofs.answers.Refusing.{works_past, by_refusal, refused_past, fails_as, works_on_faults, same_cause, device_left, refused_keeps, put_programs, same_programs, refused_programs}
 use Rattle.jffs_core.proofs.answers.Unchanged.{none_changed, kept_unchanged, layout_unchanged, does_something}
-use Rattle.jffs_core.proofs.answers.Asked.{decision_is, unmount_is, its_version, its_room, by_length, own_in_hand}
+use Rattle.jffs_core.proofs.answers.Asked.{decision_is, its_version, its_room, fresh_is, its_full, its_makes_room, by_length, own_in_hand}
 use Rattle.jffs_core.proofs.room.RoomMade.{room_at_once}
 use Rattle.jffs_core.proofs.answers.Working.{none_is_little}
 
@@ -272,16 +272,16 @@ module _ (past : List Node) (old new : CoreState) (q : Request) (works : old.fai
       }
 
   -- a fresh record was put, after own copies
-  pub put_fresh : (node next : Node) (after : List Node) (of : IsNodeOf old q node) → is_fresh (with of.new 0 0 0) ≡ true → (copies : OnlyCopies past after) → (copies.copies ≡ []) ⊎ MakesRoom (turn_of past old new) q
+  pub put_fresh : (node next : Node) (after : List Node) (of : IsNodeOf old q node) → WantsFresh q.wish → has_room_for old rooms.Fresh (record_len node) ≡ false → (copies : OnlyCopies past after)
       → used copies.copies ≤ live_and_free (gc_state past old) → (gets_room (turn_of past old new) of.new ≡ true) × (after ≡ past_with_room (turn_of past old new) of.new) → next ≡ with of.new next.version q.writer q.seq → next_version after ≡ Some next.version → new.failed ≡ false → new.faults ≡ old.faults → KeepsTwo old new → ProgramsOnce past (next ∷ after) old new → RepresentsPast (next ∷ after) new → HasAnswered past old new q (Appended next.inode next.version) (Some next)
-  put_fresh node next after of fresh copies room little gets is version now_works no_fault two programs stands = record {
+  put_fresh node next after of wants no_room copies little gets is version now_works no_fault two programs stands = record {
     after = next ∷ after;
     stands = stands;
-    step = step_to (Appended next.inode next.version) copies.copies (next ∷ []) (next ∷ after) (ap (λ (nodes : List Node). next ∷ nodes) copies.joined) (λ e. cc) copies.true_copies room little
+    step = step_to (Appended next.inode next.version) copies.copies (next ∷ []) (next ∷ after) (ap (λ (nodes : List Node). next ∷ nodes) copies.joined) (λ e. cc) copies.true_copies (inr (its_makes_room past old q node known of new wants no_room)) little
         (record {
           new = of.new;
           decided = decision_is past old q known ∙ of.decided;
-          fresh = fresh;
+          fresh = fresh_is past old q node known of wants;
           inode_is = ap (λ (m : Node). m.inode) (sym is);
           next = ap next_version (sym copies.joined) ∙ version;
           added = ap (λ (m : Node). m ∷ []) is;
@@ -299,9 +299,9 @@ module _ (past : List Node) (old new : CoreState) (q : Request) (works : old.fai
 
   -- room couldn't be made
   pub make_stopped : (P : Node → Type 0) (node : Node) (cause : Cause) (after : List Node) (of : IsNodeOf old q node) → ((m : Node) → P m → IsInHand (turn_of past old new) q after m × MayFollow after m)
-      → is_fresh (with of.new 0 0 0) ≡ true → had_room (turn_of past old new) of.new ≡ false → (copies : OnlyCopies past after) → used copies.copies ≤ live_and_free (gc_state past old) → RefusedWith P cause past after old new
+      → WantsFresh q.wish → has_room_for old rooms.Fresh (record_len node) ≡ false → (copies : OnlyCopies past after) → used copies.copies ≤ live_and_free (gc_state past old) → RefusedWith P cause past after old new
       → (cause ≡ causes.NoSpace → 2 ≤ (layout_in old.image old.index).erased → heavy old.index.sectors old.index.sector_size ≤ weight past) → (cause ≡ causes.NoSpace → gets_room (turn_of past old new) of.new ≡ false) → (cause ≡ causes.NoSpace → KeepsTwo old new) → HasAnswered past old new q (Refused cause) None
-  make_stopped P node cause after of in_hand fresh none copies little r bound full two =
+  make_stopped P node cause after of in_hand wants no_room copies little r bound full two =
       let step : IsStep (turn_of past old new) q (Refused cause) after = subst (IsStep (turn_of past old new) q (Refused cause)) (sym copies.joined) (by_cause cause r bound full) in
       record {
         after = after;
@@ -316,11 +316,11 @@ module _ (past : List Node) (old new : CoreState) (q : Request) (works : old.fai
         same = λ none. absurd (room_was_made cause r none);
       }
     where
-      no_room : HadNoRoom (turn_of past old new) q of.new
-      no_room = record { decided = decision_is past old q known ∙ of.decided; none = none }
+      had_none : HadNoRoom (turn_of past old new) q of.new
+      had_none = its_full past old q node known of new wants no_room
 
       made : MakesRoom (turn_of past old new) q
-      made = (of.new, no_room, fresh)
+      made = its_makes_room past old q node known of new wants no_room
 
       room_was_made : (c : Cause) → RefusedWith P c past after old new → DoesNothing (Refused c) (turn_of past old new) q → ⊥
       room_was_made c r =
@@ -333,8 +333,8 @@ module _ (past : List Node) (old new : CoreState) (q : Request) (works : old.fai
           by_refusal P past after old new
           (λ c. (c ≡ causes.NoSpace → 2 ≤ (layout_in old.image old.index).erased → heavy old.index.sectors old.index.sector_size ≤ weight past) → (c ≡ causes.NoSpace → gets_room (turn_of past old new) of.new ≡ false) → IsStep (turn_of past old new) q (Refused c) (copies.copies ++ past))
           (λ w spent bound full. step_of (Refused causes.VersionsSpent) copies.copies [] (λ e. cc) copies.true_copies (inr made) little ((of.takes_node, inr (made, ap next_version (sym copies.joined) ∙ spent)), refl))
-          (λ w bound full. step_of (Refused causes.Memory) copies.copies [] (λ e. cc) copies.true_copies (inr made) little ((of.takes_node, (of.new, no_room.decided)), refl))
-          (λ w bound full. step_of (Refused causes.NoSpace) copies.copies [] (λ e. cc) copies.true_copies (inr made) little ((of.takes_node, (of.new, no_room, (λ f two. bound refl two), (λ f. full refl))), refl))
+          (λ w bound full. step_of (Refused causes.Memory) copies.copies [] (λ e. cc) copies.true_copies (inr made) little ((of.takes_node, (of.new, had_none.decided)), refl))
+          (λ w bound full. step_of (Refused causes.NoSpace) copies.copies [] (λ e. cc) copies.true_copies (inr made) little ((of.takes_node, (of.new, had_none, (λ f two. bound refl two), (λ f. full refl))), refl))
           (λ d bound full. step_of (Refused causes.Device) copies.copies [] (λ e. cc) copies.true_copies (inr made) little (lt-ltb old.faults new.faults d.faults, refl))
           c r bound full
 
@@ -411,5 +411,5 @@ unmounts_have_room t q after u two step =
     let why = step.outcome.0 in
     let n = why.1.0 in
     let none = why.1.1 in
-    let same = unmount_is t.past _ q.wish n u none.decided in
+    let same = unmount_given t.past _ q.wish n u none.decided in
     both_ways (had_room t unmount_node) (ap (had_room t) same ∙ none.none) (or_right (leb 64 t.free) (leb 2 t.erased) (le-leb 2 t.erased two))

@@ -94,21 +94,28 @@ skipped past source c works known dead = record {
   counted = omega arith;
 }
 
-pub copy_is : (past : List Node) (c : CoreState) (source node : Node) (new : NewNode) (version : ℕ) → RepresentsWorking past c → node ≡ with new version 0 0 → new ≡ cleaning_copy (state_in c.tree) source → c.limits.next_version ≡ Some version → node ≡ copied past source
-copy_is past c source node new version known is made next =
-    let same : state_in c.tree ≡ state_of_past past = ap state_in known.tree_is ∙ state_of_tree past (state_of_past past) in
-    let v : version_after past ≡ version = versions_follow past version (known_version past c (Some version) known next) in
-    is ∙ ap (λ (n : NewNode). with n version 0 0) (made ∙ ap (λ s. cleaning_copy s source) same) ∙ ap (λ k. with (cleaning_copy (state_of_past past) source) k 0 0) (sym v)
+-- The copy of a live record, as the core inside makes it.
+module _ (past : List Node) (c inside : CoreState) (source node : Node) (copy : NewNode) (version : ℕ) (known : RepresentsWorking past c) (among : Among source past) (held : holds_version c.tree source.inode source.version ≡ true)
+    (same : inside ≡ c) (made : copy ≡ cleaning_copy (state_in inside.tree) source) (given : inside.limits.next_version ≡ Some version) (is : node ≡ with copy version 0 0) (short : record_len source ≤ c.index.sector_size / 4) where
+  live : is_live past source.version ≡ true
+  live = lives_by_tree past c source known among held
 
-module _ (past : List Node) (c : CoreState) (source : Node) (version : ℕ) (known : RepresentsWorking past c) (among : Among source past) (live : is_live past source.version ≡ true) (next : c.limits.next_version ≡ Some version) where
+  next : next_version past ≡ Some version
+  next = known_version past c (Some version) known (ap (λ (v : CoreState). v.limits.next_version) (sym same) ∙ given)
+
   is_next : next_version past ≡ Some (version_after past)
-  is_next = let e = known_version past c (Some version) known next in e ∙ ap (λ (k : ℕ). Some k) (sym (versions_follow past version e))
+  is_next = next ∙ ap (λ (k : ℕ). Some k) (sym (versions_follow past version next))
+
+  is_copy : node ≡ copied past source
+  is_copy =
+      let state : state_in inside.tree ≡ state_of_past past = ap (λ (v : CoreState). state_in v.tree) same ∙ ap state_in known.tree_is ∙ state_of_tree past (state_of_past past) in
+      is ∙ ap (λ (n : NewNode). with n version 0 0) (made ∙ ap (λ s. cleaning_copy s source) state) ∙ ap (λ k. with (cleaning_copy (state_of_past past) source) k 0 0) (sym (versions_follow past version next))
 
   there : (e : Entry) × (entry past source.inode ≡ Some e)
   there = live_present past source known.sound.history among live
 
-  pub copy_may : record_len source ≤ c.index.sector_size / 4 → MayPut past c.index.sector_size rooms.Copy (copied past source)
-  copy_may short =
+  may_put : MayPut past c.index.sector_size rooms.Copy (copied past source)
+  may_put =
       let v = next_is_newest past (version_after past) known.history.rules.falls is_next in
       let keeps = cleaning_copies_keep_rules past source there.0 (version_after past) 0 0 known.history.rules.lawful there.1 (record { first = v.1; version_fits = v.2; writer_fits = omega arith; seq_fits = omega arith }) in
       let less = (copies_take_over past source known.sound.history among live).shorter in
@@ -120,12 +127,15 @@ module _ (past : List Node) (c : CoreState) (source : Node) (version : ℕ) (kno
         next = is_next;
       }
 
+  pub copy_may : MayPut past c.index.sector_size rooms.Copy node
+  copy_may = subst (MayPut past c.index.sector_size rooms.Copy) (sym is_copy) may_put
+
   is_own : IsOwnCopy past (copied past source)
   is_own = (refl, refl, is_next, (there.0, cleaning_copies_are_true past source there.0 (version_after past) there.1))
 
-  pub copy_put : (new : CoreState) (node : Node) → node ≡ copied past source → record_len source ≤ c.index.sector_size / 4 → HasPut rooms.Copy node c new → HasHandled past source true c new
-  copy_put new node is short h =
-      let h2 : HasPut rooms.Copy (copied past source) c new = subst (λ m. HasPut rooms.Copy m c new) is h in
+  pub copy_put : (new : CoreState) → HasPut rooms.Copy node c new → HasHandled past source true c new
+  copy_put new h =
+      let h2 : HasPut rooms.Copy (copied past source) c new = subst (λ m. HasPut rooms.Copy m c new) is_copy h in
       let s = gc_state past c in
       let log = layout_in c.image c.index in
       record {
@@ -135,19 +145,19 @@ module _ (past : List Node) (c : CoreState) (source : Node) (version : ℕ) (kno
           true_copies = (tt, is_own);
           joined = refl;
         };
-        stands = record { works = h2.works; faults = h2.faults; programs = put_programs (copied past source) past c new h2.programs; represents = h2.represents past known (copy_may short) };
+        stands = record { works = h2.works; faults = h2.faults; programs = put_programs (copied past source) past c new h2.programs; represents = h2.represents past known may_put };
         turn = (λ i. record { past = copied past source ∷ past; log = h2.log i }) ∙ ap (λ t. cond t (with_copy c.index.sector_size source s) s) (sym live);
         room = ap (λ t. not t || has_room rooms.Copy (record_len (copied past source)) log.free log.erased) live ∙ h2.had_room;
         counted = omega arith;
       }
 
-  pub copy_refused : (new : CoreState) (node : Node) (cause : Cause) → node ≡ copied past source → record_len source ≤ c.index.sector_size / 4 → PutRefused rooms.Copy node cause c new → CopyStopped cause past source c new
-  copy_refused new node cause is short h =
-      let h2 : PutRefused rooms.Copy (copied past source) cause c new = subst (λ m. PutRefused rooms.Copy m cause c new) is h in
+  pub copy_refused : (new : CoreState) (cause : Cause) → PutRefused rooms.Copy node cause c new → CopyStopped cause past source c new
+  copy_refused new cause h =
+      let h2 : PutRefused rooms.Copy (copied past source) cause c new = subst (λ m. PutRefused rooms.Copy m cause c new) is_copy h in
       let log = layout_in c.image c.index in
       record {
         live = live;
-        stands = refused_more (λ m. m ≡ copied past source) (IsOwnCopy past) (λ m same. subst (IsOwnCopy past) (sym same) is_own) cause past past c new (h2.stands past known (copy_may short));
+        stands = refused_more (λ m. m ≡ copied past source) (IsOwnCopy past) (λ m same. subst (IsOwnCopy past) (sym same) is_own) cause past past c new (h2.stands past known may_put);
         no_room = λ e. ap (λ t. not t || has_room rooms.Copy (record_len (copied past source)) log.free log.erased) live ∙ h2.no_room e;
         version = λ e. (version_after past, is_next);
       }

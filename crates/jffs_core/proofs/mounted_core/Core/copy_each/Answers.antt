@@ -1,18 +1,16 @@
-use Rattle.std.proofs.Common.{◌≡◌, ℕ, ◌≤◌, ◌<◌, ◌+◌, ◌/◌, Bool, true, false, List, length, take, get_or, sym, ap, subst, arith, take_all}
+use Rattle.std.proofs.Common.{◌≡◌, ℕ, ◌≤◌, ◌+◌, ◌/◌, Bool, true, false, List, sym, ap, subst, arith, take_all}
 use Rattle.std.specs.Int.{from_bool}
 use Rattle.std.proofs.lemmas.Result.{err_from_is_err_and}
 use Rattle.jffs_node.specs.declared.node.Node.{Node}
 use Rattle.jffs_node.specs.Record.{record_len}
-use Rattle.jffs_log.specs.LogIndex.{layout_in}
-use Rattle.jffs_log.specs.Cleaning.{oldest_records}
 use Rattle.jffs_log.specs.RoomLaws.{Among}
 use Rattle.jffs_log.proofs.append.Appended.{sizes_small}
-use Rattle.jffs_core.specs.CoreState.{CoreState}
 use Rattle.jffs_core.specs.Past.{RepresentsWorking}
 use Rattle.jffs_core.specs.Cleaning.{HasCopied}
 use Rattle.jffs_core.proofs.room.Copying.{copying_begins, copying_goes_on, copying_has_room, among_more, one_known, one_short, are_few}
 use Rattle.jffs_core.proofs.room.Erasing.{leaves_along}
 use Rattle.jffs_core.proofs.mounted_core.Core.copy_each.Goals as goal
+use Rattle.jffs_core.proofs.mounted_core.Core.copy_each.Goals.{After-node-item}
 
 one_most : (b : Bool) (r : ℕ) → r ≡ from_bool b → r ≤ 1
 one_most true r e = omega arith
@@ -22,10 +20,12 @@ pub loop-node-init : goal.loop-node-init
 loop-node-init g c = copying_begins c.args.nodes.now c.args.self.now c.requires.oldest.works
 
 -- the record is one of the history then
-its_known : (nodes past after : List Node) (k copies : ℕ) (node : Node) (old now : CoreState) → RepresentsWorking past old → nodes ≡ oldest_records (layout_in old.image old.index).sectors → k < length nodes → node ≡ get_or nodes k node
-    → HasCopied (take k nodes) past after copies old now → Among node after
-its_known nodes past after k copies node old now known oldest below is h =
-    among_more node h.added.copies past after h.added.joined (subst (λ n. Among n past) (sym is) (one_known nodes past old known oldest k node below))
+its_known : (g : _) (c : After-node-item g) (past : List Node) (known : RepresentsWorking past c.args.self.now) → Among c.node-item.result (c.loop-node.invariant.done past known).0
+its_known g c past known =
+    let d = c.loop-node.invariant.done past known in
+    let h = d.1 in
+    among_more c.node-item.result h.added.copies past d.0 h.added.joined
+    (subst (λ n. Among n past) (sym c.node-item.is) (one_known c.args.nodes.now past c.args.self.now known c.requires.oldest.are c.loop-node.node-index c.node-item.result c.loop-node-test.true))
 
 pub handle-requires : goal.handle-requires
 handle-requires g c =
@@ -39,7 +39,7 @@ handle-requires g c =
         works = v.works;
         past = d.0;
         known = h.stands.represents;
-        among = its_known c.args.nodes.now o.past d.0 c.loop-node.node-index c.loop-node.copies c.node-item.result c.args.self.now c.loop-node.self o.known o.are c.loop-node-test.true c.node-item.is h;
+        among = its_known g (goal.at.handle-requires g c).After-node-item o.past o.known;
         short = subst (λ z. record_len c.node-item.result ≤ z / 4) leaves.sizes.1
             (subst (λ (n : Node). record_len n ≤ c.args.self.now.index.sector_size / 4) (sym c.node-item.is) (one_short c.args.nodes.now o.past c.args.self.now o.known o.are c.loop-node.node-index c.node-item.result c.loop-node-test.true));
       };
@@ -66,19 +66,17 @@ loop-node-preserved g c =
       done = λ past known.
           let d = v.done past known in
           let h = d.1 in
-          let among = its_known c.args.nodes.now past d.0 c.loop-node.node-index c.loop-node.copies c.node-item.result c.args.self.now c.loop-node.self known c.requires.oldest.are c.loop-node-test.true c.node-item.is h in
           copying_goes_on c.args.nodes.now past d.0 c.loop-node.node-index c.loop-node.copies _ c.node-item.result c.in_ok-handle.field-0 c.args.self.now c.loop-node.self c.handle.new.self c.loop-node-test.true c.node-item.is v.leaves.sizes h
-          (e.handled d.0 h.stands.represents among) (ap (λ k. c.loop-node.copies + k) c.from.ensures);
+          (e.handled d.0 h.stands.represents (its_known g (goal.at.loop-node-preserved g c).After-node-item past known)) (ap (λ k. c.loop-node.copies + k) c.from.ensures);
     }
 
 pub returns-in_err-handle-clause-stopped : goal.returns-in_err-handle-clause-stopped
 returns-in_err-handle-clause-stopped g c = let p = err_from_is_err_and c.from_residual.result c.from_residual.ensures.1 in rw (p.1, p.2) λ past known.
     let d = c.loop-node.invariant.done past known in
-    let h = d.1 in
-    let among = its_known c.args.nodes.now past d.0 c.loop-node.node-index c.loop-node.copies c.node-item.result c.args.self.now c.loop-node.self known c.requires.oldest.are c.loop-node-test.true c.node-item.is h in (
+    let h = d.1 in (
       d.0,
       copying_has_room c.args.nodes.now past d.0 c.loop-node.node-index c.loop-node.copies c.node-item.result _ c.args.self.now c.loop-node.self c.handle.new.self known c.requires.oldest.are c.requires.oldest.several c.loop-node-test.true c.node-item.is h
-          (c.in_err-handle.ensures.stopped d.0 h.stands.represents among),
+          (c.in_err-handle.ensures.stopped d.0 h.stands.represents (its_known g (goal.at.returns-in_err-handle-clause-stopped g c).After-node-item past known)),
     )
 
 pub returns-clause-copied : goal.returns-clause-copied

@@ -12,7 +12,7 @@ use Rattle.jffs_core.specs.CoreState.{CoreState}
 use Rattle.jffs_core.specs.Past.{RepresentsWorking}
 use Rattle.jffs_core.proofs.puts.Handed.{erased_left, erase_left}
 use Rattle.jffs_core.proofs.room.Sweeping.{held_is}
-use Rattle.jffs_core.proofs.room.Erasing.{erased_one, erase_failed, leaves_one, one_fewer, uses_one, uses_failed, uses_seen}
+use Rattle.jffs_core.proofs.room.Erasing.{erased_one, erase_failed, leaves_one, one_fewer, uses_one, uses_failed}
 use Rattle.jffs_core.proofs.mounted_core.Core.erase_oldest.Goals as goal
 
 -- the log of the core inside has several sectors
@@ -81,26 +81,6 @@ returns-clause-stopped g c = IfErr-weaker c.erase_oldest.result _ _ (λ why f. r
 })
     c.erase_oldest.ensures.failed
 
-pub returns-clause-erases : goal.returns-clause-erases
-returns-clause-erases g c =
-    let old = c.self.inside.log in
-    let new = c.erase_oldest.new.self in
-    let works = ap (λ (v : CoreState). v.failed) c.self.view_is ∙ c.requires.working in
-    let before = held_is old.device.image old.index (c.self.invariant.index works) in
-    let two = several_inside _ _ c.self.view_is c.requires.dead.several in
-    let fewer = one_fewer (layout_in old.device.image old.index).sectors two in
-    let was = ap (λ (v : CoreState). v.index.erases) c.self.view_is in
-    let held = ap (λ (v : CoreState). v.index.held) c.self.view_is in
-    either_way c.erase_oldest.result (ErasedOldest c.self.inside.tree old new) (λ why. EraseFailed why old new) _
-    (λ e.
-    let counted = e.erases in
-    let after = held_is new.device.image new.index e.works.told in
-    let log = ap (λ (l : Layout). length l.sectors) e.layout_is in
-    let sizes = e.sizes in
-    erased_one c.args.self.now _ (omega arith) (omega arith) (uses_seen _ _ _ c.self.view_is (uses_one _ _ (sym sizes.0) e.first e.erases (ap (λ (d : Device). d.failed_erases) e.works.device) e.works.no_erase_failed c.erase_oldest.ensures.worn.erased)))
-    (λ why f. let counted = f.erases in erase_failed c.args.self.now _ f.failed (omega arith) (omega arith) (uses_seen _ _ _ c.self.view_is (uses_failed _ _ f.failed (ap (λ (d : Device). d.failed_erases) f.device.rest))))
-    c.erase_oldest.ensures.done c.erase_oldest.ensures.failed
-
 pub returns-clause-leaves : goal.returns-clause-leaves
 returns-clause-leaves g c =
     let old = c.self.inside.log in
@@ -110,4 +90,22 @@ returns-clause-leaves g c =
     let sizes = e.sizes in
     leaves_one _ _ _ c.self.view_is (record { answers = refl; capacity = refl; closed = refl }) e.sizes (let counted = e.erases in omega arith) (uses_one _ _ (sym sizes.0) e.first e.erases (ap (λ (d : Device). d.failed_erases) e.works.device) e.works.no_erase_failed c.erase_oldest.ensures.worn.erased))
     (λ why f. leaves_one _ _ _ c.self.view_is (record { answers = refl; capacity = refl; closed = refl }) f.sizes (let counted = f.erases in omega arith) (uses_failed _ _ f.failed (ap (λ (d : Device). d.failed_erases) f.device.rest)))
+    c.erase_oldest.ensures.done c.erase_oldest.ensures.failed
+
+pub returns-clause-erases : goal.returns-clause-erases
+returns-clause-erases g c =
+    let old = c.self.inside.log in
+    let new = c.erase_oldest.new.self in
+    let works = ap (λ (v : CoreState). v.failed) c.self.view_is ∙ c.requires.working in
+    let before = held_is old.device.image old.index (c.self.invariant.index works) in
+    let two = several_inside _ _ c.self.view_is c.requires.dead.several in
+    let held = ap (λ (v : CoreState). v.index.held) c.self.view_is in
+    let leaves = returns-clause-leaves g c in
+    either_way c.erase_oldest.result (ErasedOldest c.self.inside.tree old new) (λ why. EraseFailed why old new) _
+    (λ e.
+    let fewer = one_fewer (layout_in old.device.image old.index).sectors two in
+    let after = held_is new.device.image new.index e.works.told in
+    let log = ap (λ (l : Layout). length l.sectors) e.layout_is in
+    erased_one c.args.self.now _ leaves.erases (omega arith) leaves.device)
+    (λ why f. erase_failed c.args.self.now _ f.failed leaves.erases (omega arith) leaves.device)
     c.erase_oldest.ensures.done c.erase_oldest.ensures.failed

@@ -24,7 +24,7 @@ use Rattle.jffs_log.proofs.rooms.Bound.{cleaning_has_room, handled_are_dead}
 use Rattle.jffs_core.specs.CoreState.{CoreState}
 use Rattle.jffs_core.specs.History.{IsOwnCopy}
 use Rattle.jffs_core.specs.Past.{RepresentsWorking, gc_state}
-use Rattle.jffs_core.specs.Cleaning.{HasHandled, CopyStopped, HasCopied, HasCleaned, HasErased, SectorStopped, EraseStopped, copies_would_fit}
+use Rattle.jffs_core.specs.Cleaning.{HasHandled, CopyStopped, HasCopied, HasCleaned, HasErased, SectorStopped, EraseStopped, copies_would_fit, IsDeadOldest}
 use Rattle.jffs_core.proofs.answers.Lawful.{copies_along}
 use Rattle.jffs_core.proofs.room.RoomMade.{oldest_known}
 use Rattle.jffs_core.proofs.answers.Refusing.{refused_along, works_along, works_still}
@@ -183,13 +183,13 @@ module _ (nodes past after : List Node) (copies : ℕ) (old middle : CoreState) 
   stays : (oldest_records (handled_each old.index.sector_size nodes (gc_state past old)).log.sectors ≡ oldest_records (layout_in old.image old.index).sectors) × (2 ≤ length (handled_each old.index.sector_size nodes (gc_state past old)).log.sectors)
   stays = oldest_stays old.index.sector_size nodes (gc_state past old) several
 
-  pub still_several : 2 ≤ length (layout_in middle.image middle.index).sectors
+  still_several : 2 ≤ length (layout_in middle.image middle.index).sectors
   still_several = subst (λ (s : GcState). 2 ≤ length s.log.sectors) (sym h.turn) stays.1
 
   still_oldest : nodes_of (oldest_in middle.image middle.index) ≡ nodes
   still_oldest = oldest_is middle.image middle.index ∙ ap (λ (s : GcState). oldest_records s.log.sectors) h.turn ∙ stays.0 ∙ sym oldest
 
-  pub now_dead : AllByRecursion (λ p. lives_in middle.tree p ≡ false) (oldest_in middle.image middle.index)
+  now_dead : AllByRecursion (λ p. lives_in middle.tree p ≡ false) (oldest_in middle.image middle.index)
   now_dead =
       let k = h.stands.represents in
       let dead = handled_are_dead copies_take_over old.index.sector_size nodes (gc_state past old) known.sound.history (all_known nodes past old known oldest) in
@@ -198,6 +198,9 @@ module _ (nodes past after : List Node) (copies : ℕ) (old middle : CoreState) 
       let in_log = subst (AllByRecursion (λ n. Among n after)) (sym (oldest_is middle.image middle.index)) among in
       subst (λ t. AllByRecursion (λ p. lives_in t p ≡ false) (oldest_in middle.image middle.index)) (sym k.tree_is)
       ((dead_as after (oldest_in middle.image middle.index) k.history.rules.falls in_log).1 (subst (NoneLive after) (sym still_oldest) later))
+
+  pub dead_oldest : IsDeadOldest middle
+  dead_oldest = record { several = still_several; dead = now_dead }
 
   pub then_erased : (new : CoreState) → HasErased after middle new → HasCleaned past after copies old new
   then_erased new e = record {

@@ -297,12 +297,17 @@ module _ (past : List Node) (old new : CoreState) (q : Request) (works : old.fai
     same = λ none. absurd none;
   }
 
+  -- No room can be made for the node, which is so only in a volume with much that is live, and two
+  -- erased sectors stay erased.
+  abbrev pub IsFull : NewNode → Type 0
+  IsFull n = (2 ≤ (layout_in old.image old.index).erased → heavy old.index.sectors old.index.sector_size ≤ weight past) × (gets_room (turn_of past old new) n ≡ false) × KeepsTwo old new
+
   -- room couldn't be made
   pub make_stopped : (P : Node → Type 0) (node : Node) (cause : Cause) (after : List Node) (of : IsNodeOf old q node) → ((m : Node) → P m → IsInHand (turn_of past old new) q after m × MayFollow after m)
       → WantsFresh q.wish → has_room_for old rooms.Fresh (record_len node) ≡ false → (copies : OnlyCopies past after) → used copies.copies ≤ live_and_free (gc_state past old) → RefusedWith P cause past after old new
-      → (cause ≡ causes.NoSpace → 2 ≤ (layout_in old.image old.index).erased → heavy old.index.sectors old.index.sector_size ≤ weight past) → (cause ≡ causes.NoSpace → gets_room (turn_of past old new) of.new ≡ false) → (cause ≡ causes.NoSpace → KeepsTwo old new) → HasAnswered past old new q (Refused cause) None
-  make_stopped P node cause after of in_hand wants no_room copies little r bound full two =
-      let step : IsStep (turn_of past old new) q (Refused cause) after = subst (IsStep (turn_of past old new) q (Refused cause)) (sym copies.joined) (by_cause cause r bound full) in
+      → (cause ≡ causes.NoSpace → IsFull of.new) → HasAnswered past old new q (Refused cause) None
+  make_stopped P node cause after of in_hand wants no_room copies little r full =
+      let step : IsStep (turn_of past old new) q (Refused cause) after = subst (IsStep (turn_of past old new) q (Refused cause)) (sym copies.joined) (by_cause cause r full) in
       record {
         after = after;
         stands = refused_past P past after (λ m h. (in_hand m h).1) cause old new r;
@@ -312,7 +317,7 @@ module _ (past : List Node) (old new : CoreState) (q : Request) (works : old.fai
         faults = works_on_faults P cause past after old new r;
         in_hand = device_left P (IsInHand (turn_of past old new) q after) (λ m h. (in_hand m h).0) cause past after old new r;
         programs = refused_programs P (MayStand (turn_of past old new) q (Refused cause) after) cause past after old new (λ m device h. (ap (λ c. Refused c) device, (in_hand m h).0)) r;
-        two = λ k. refused_keeps P cause past after old new r two k;
+        two = λ k. refused_keeps P cause past after old new r (λ e. (full e).2) k;
         same = λ none. absurd (room_was_made cause r none);
       }
     where
@@ -327,16 +332,14 @@ module _ (past : List Node) (old new : CoreState) (q : Request) (works : old.fai
           by_refusal P past after old new (λ c. DoesNothing (Refused c) (turn_of past old new) q → ⊥)
           (λ w spent none. none made) (λ w none. none made) (λ w none. none made) (λ d none. none) c r
 
-      by_cause : (c : Cause) → RefusedWith P c past after old new → (c ≡ causes.NoSpace → 2 ≤ (layout_in old.image old.index).erased → heavy old.index.sectors old.index.sector_size ≤ weight past) → (c ≡ causes.NoSpace → gets_room (turn_of past old new) of.new ≡ false)
-          → IsStep (turn_of past old new) q (Refused c) (copies.copies ++ past)
-      by_cause c r bound full =
-          by_refusal P past after old new
-          (λ c. (c ≡ causes.NoSpace → 2 ≤ (layout_in old.image old.index).erased → heavy old.index.sectors old.index.sector_size ≤ weight past) → (c ≡ causes.NoSpace → gets_room (turn_of past old new) of.new ≡ false) → IsStep (turn_of past old new) q (Refused c) (copies.copies ++ past))
-          (λ w spent bound full. step_of (Refused causes.VersionsSpent) copies.copies [] (λ e. cc) copies.true_copies (inr made) little ((of.takes_node, inr (made, ap next_version (sym copies.joined) ∙ spent)), refl))
-          (λ w bound full. step_of (Refused causes.Memory) copies.copies [] (λ e. cc) copies.true_copies (inr made) little ((of.takes_node, (of.new, had_none.decided)), refl))
-          (λ w bound full. step_of (Refused causes.NoSpace) copies.copies [] (λ e. cc) copies.true_copies (inr made) little ((of.takes_node, (of.new, had_none, (λ f two. bound refl two), (λ f. full refl))), refl))
-          (λ d bound full. step_of (Refused causes.Device) copies.copies [] (λ e. cc) copies.true_copies (inr made) little (lt-ltb old.faults new.faults d.faults, refl))
-          c r bound full
+      by_cause : (c : Cause) → RefusedWith P c past after old new → (c ≡ causes.NoSpace → IsFull of.new) → IsStep (turn_of past old new) q (Refused c) (copies.copies ++ past)
+      by_cause c r full =
+          by_refusal P past after old new (λ c. (c ≡ causes.NoSpace → IsFull of.new) → IsStep (turn_of past old new) q (Refused c) (copies.copies ++ past))
+          (λ w spent full. step_of (Refused causes.VersionsSpent) copies.copies [] (λ e. cc) copies.true_copies (inr made) little ((of.takes_node, inr (made, ap next_version (sym copies.joined) ∙ spent)), refl))
+          (λ w full. step_of (Refused causes.Memory) copies.copies [] (λ e. cc) copies.true_copies (inr made) little ((of.takes_node, (of.new, had_none.decided)), refl))
+          (λ w full. step_of (Refused causes.NoSpace) copies.copies [] (λ e. cc) copies.true_copies (inr made) little ((of.takes_node, (of.new, had_none, (λ f. (full refl).0), (λ f. (full refl).1))), refl))
+          (λ d full. step_of (Refused causes.Device) copies.copies [] (λ e. cc) copies.true_copies (inr made) little (lt-ltb old.faults new.faults d.faults, refl))
+          c r full
 
 -- the answer in other words
 pub answers_same : (past : List Node) (old new : CoreState) (q : Request) (a b : Outcome) (node : Node) → a ≡ b → HasAnswered past old new q b (Some node) → HasAnswered past old new q a (Some node)

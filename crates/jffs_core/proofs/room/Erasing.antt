@@ -104,10 +104,6 @@ uses_along old middle new worked a b = record {
       ];
 }
 
--- The same by another name of the core before.
-pub uses_seen : (old seen new : CoreState) → old ≡ seen → UsesDevice old new → UsesDevice seen new
-uses_seen old seen new is h = subst (λ (c : CoreState). UsesDevice c new) is h
-
 -- An answer was kept.
 pub uses_kept : (writer seq : ℕ) (o : Outcome) (old new : CoreState) → KeepsAnswer writer seq o old new → UsesDevice old new
 uses_kept writer seq o old new kept = subst (UsesDevice old) (sym kept) (uses_none old (record old {

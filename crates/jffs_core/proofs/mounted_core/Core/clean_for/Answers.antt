@@ -45,8 +45,8 @@ returns-in_err-make_room-clause-acted g c = let p = err_from_is_err_and c.from_r
     let made = c.in_err-make_room.ensures.refused past known in
     let making = made.1 in
     let stopped = making.stopped in
-    make_stopped past _ _ q c.requires.working known (IsOwnCopy made.0) n _ made.0 d (λ m own. (inl own, copies_follow made.0 m own)) c.requires.fresh c.requires.no_room stopped.copies making.little stopped.stands (λ is two. absurd (stopped.no_room is two))
-    (λ is. its_gets past _ q n known d c.make_room.new.self c.record_len.result false c.record_len.ensures (making.none is)) (λ is two. absurd (stopped.no_room is two))
+    make_stopped past _ _ q c.requires.working known (IsOwnCopy made.0) n _ made.0 d (λ m own. (inl own, copies_follow made.0 m own)) c.requires.fresh c.requires.no_room stopped.copies making.little stopped.stands
+    (λ is. ((λ two. absurd (stopped.no_room is two)), its_gets past _ q n known d c.make_room.new.self c.record_len.result false c.record_len.ensures (making.none is), (λ two. absurd (stopped.no_room is two))))
 
 pub returns-in_default-clause-acted : goal.returns-in_default-clause-acted
 returns-in_default-clause-acted g c = λ past known.
@@ -57,7 +57,7 @@ returns-in_default-clause-acted g c = λ past known.
     let h = m.1 in
     let none = none_left _ c.in_default.not-Some in
     let spent = known_version m.0 c.make_room.new.self None h.stands.represents (ap (λ (v : CoreState). v.limits.next_version) (sym c.self.view_is) ∙ none) in
-    make_stopped past _ _ q c.requires.working known (IsOwnCopy m.0) n causes.VersionsSpent m.0 d (λ m2 own. (inl own, copies_follow m.0 m2 own)) c.requires.fresh c.requires.no_room h.copies (made_is_little c.record_len.result past m.0 _ c.make_room.new.self known h) (h.stands, spent) (λ is two. absurd (other is)) (λ is. absurd (other is)) (λ is. absurd (other is))
+    make_stopped past _ _ q c.requires.working known (IsOwnCopy m.0) n causes.VersionsSpent m.0 d (λ m2 own. (inl own, copies_follow m.0 m2 own)) c.requires.fresh c.requires.no_room h.copies (made_is_little c.record_len.result past m.0 _ c.make_room.new.self known h) (h.stands, spent) (λ is. absurd (other is))
   where
     other : ◌≡◌ {A = Cause} causes.VersionsSpent causes.NoSpace → ⊥
     other e = cc
@@ -106,10 +106,12 @@ returns-in_err-append-clause-acted g c = let p = err_from_is_err_and c.from_resi
     make_stopped past _ _ q c.requires.working known (λ x. x ≡ later) n _ m.0 d
     (λ x same. (subst (IsInHand (turn_of past c.args.self.now c.append.new.self) q m.0) (sym same) own, subst (MayFollow m.0) (sym same) follows.follows)) c.requires.fresh c.requires.no_room h.copies (made_is_little c.record_len.result past m.0 _ c.make_room.new.self known h)
     (refused_along (λ x. x ≡ later) _ past m.0 m.0 _ c.make_room.new.self _ h.stands (r.stands m.0 h.stands.represents follows))
-    (λ is two. turn_was_full c.record_len.result past m.0 _ c.make_room.new.self known h (subst (λ k. k ≤ c.args.self.now.index.sector_size / 4) (sym len) (its_short past _ q n known d))
-    (subst (λ k. has_room_for c.make_room.new.self rooms.Fresh k ≡ false) (sym len) (r.no_room is)) two)
-    (λ is. gets_made past _ q n known d m.0 c.make_room.new.self c.append.new.self c.record_len.result false len h (r.no_room is))
-    (λ is two. subst (λ (l : Layout). 2 ≤ l.erased) (sym (layout_unchanged c.make_room.new.self _ (r.same (not_for_room _ is)))) (h.two two))
+    (λ is. (
+      (λ two. turn_was_full c.record_len.result past m.0 _ c.make_room.new.self known h (subst (λ k. k ≤ c.args.self.now.index.sector_size / 4) (sym len) (its_short past _ q n known d))
+          (subst (λ k. has_room_for c.make_room.new.self rooms.Fresh k ≡ false) (sym len) (r.no_room is)) two),
+      gets_made past _ q n known d m.0 c.make_room.new.self c.append.new.self c.record_len.result false len h (r.no_room is),
+      (λ two. subst (λ (l : Layout). 2 ≤ l.erased) (sym (layout_unchanged c.make_room.new.self _ (r.same (not_for_room _ is)))) (h.two two)),
+    ))
 
 pub returns-clause-leaves : goal.returns-clause-leaves
 returns-clause-leaves g c =

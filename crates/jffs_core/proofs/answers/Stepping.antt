@@ -243,8 +243,8 @@ module _ (past : List Node) (old new : CoreState) (q : Request) (works : old.fai
           c r h none
 
   -- a fresh record was put at once
-  pub put_now : (node : Node) (of : IsNodeOf old q node) → is_fresh (with of.new 0 0 0) ≡ true → has_room_for old rooms.Fresh (record_len node) ≡ true → new.failed ≡ false → new.faults ≡ old.faults → KeepsTwo old new → ProgramsOnce past (node ∷ past) old new → RepresentsPast (node ∷ past) new → HasAnswered past old new q (Appended node.inode node.version) (Some node)
-  put_now node of fresh had now_works no_fault two programs stands =
+  pub put_now : (node : Node) (of : IsNodeOf old q node) → WantsFresh q.wish → has_room_for old rooms.Fresh (record_len node) ≡ true → new.failed ≡ false → new.faults ≡ old.faults → KeepsTwo old new → ProgramsOnce past (node ∷ past) old new → RepresentsPast (node ∷ past) new → HasAnswered past old new q (Appended node.inode node.version) (Some node)
+  put_now node of wants had now_works no_fault two programs stands =
       let z = old.index.sector_size in
       let log = layout_in old.image old.index in
       let room = room_at_once z (record_len (with of.new 0 0 0)) (length log.sectors) (gc_state past old) (by_length past old q node known of (λ k. has_room_for old rooms.Fresh k ≡ true) had) in
@@ -255,7 +255,7 @@ module _ (past : List Node) (old new : CoreState) (q : Request) (works : old.fai
             (record {
               new = of.new;
               decided = decision_is past old q known ∙ of.decided;
-              fresh = fresh;
+              fresh = fresh_is past old q node known of wants;
               inode_is = ap (λ (m : Node). m.inode) (sym of.is);
               next = its_version past old q node known of;
               added = ap (λ (m : Node). m ∷ []) of.is;

@@ -148,20 +148,7 @@ impl<F: Flash> Core<F> {
         let Some(version) = self.limits.next_version else {
             unreachable!()
         };
-        self.append_new(request, new.with(version, request.writer, request.seq))
-    }
-
-    /// Appends the node that was decided on, and hands it out. It stays a call, so that a request
-    /// which is refused moves no node.
-    #[inline(never)]
-    fn append_new(&mut self, request: &Request, mut node: Node) -> Result<Answered, Cause>
-        requires working { self.old.failed ≡ false }
-        requires decided { IsNodeOf self.old request.now node }
-        ensures acted { (past : List Node) → RepresentsWorking past self.old
-            → HasActed past self.old self.new request.now result }
-        ensures leaves { Leaves (erased_for request.now.wish self.old.index.held)
-            self.old self.new }
-    {
+        let mut node = new.with(version, request.writer, request.seq);
         let outcome = self.append_decided(request, &mut node)?;
         Ok(Answered {
             outcome,

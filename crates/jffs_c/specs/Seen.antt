@@ -7,7 +7,8 @@ use Rattle.jffs_node.specs.Path.{path_of}
 use Rattle.jffs_node.specs.declared.path.PathFault.{PathFault}
 use Rattle.jffs_node.specs.declared.path.PathFault.TheVariants as fault
 use Rattle.jffs_tree.specs.State.{resolve, is_directory_in}
-use Rattle.jffs_tree.specs.Origin.{Tree, state_in}
+use Rattle.jffs_inodes.specs.Inodes.{Tree}
+use Rattle.jffs_tree.specs.Origin.{state_in}
 use Rattle.jffs_tree.specs.Look.{bytes_in, size_of, names_in, name_cmp, holds_version}
 use Rattle.jffs_log.specs.Room.{heavy}
 use Rattle.jffs_c.specs.declared.code.Code.{Code}

@@ -3,7 +3,8 @@
 use Rattle.std.specs.Prelude.{◌≡◌, ◌⊎◌, true, List, [], ◌∷◌, ◌++◌, filter, Some}
 use Rattle.jffs_node.specs.declared.node.Node.{Node}
 use Rattle.jffs_node.specs.Record.{is_fresh, is_unmount}
-use Rattle.jffs_tree.specs.State.{Entry, State, apply, state_of_past}
+use Rattle.jffs_inodes.specs.Held.{Entry}
+use Rattle.jffs_tree.specs.State.{State, apply, state_of_past}
 use Rattle.jffs_tree.specs.Origin.{IsTrueCopy}
 use Rattle.jffs_log.specs.Room.{next_version}
 

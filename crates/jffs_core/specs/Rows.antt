@@ -11,7 +11,8 @@ use Rattle.jffs_tree.specs.declared.wish.Cause.{Cause}
 use Rattle.jffs_tree.specs.declared.wish.NewNode.{NewNode}
 use Rattle.jffs_node.specs.Rows.{created, hello_one, unmount_three}
 use Rattle.jffs_tree.specs.declared.wish.Cause.TheVariants.{FileLong, NameTaken, VersionsSpent}
-use Rattle.jffs_tree.specs.State.{bytes_of, state_of_past}
+use Rattle.jffs_inodes.specs.Held.{bytes_of}
+use Rattle.jffs_tree.specs.State.{state_of_past}
 use Rattle.jffs_tree.specs.Origin.{entry, is_live, marks}
 use Rattle.jffs_tree.specs.Decide.{decide, with, cleaning_copy}
 use Rattle.jffs_log.specs.Room.{limits, next_version, next_inode, heavy, weight}

@@ -2,7 +2,8 @@
 use Rattle.std.specs.Prelude.{◌≡◌, true, false, Option, Some, None}
 use Rattle.jffs_node.specs.declared.node.Node.{Node}
 use Rattle.jffs_tree.specs.State.{apply}
-use Rattle.jffs_tree.specs.Origin.{Tree, state_in}
+use Rattle.jffs_inodes.specs.Inodes.{Tree}
+use Rattle.jffs_tree.specs.Origin.{state_in}
 use Rattle.jffs_tree.specs.After.{can_apply}
 use Rattle.jffs_core.specs.CoreState.{CoreState}
 

@@ -8,7 +8,7 @@ use Rattle.std.specs.Map.{lookup, remove_entry}
 use Rattle.std.specs.BTreeMap.{insert_entry, is_at}
 use Rattle.std.proofs.lemmas.Bool.{eqb-true, eq-eqb, and_parts, true≢false, cond-true}
 use Rattle.jffs_tree.specs.declared.wish.Outcome.{Outcome}
-use Rattle.jffs_tree.proofs.states.Pointwise.{same_either_way}
+use Rattle.jffs_inodes.proofs.Put.{same_either_way}
 use Rattle.jffs_index.specs.Outcomes.{Outcomes, request_cmp, outcome_at, with_outcome}
 
 -- two requests tie only where they are the same

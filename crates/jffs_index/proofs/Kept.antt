@@ -18,7 +18,7 @@ use Rattle.jffs_index.specs.declared.rule.Index.{Index}
 use Rattle.jffs_index.specs.declared.page.Page.{Page}
 use Rattle.jffs_index.specs.declared.page.Change.{Change}
 use Rattle.jffs_index.specs.declared.page.Change.TheVariants.{Put, Reach}
-use Rattle.jffs_tree.specs.Origin.{Tree}
+use Rattle.jffs_inodes.specs.Inodes.{Tree}
 use Rattle.jffs_index.specs.Shown.{Shown, opened, after_step, after_tested, fits, all_fit}
 use Rattle.jffs_index.specs.Histories.{view_of, extended, BeginsWith}
 use Rattle.jffs_index.specs.Pages.{page_index, history_of, IsFaithful, after_change, steps_of, Knows, Keeps, Sees}

@@ -1,7 +1,7 @@
 -- The history of an index.
 use Rattle.std.specs.Prelude.{◌≡◌, List, [], ◌++◌}
 use Rattle.std.specs.List.{fold}
-use Rattle.jffs_tree.specs.Origin.{Tree}
+use Rattle.jffs_inodes.specs.Inodes.{Tree}
 use Rattle.jffs_index.specs.declared.step.Step.{Step}
 use Rattle.jffs_index.specs.declared.rule.History.{History}
 use Rattle.jffs_index.specs.Shown.{Shown, opened, after_step}

@@ -1,7 +1,7 @@
 -- What was seen of an index.
 use Rattle.std.specs.Prelude.{List, [], ◌∷◌}
 use Rattle.logbook.specs.Pages.{Book}
-use Rattle.jffs_tree.specs.Origin.{Tree}
+use Rattle.jffs_inodes.specs.Inodes.{Tree}
 use Rattle.jffs_index.specs.declared.step.Step.{Step}
 use Rattle.jffs_index.specs.declared.rule.History.{History}
 use Rattle.jffs_index.specs.declared.rule.Index.{Index}

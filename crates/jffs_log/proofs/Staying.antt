@@ -7,7 +7,7 @@ use Rattle.jffs_node.specs.declared.node.Node.{Node}
 use Rattle.jffs_tree.specs.Origin.{concerns, size_in, writes, offset_before, origin, newest, version_of, is_live}
 use Rattle.jffs_tree.specs.Laws.{NoneLive}
 use Rattle.jffs_tree.proofs.states.Steps.{entry-other, newest-other, newest-deleted, newest-written, origin-other, origin-deleted, origin-written, origin-moved, origin-padding}
-use Rattle.jffs_tree.specs.State.{bytes_of}
+use Rattle.jffs_inodes.specs.Held.{bytes_of}
 use Rattle.jffs_log.proofs.rooms.Copied.{comes_from, is_newest_live, is_origin_live}
 
 of_none : (o : Option Node) (v : ℕ) → o ≡ None → version_of o ≡ Some v → ⊥

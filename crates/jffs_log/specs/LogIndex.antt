@@ -1,7 +1,8 @@
 -- What a log keeps in memory of its device.
 use Rattle.std.specs.Prelude.{◌≡◌, ◌⊎◌, ℕ, ◌*◌, true, List, [], ◌∷◌, ◌++◌, length, map, filter}
 use Rattle.std.specs.Prelude.{flat_map, sum_by, None, Bool, ◌&&◌, ◌==◌, if◌then◌else◌}
-use Rattle.jffs_tree.specs.Origin.{Tree, is_live}
+use Rattle.jffs_inodes.specs.Inodes.{Tree}
+use Rattle.jffs_tree.specs.Origin.{is_live}
 use Rattle.jffs_tree.specs.Look.{holds_version}
 use Rattle.std.specs.List.{AllByRecursion, last_or}
 use Rattle.jffs_node.specs.declared.node.Node.{Node}

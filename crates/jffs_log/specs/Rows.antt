@@ -6,7 +6,7 @@ use Rattle.jffs_node.specs.declared.read.Why.TheVariants as why
 use Rattle.jffs_node.specs.Record.{spelling}
 use Rattle.jffs_node.specs.Rows.{lone_unmount, created, hello, hello_one, old_sector, hole_of}
 use Rattle.jffs_node.specs.Rows.{erased_from}
-use Rattle.jffs_tree.specs.State.{bytes_of}
+use Rattle.jffs_inodes.specs.Held.{bytes_of}
 use Rattle.jffs_tree.specs.Origin.{entry}
 use Rattle.jffs_log.specs.declared.scanning.ScanWhy.{ScanWhy}
 use Rattle.jffs_log.specs.declared.scanning.ScanWhy.TheVariants.{Geometry, BadRecord, NoErased}

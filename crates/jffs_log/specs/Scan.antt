@@ -11,7 +11,8 @@ use Rattle.jffs_flash.specs.Sizes.{is_geometry}
 use Rattle.jffs_log.specs.declared.scanning.ScanWhy.{ScanWhy}
 use Rattle.jffs_log.specs.declared.scanning.ScanWhy.TheVariants.{Geometry, BadRecord, NoErased}
 use Rattle.jffs_log.specs.declared.scanning.ScanWhy.TheVariants.{Scattered, BadOrder, BadTree}
-use Rattle.jffs_tree.specs.Origin.{Tree, tree_of}
+use Rattle.jffs_inodes.specs.Inodes.{Tree}
+use Rattle.jffs_tree.specs.Origin.{tree_of}
 use Rattle.jffs_tree.specs.Check.{makes_tree}
 use Rattle.jffs_log.specs.Image.{Sector, Placed, sector_of, is_one_run, log_of, nodes_of, past_of}
 use Rattle.jffs_log.specs.Image.{is_clean}

@@ -4,7 +4,8 @@ use Rattle.std.specs.Prelude.{Result, Ok, Err}
 use Rattle.std.specs.List.{AllByRecursion}
 use Rattle.jffs_node.specs.declared.node.Node.{Node}
 use Rattle.jffs_tree.specs.declared.wish.Limits.{Limits}
-use Rattle.jffs_tree.specs.Origin.{Tree, tree_of}
+use Rattle.jffs_inodes.specs.Inodes.{Tree}
+use Rattle.jffs_tree.specs.Origin.{tree_of}
 use Rattle.jffs_tree.specs.Check.{each_fits, has_second_form}
 use Rattle.jffs_log.specs.declared.folding.MadeTree.{MadeTree}
 use Rattle.jffs_log.specs.declared.log_index.LogIndex.{LogIndex}

@@ -3,7 +3,8 @@ use Rattle.std.specs.Prelude.{ℕ, ◌-◌, Bool, List, [], ◌++◌, flat_map, 
 use Rattle.std.specs.Prelude.{codes, decimal, if◌then◌else◌}
 use Rattle.std.specs.Option.{option_map_or}
 use Rattle.jffs_tree.specs.State.{is_directory_in}
-use Rattle.jffs_tree.specs.Origin.{Tree, state_in}
+use Rattle.jffs_inodes.specs.Inodes.{Tree}
+use Rattle.jffs_tree.specs.Origin.{state_in}
 use Rattle.jffs_tree.specs.Look.{children, parent_name_in, size_of}
 use Rattle.jffs_text.specs.Dump.{by_name, line_end}
 use Rattle.jffs_log.specs.declared.log_index.RecordRef.{RecordRef}

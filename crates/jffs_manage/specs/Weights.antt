@@ -1,6 +1,6 @@
 -- What takes the room of a volume.
 use Rattle.std.specs.Prelude.{ℕ, ◌==◌, ◌&&◌, List, map, filter, sum}
-use Rattle.jffs_tree.specs.Origin.{Tree}
+use Rattle.jffs_inodes.specs.Inodes.{Tree}
 use Rattle.jffs_tree.specs.Look.{holds_version}
 use Rattle.jffs_log.specs.declared.log_index.RecordRef.{RecordRef}
 

@@ -1,6 +1,6 @@
 -- What a reader of a run saw besides the answer that it waited for.
 use Rattle.std.specs.Prelude.{◌≡◌, ◌⊎◌, ℕ, List, ◌∷◌, ◌++◌, map}
-use Rattle.jffs_tree.specs.Origin.{Tree}
+use Rattle.jffs_inodes.specs.Inodes.{Tree}
 use Rattle.jffs_index.specs.declared.rule.History.{History}
 use Rattle.jffs_index.specs.Histories.{view_of}
 use Rattle.jffs_core.specs.CoreState.{CoreState}

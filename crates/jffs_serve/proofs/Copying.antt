@@ -10,7 +10,7 @@ use Rattle.jffs_node.specs.declared.read.Read.TheVariants.{Closed, Free, Torn, B
 use Rattle.jffs_node.specs.Reading.{Reading, found, reading_of, after_record}
 use Rattle.jffs_node.proofs.Each.{each_append}
 use Rattle.jffs_tree.specs.declared.wish.Wish.{Wish}
-use Rattle.jffs_tree.specs.Origin.{Tree}
+use Rattle.jffs_inodes.specs.Inodes.{Tree}
 use Rattle.jffs_line.specs.declared.request.Request.{Request}
 use Rattle.jffs_serve.specs.declared.copies.Copying.{Copying}
 use Rattle.jffs_serve.specs.Copies.{IsCopy, HandsInCopies, AreSome, AddsSome}

@@ -3,7 +3,8 @@ use Rattle.std.proofs.Common.{◌≡◌, true, false, ⊎_elim, List, [], ◌∷
 use Rattle.std.proofs.lemmas.Bool.{both_ways, cases_Bool}
 use Rattle.jffs_node.specs.declared.node.Node.{Node}
 use Rattle.jffs_tree.specs.State.{apply}
-use Rattle.jffs_tree.specs.Origin.{Tree, state_in}
+use Rattle.jffs_inodes.specs.Inodes.{Tree}
+use Rattle.jffs_tree.specs.Origin.{state_in}
 use Rattle.jffs_core.specs.CoreState.{CoreState, IsSameButCapacity}
 use Rattle.jffs_core.specs.Trees.{TakesNode, TellsNode, KeepsTree}
 use Rattle.jffs_core.proofs.puts.Trees.{test_by_state, state_after}

@@ -5,7 +5,7 @@ use Rattle.std.specs.Global.{Vec}
 use Rattle.std.specs.List.{AllByRecursion}
 use Rattle.rtrb.specs.Ring.{received}
 use Rattle.jffs_tree.specs.declared.wish.Wish.{Wish}
-use Rattle.jffs_tree.specs.Origin.{Tree}
+use Rattle.jffs_inodes.specs.Inodes.{Tree}
 use Rattle.jffs_line.specs.declared.request.Request.{Request}
 use Rattle.jffs_index.specs.declared.rule.History.{History}
 use Rattle.jffs_index.specs.Histories.{BeginsWith, view_of}

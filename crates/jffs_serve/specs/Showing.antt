@@ -1,6 +1,7 @@
 -- What the publisher of a session shows of its core.
 use Rattle.std.specs.Prelude.{◌≡◌, true, false, Option, Some, None}
-use Rattle.jffs_tree.specs.Origin.{Tree, state_in}
+use Rattle.jffs_inodes.specs.Inodes.{Tree}
+use Rattle.jffs_tree.specs.Origin.{state_in}
 use Rattle.jffs_core.specs.CoreState.{CoreState}
 use Rattle.jffs_index.specs.declared.publisher.Publisher.{Publisher}
 use Rattle.jffs_index.specs.Shown.{Shown, after_step, fits}

@@ -8,9 +8,10 @@ use Rattle.std.proofs.KnownBytes.{Appends-trans}
 use Rattle.std.proofs.lemmas.Bool.{or_parts, cond-true, cond-false}
 use Rattle.std.proofs.Math.Seq.{take-append_seam}
 use Rattle.std.specs.Prelude.{codes}
-use Rattle.jffs_tree.specs.State.{State, at, bytes_of, root, is_directory_in}
-use Rattle.jffs_tree.specs.Origin.{Held, Tree, state_in}
-use Rattle.jffs_tree.specs.After.{held_in}
+use Rattle.jffs_tree.specs.State.{State, at, root, is_directory_in}
+use Rattle.jffs_inodes.specs.Held.{bytes_of, Held}
+use Rattle.jffs_inodes.specs.Inodes.{Tree, held_in}
+use Rattle.jffs_tree.specs.Origin.{state_in}
 use Rattle.jffs_tree.specs.Look.{bytes_in, size_of, names_in, children, name_cmp}
 use Rattle.jffs_tree.proofs.trees.Looked.{bytes_told}
 use Rattle.jffs_text.specs.Added.{IsBegun}

@@ -2,7 +2,8 @@
 use Rattle.std.specs.Prelude.{ℕ, zero, suc, ◌+◌, ◌/◌, ◌%◌, nat_lt, List, [], ◌∷◌, ◌++◌, length}
 use Rattle.std.specs.Prelude.{flat_map, codes, decimal, if◌then◌else◌}
 use Rattle.std.specs.Ordering.{is_gt}
-use Rattle.jffs_tree.specs.State.{State, root, at, bytes_of, is_directory_in}
+use Rattle.jffs_tree.specs.State.{State, root, at, is_directory_in}
+use Rattle.jffs_inodes.specs.Held.{bytes_of}
 use Rattle.jffs_tree.specs.Look.{children, name_cmp}
 use Rattle.jffs_node.specs.declared.path.TheConstants.{PATH_DEPTH_MAX}
 

@@ -2,7 +2,8 @@
 
 ghost use Rattle.std.specs.Prelude.{◌≡◌, ◌<◌, ◌*◌, true, false, length, OnOk};
 ghost use Rattle.std.specs.Io.KnownBytes.{Appends};
-ghost use Rattle.jffs_tree.specs.State.{is_directory_in, bytes_of, at};
+ghost use Rattle.jffs_tree.specs.State.{is_directory_in, at};
+ghost use Rattle.jffs_inodes.specs.Held.{bytes_of};
 ghost use Rattle.jffs_tree.specs.Origin.{state_in};
 ghost use Rattle.jffs_tree.specs.Look.{bytes_in};
 ghost use Rattle.jffs_text.specs.Added.{IsBegun};

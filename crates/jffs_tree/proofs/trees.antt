@@ -3,6 +3,5 @@ pub mod Applied
 pub mod Grown
 pub mod InOrder
 pub mod Looked
-pub mod Maps
 pub mod Tested
 pub mod Written

@@ -1,9 +1,8 @@
 -- What is decided on a wish: why it is refused, or which node it makes. Of a state, and of who
 -- holds which live version.
 use Rattle.std.specs.Prelude.{ℕ, ◌+◌, ◌-◌, min, max, Bool, true, false, not, ◌&&◌, ◌||◌, ◌==◌}
-use Rattle.std.specs.Prelude.{nat_le, nat_lt, List, [], ◌∷◌, length, take, drop, get_or, Option}
-use Rattle.std.specs.Prelude.{Some, None, is_none, is_some, unwrap_or, Result, Ok, Err, bytes_eq}
-use Rattle.std.specs.Prelude.{if◌then◌else◌}
+use Rattle.std.specs.Prelude.{nat_lt, List, [], ◌∷◌, length, take, drop, get_or, Option, Some, None}
+use Rattle.std.specs.Prelude.{is_none, is_some, unwrap_or, Result, Ok, Err, bytes_eq, if◌then◌else◌}
 use Rattle.std.specs.Option.{option_map_or}
 use Rattle.std.specs.List.{list_any}
 use Rattle.jffs_node.specs.declared.node.Node.{Node}
@@ -20,8 +19,10 @@ use Rattle.jffs_tree.specs.declared.wish.Cause.TheVariants.{FileLong, NotEmpty, 
 use Rattle.jffs_tree.specs.declared.wish.Cause.TheVariants.{InodesSpent, VersionsSpent}
 use Rattle.jffs_tree.specs.declared.wish.Limits.{Limits}
 use Rattle.jffs_tree.specs.declared.wish.NewNode.{NewNode}
-use Rattle.jffs_tree.specs.State.{Entry, State, at, resolve, is_directory_in, state_of_past}
-use Rattle.jffs_tree.specs.Origin.{Held, Tree, tree_of, state_in, holder, stated_size}
+use Rattle.jffs_inodes.specs.Held.{Entry, Held, is_current}
+use Rattle.jffs_tree.specs.State.{State, at, resolve, is_directory_in, state_of_past}
+use Rattle.jffs_inodes.specs.Inodes.{Tree}
+use Rattle.jffs_tree.specs.Origin.{tree_of, state_in, holder, stated_size}
 
 abbrev pub is_copy_wish : Wish → Bool
 is_copy_wish (Copy source parent name offset bytes) = true
@@ -113,11 +114,6 @@ unmount_node = record {
   name = None;
   bytes = [];
 }
-
--- the current bytes from the offset on begin with these
-abbrev pub is_current : Entry → ℕ → List ℕ → Bool
-is_current e offset bytes =
-    nat_le offset (length e.bytes) && bytes_eq (take (length bytes) (drop offset e.bytes)) bytes
 
 abbrev pub held_entry : Option (ℕ × Held) → Entry
 held_entry None = nobody

@@ -10,7 +10,8 @@ use Rattle.jffs_tree.specs.declared.wish.NewNode.{NewNode}
 use Rattle.jffs_tree.specs.declared.wish.Wish.{Wish}
 use Rattle.jffs_tree.specs.declared.wish.Wish.TheVariants.{MakeDir, Create, Write, Truncate, Rename}
 use Rattle.jffs_tree.specs.declared.wish.Wish.TheVariants.{Remove, Copy, Unmount}
-use Rattle.jffs_tree.specs.State.{Entry, state_of_past}
+use Rattle.jffs_inodes.specs.Held.{Entry}
+use Rattle.jffs_tree.specs.State.{state_of_past}
 use Rattle.jffs_tree.specs.Origin.{entry}
 use Rattle.jffs_tree.specs.Check.{makes_tree}
 use Rattle.jffs_tree.specs.Decide.{decide, with, cleaning_copy}

@@ -12,7 +12,8 @@ use Rattle.jffs_tree.specs.declared.wish.NewNode.{NewNode}
 use Rattle.jffs_tree.specs.declared.wish.Wish.{Wish}
 use Rattle.jffs_tree.specs.declared.wish.Wish.TheVariants.{MakeDir, Create, Write, Truncate, Rename}
 use Rattle.jffs_tree.specs.declared.wish.Wish.TheVariants.{Remove, Copy, Unmount}
-use Rattle.jffs_tree.specs.State.{Entry, State, root, at, apply, resolve, state_of_past}
+use Rattle.jffs_inodes.specs.Held.{Entry}
+use Rattle.jffs_tree.specs.State.{State, root, at, apply, resolve, state_of_past}
 use Rattle.jffs_tree.specs.Decide.{last_name, parent_in, decide, with}
 use Rattle.jffs_tree.specs.Deciding.{AreLimitsOf}
 

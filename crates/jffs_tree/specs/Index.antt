@@ -7,8 +7,7 @@ use Rattle.std.specs.Ordering.{ordering_then, nat_cmp}
 use Rattle.std.specs.Cmp.Lexicographic.{slice_cmp}
 use Rattle.std.specs.BTreeMap.{is_at}
 use Rattle.std.specs.declared.cmp.Ordering.{Ordering}
-use Rattle.jffs_tree.specs.Origin.{Tree}
-use Rattle.jffs_tree.specs.After.{held_in}
+use Rattle.jffs_inodes.specs.Inodes.{Tree, held_in}
 
 -- A directory, a name in it and the inode that stands there. A key without a name is before all
 -- names of its directory.

@@ -10,9 +10,11 @@ use Rattle.jffs_tree.specs.declared.wish.NewNode.{NewNode}
 use Rattle.jffs_tree.specs.declared.wish.Wish.{Wish}
 use Rattle.jffs_tree.specs.declared.wish.Wish.TheVariants.{Copy}
 use Rattle.jffs_tree.specs.Check.{keeps_kind, keeps_offsets, makes_tree}
-use Rattle.jffs_tree.specs.After.{keeps_kind_in, keeps_offsets_in, tree_after}
+use Rattle.jffs_tree.specs.After.{keeps_kind_in, tree_after}
+use Rattle.jffs_inodes.specs.Inodes.{keeps_offsets_in}
 use Rattle.jffs_tree.specs.Decide.{decide, decide_on, with, cleaning_copy}
-use Rattle.jffs_tree.specs.State.{Entry, at, bytes_of, state_of_past}
+use Rattle.jffs_inodes.specs.Held.{Entry, bytes_of}
+use Rattle.jffs_tree.specs.State.{at, state_of_past}
 use Rattle.jffs_tree.specs.Origin.{IsTrueCopy, is_live, newest, size_in, origin, origin_offset}
 use Rattle.jffs_tree.specs.Origin.{tree_of, entry}
 

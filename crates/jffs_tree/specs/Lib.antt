@@ -4,12 +4,9 @@ pub mod Decide
 pub mod Check
 pub mod After
 pub mod Index
-pub mod Marks
 pub mod Indexed
-pub mod Shown
 pub mod Look
 pub mod Laws
 pub mod Examples
 pub mod Deciding
-pub mod Fragments
 pub mod Done

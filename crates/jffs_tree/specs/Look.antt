@@ -10,8 +10,9 @@ use Rattle.jffs_node.specs.declared.node.Node.{Node}
 use Rattle.jffs_node.specs.declared.node.Kind.{Kind}
 use Rattle.jffs_node.specs.declared.node.Kind.TheVariants.{Directory}
 use Rattle.jffs_tree.specs.State.{State, root, is_directory_in}
-use Rattle.jffs_tree.specs.Origin.{Tree, state_in, versions_held}
-use Rattle.jffs_tree.specs.After.{held_in}
+use Rattle.jffs_inodes.specs.Inodes.{Tree, held_in}
+use Rattle.jffs_tree.specs.Origin.{state_in}
+use Rattle.jffs_inodes.specs.Held.{versions_held}
 
 -- the root is a directory in every tree
 abbrev pub kind_in : Tree → ℕ → Option Kind

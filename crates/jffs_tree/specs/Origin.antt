@@ -1,12 +1,14 @@
 -- Which node a byte comes from, and which nodes are live. `past` has the newest node first.
 use Rattle.std.specs.Prelude.{◌≡◌, ℕ, ◌+◌, ◌-◌, Bool, true, false, not, ◌&&◌, ◌==◌, nat_le, nat_lt}
-use Rattle.std.specs.Prelude.{List, [], ◌∷◌, ◌++◌, length, map, flat_map, take, drop, count_by}
-use Rattle.std.specs.Prelude.{Option, Some, None, option_map, if◌then◌else◌, IsTrue}
+use Rattle.std.specs.Prelude.{List, [], ◌∷◌, length, map, flat_map, take, drop, count_by, Option}
+use Rattle.std.specs.Prelude.{Some, None, option_map, if◌then◌else◌, IsTrue}
 use Rattle.std.specs.List.{range_with_len, list_any, find}
-use Rattle.std.specs.Option.{option_map_or, option_to_list}
+use Rattle.std.specs.Option.{option_map_or}
 use Rattle.jffs_node.specs.declared.node.Node.{Node}
 use Rattle.jffs_node.specs.Record.{dsize, name_bytes, is_unmount, is_file}
-use Rattle.jffs_tree.specs.State.{Entry, State, bytes_of, written, state_of_past}
+use Rattle.jffs_inodes.specs.Held.{Entry, bytes_of, written, Held, versions_held}
+use Rattle.jffs_tree.specs.State.{State, state_of_past}
+use Rattle.jffs_inodes.specs.Inodes.{Tree}
 
 -- whether the node speaks of the inode
 abbrev pub concerns : ℕ → Node → Bool
@@ -52,14 +54,6 @@ abbrev pub newest : List Node → ℕ → Option Node
 newest [] i = None
 newest (n ∷ past) i = if concerns i n then (if n.deleted then None else Some n) else newest past i
 
--- What a tree holds of an inode: its entry; of each byte the version that wrote it last; of its
--- newest node the version and the form.
-pub record Held : Type 0 where
-  pub entry : Entry
-  pub writers : List (Option ℕ)
-  pub newest : Option ℕ
-  pub states_size : Bool
-
 abbrev pub version_of : Option Node → Option ℕ
 version_of o = option_map (λ n. n.version) o
 
@@ -81,19 +75,12 @@ held past e = (
   },
 )
 
-abbrev pub Tree : Type 0
-Tree = List (ℕ × Held)
-
 -- the tree of the nodes: a contract says `self.now ≡ tree_of past`
 abbrev pub tree_of : List Node → Tree
 tree_of past = map (held past) (state_of_past past)
 
 abbrev pub state_in : Tree → State
 state_in tree = map (λ h. (h.0, h.1.entry)) tree
-
--- The live versions of a present inode: its newest node, and whoever wrote one of its bytes last.
-abbrev pub versions_held : ℕ × Held → List ℕ
-versions_held h = option_to_list h.1.newest ++ flat_map option_to_list h.1.writers
 
 abbrev pub live_versions : List Node → List ℕ
 live_versions past = flat_map versions_held (tree_of past)

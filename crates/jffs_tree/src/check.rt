@@ -3,14 +3,15 @@
 ghost use Rattle.std.specs.Prelude.{◌≡◌};
 ghost use Rattle.std.specs.List.{list_all};
 ghost use Rattle.jffs_tree.specs.Origin.{state_in};
-ghost use Rattle.jffs_tree.specs.Check.{check, parents_are_there, names_differ, bytes_are_written};
+ghost use Rattle.jffs_tree.specs.Check.{check, parents_are_there, names_differ};
+ghost use Rattle.jffs_inodes.specs.Held.{bytes_are_written};
 ghost use Rattle.jffs_tree.specs.Check.{is_within, is_near};
 ghost use Rattle.jffs_node.specs.declared.path.TheConstants.{PATH_DEPTH_MAX};
 
 use crate::children::are_apart;
-use crate::inode::Inode;
 use crate::look::ROOT;
 use crate::tree::Tree;
+use jffs_inodes::Inode;
 use jffs_node::PATH_DEPTH_MAX;
 
 impl Tree {
@@ -28,7 +29,7 @@ impl Tree {
         ensures { result ≡ parents_are_there (state_in self.now) }
     {
         for (_, found) in self.inodes.iter() {
-            if !self.is_directory(found.parent) {
+            if !self.is_directory(found.parent()) {
                 return false;
             }
         }
@@ -78,7 +79,7 @@ impl Tree {
     fn is_near(&self, inode: u32, found: &Inode) -> bool
         ensures { result ≡ is_near (state_in self.now) (inode, found.now.entry) }
     {
-        inode == ROOT || self.is_within(PATH_DEPTH_MAX as u32 - 1, found.parent)
+        inode == ROOT || self.is_within(PATH_DEPTH_MAX as u32 - 1, found.parent())
     }
 
     /// Whether at most `names` names lead from the root to the inode.
@@ -92,7 +93,7 @@ impl Tree {
             return false;
         }
         match self.inode(inode) {
-            Some(found) => self.is_within(names - 1, found.parent),
+            Some(found) => self.is_within(names - 1, found.parent()),
             None => false,
         }
     }

@@ -5,6 +5,7 @@ ghost use Rattle.jffs_tree.specs.Origin.{state_in};
 ghost use Rattle.jffs_tree.specs.Look.{holds_version};
 ghost use Rattle.jffs_tree.specs.Decide.{cleaning_copy};
 
+use crate::decide::plain;
 use crate::tree::Tree;
 use crate::wish::NewNode;
 use jffs_node::{Bytes, NoMemory, Node, copied};
@@ -19,7 +20,7 @@ impl Tree {
         ensures { IfOk result (λ n. n ≡ cleaning_copy (state_in self.now) source.now) }
     {
         let found = self.present(source.inode);
-        let mut node = found.plain(source.inode);
+        let mut node = plain(found, source.inode);
         node.copy = true;
         // The bytes are copied, not shared: who handed them in may have cut them out of a larger
         // block, which a copy lets go of.

@@ -7,40 +7,38 @@ ghost use Rattle.jffs_tree.specs.declared.wish.Wish.TheVariants.{Write, Truncate
 ghost use Rattle.jffs_tree.specs.declared.wish.Wish.TheVariants.{Copy, Unmount};
 ghost use Rattle.jffs_tree.specs.State.{is_directory_in};
 ghost use Rattle.jffs_tree.specs.Origin.{holder, state_in};
-ghost use Rattle.jffs_tree.specs.After.{held_in};
+ghost use Rattle.jffs_inodes.specs.Inodes.{held_in};
 ghost use Rattle.jffs_node.specs.Path.{IsPath};
 ghost use Rattle.jffs_tree.specs.Deciding.{IsWish};
 ghost use Rattle.jffs_tree.specs.Decide.{decide_on, decide_new, parent_in, is_there, has_names};
 ghost use Rattle.jffs_tree.specs.Decide.{plain, entry_of, carries_bytes};
 
 use crate::children::any_named;
-use crate::inode::Inode;
 use crate::look::ROOT;
 use crate::tree::Tree;
 use crate::wish::{Cause, Limits, NewNode, Wish};
+use jffs_inodes::Inode;
 use jffs_node::{Bytes, FILE_MAX, Kind, Name, Path, shared};
 
-impl Inode {
-    /// A node that only says what the inode is.
-    pub(crate) fn plain(&self, inode: u32) -> NewNode
-        ensures { result ≡ plain inode self.now.entry }
-    {
-        NewNode {
-            kind: self.kind,
-            deleted: false,
-            copy: false,
-            inode,
-            parent: self.parent,
-            offset: 0,
-            rsize: 0,
-            size: if self.kind == Kind::File {
-                Some(self.size())
-            } else {
-                None
-            },
-            name: Some(self.name),
-            bytes: Bytes::new(),
-        }
+/// A node that only says what an inode is.
+pub(crate) fn plain(found: &Inode, inode: u32) -> NewNode
+    ensures { result ≡ plain inode found.now.entry }
+{
+    NewNode {
+        kind: found.kind(),
+        deleted: false,
+        copy: false,
+        inode,
+        parent: found.parent(),
+        offset: 0,
+        rsize: 0,
+        size: if found.kind() == Kind::File {
+            Some(found.size())
+        } else {
+            None
+        },
+        name: Some(found.name()),
+        bytes: Bytes::new(),
     }
 }
 
@@ -143,7 +141,7 @@ impl Tree {
             return None;
         }
         let found = self.inode(inode)?;
-        if found.kind == Kind::Directory {
+        if found.kind() == Kind::Directory {
             return None;
         }
         Some(found)
@@ -190,7 +188,7 @@ impl Tree {
             return Err(Cause::VersionsSpent);
         }
         let old = found.size();
-        let mut node = found.plain(inode);
+        let mut node = plain(found, inode);
         let length = data.len() as u32;
         if length == 0 {
             node.offset = offset.min(old);
@@ -220,7 +218,7 @@ impl Tree {
             return Err(Cause::VersionsSpent);
         }
         let old = found.size();
-        let mut node = found.plain(inode);
+        let mut node = plain(found, inode);
         node.offset = size.min(old);
         node.rsize = old - size.min(old);
         node.size = Some(size);
@@ -251,13 +249,13 @@ impl Tree {
             return Err(Cause::NotFound);
         };
         let found = self.present(inode);
-        if found.kind == Kind::Directory && found.parent != parent {
+        if found.kind() == Kind::Directory && found.parent() != parent {
             return Err(Cause::IsDirectory);
         }
         if limits.next_version.is_none() {
             return Err(Cause::VersionsSpent);
         }
-        let mut node = found.plain(inode);
+        let mut node = plain(found, inode);
         node.parent = parent;
         node.name = Some(*name);
         Ok(node)
@@ -279,7 +277,7 @@ impl Tree {
         if limits.next_version.is_none() {
             return Err(Cause::VersionsSpent);
         }
-        let mut node = self.present(inode).plain(inode);
+        let mut node = plain(self.present(inode), inode);
         node.deleted = true;
         node.size = None;
         Ok(node)
@@ -314,7 +312,7 @@ impl Tree {
         if limits.next_version.is_none() {
             return Err(Cause::VersionsSpent);
         }
-        let mut node = found.plain(inode);
+        let mut node = plain(found, inode);
         node.copy = true;
         node.offset = offset;
         node.rsize = bytes.len() as u32;

@@ -2,10 +2,11 @@
 
 ghost use Rattle.std.specs.Prelude.{◌≡◌, ◌==◌, ◌&&◌, ◌||◌, ◌+◌, true, IsTrue, length, nat_le};
 ghost use Rattle.jffs_node.specs.Record.{is_lawful, dsize, kind_byte};
-ghost use Rattle.jffs_tree.specs.After.{can_apply, suits_tree, keeps_kind_in, keeps_offsets_in};
+ghost use Rattle.jffs_tree.specs.After.{can_apply, suits_tree, keeps_kind_in};
+ghost use Rattle.jffs_inodes.specs.Inodes.{keeps_offsets_in};
 
-use crate::inode::Inode;
 use crate::tree::Tree;
+use jffs_inodes::Inode;
 use jffs_node::{Node, is_lawful};
 
 impl Tree {
@@ -26,28 +27,25 @@ impl Tree {
         ensures { result ≡ (keeps_kind_in self.now node.now && keeps_offsets_in self.now node.now) }
     {
         match self.inode(node.inode) {
-            Some(found) => found.keeps_kind(node) && found.keeps_offsets(node),
+            Some(found) => keeps_kind(found, node) && keeps_offsets(found, node),
             None => true,
         }
     }
 }
 
-impl Inode {
-    /// Whether a node leaves the inode its kind.
-    fn keeps_kind(&self, node: &Node) -> bool
-        ensures { result
-            ≡ (node.now.deleted || (kind_byte self.now.entry.kind == kind_byte node.now.kind)) }
-    {
-        node.deleted || self.kind == node.kind
-    }
+/// Whether a node leaves the inode its kind.
+fn keeps_kind(found: &Inode, node: &Node) -> bool
+    ensures { result
+        ≡ (node.now.deleted || (kind_byte found.now.entry.kind == kind_byte node.now.kind)) }
+{
+    node.deleted || found.kind() == node.kind
+}
 
-    /// Whether no byte after the node's range moves.
-    fn keeps_offsets(&self, node: &Node) -> bool
-        ensures { result ≡ ((dsize node.now == node.now.rsize)
-            || nat_le (length self.now.entry.bytes) (node.now.offset + node.now.rsize)) }
-    {
-        let amount = node.bytes.as_slice().len();
-        amount == node.rsize as usize
-            || self.size() as u64 <= node.offset as u64 + node.rsize as u64
-    }
+/// Whether no byte after the node's range moves.
+fn keeps_offsets(found: &Inode, node: &Node) -> bool
+    ensures { result ≡ ((dsize node.now == node.now.rsize)
+        || nat_le (length found.now.entry.bytes) (node.now.offset + node.now.rsize)) }
+{
+    let amount = node.bytes.as_slice().len();
+    amount == node.rsize as usize || found.size() as u64 <= node.offset as u64 + node.rsize as u64
 }

@@ -4,8 +4,9 @@
 //! byte by byte the version of the node that wrote it. Besides them it keeps how often each
 //! version is live, so that no call walks the inodes for that. `Tree::apply` takes in the next
 //! node, `Tree::decide` says which node a wish gets or why it gets none, and the other calls
-//! look. It stands on `jffs_node` and knows nothing of flash, sectors or threads. Each call of
-//! `Tree` is proved against the definitions in `specs/`; the laws over those stand in `laws`.
+//! look. Its inodes are those of `jffs_inodes`, its counts those of `jffs_marks`, and it knows
+//! nothing of flash, sectors or threads. Each call of `Tree` is proved against the definitions in
+//! `specs/`; the laws over those stand in `laws`.
 #![tactic(auto)]
 
 mod check;
@@ -15,16 +16,9 @@ mod copy;
 mod decide;
 mod deciding;
 mod fits;
-mod fragment;
-mod fragment_map;
-mod inode;
-mod inodes;
 mod laws;
-mod leaving;
 mod look;
-mod marks;
 mod names;
-mod piece;
 mod tree;
 mod wish;
 

@@ -7,13 +7,13 @@ ghost use Rattle.jffs_node.specs.declared.node.Node.{Node};
 ghost use Rattle.jffs_tree.specs.State.{child, resolve};
 ghost use Rattle.jffs_tree.specs.Origin.{tree_of, state_in, size_in, origin, newest, version_of};
 ghost use Rattle.jffs_tree.specs.Origin.{is_live, marks, any_live};
-ghost use Rattle.jffs_tree.specs.After.{held_in};
+ghost use Rattle.jffs_inodes.specs.Inodes.{held_in};
 ghost use Rattle.jffs_tree.specs.Look.{kind_in, size_of, bytes_in, writers_in, parent_name_in};
 ghost use Rattle.jffs_tree.specs.Look.{holds_version, marks_in, any_live_in, IsVersionOf};
 
 use crate::children::first_named;
-use crate::inode::Inode;
 use crate::tree::Tree;
+use jffs_inodes::Inode;
 use jffs_node::{Kind, Name, Path};
 
 pub(crate) const ROOT: u32 = 1;
@@ -32,7 +32,7 @@ impl Tree {
         if inode == ROOT {
             return Some(Kind::Directory);
         }
-        self.inode(inode).map(|found| found.kind)
+        self.inode(inode).map(|found| found.kind())
     }
 
     /// How many bytes the inode has, 0 to 1,048,576; a directory has none. `None` if it isn't
@@ -51,7 +51,8 @@ impl Tree {
     pub fn parent_name(&self, inode: u32) -> Option<(u32, Name)>
         ensures { result ≡ parent_name_in self.now inode }
     {
-        self.inode(inode).map(|found| (found.parent, found.name))
+        self.inode(inode)
+            .map(|found| (found.parent(), found.name()))
     }
 
     /// The version of the inode's newest node; `None` if it isn't present.
@@ -61,7 +62,7 @@ impl Tree {
         ensures of { (past : List Node) → self.now ≡ tree_of past
             → result ≡ version_of (newest past inode) }
     {
-        self.inode(inode).map(|found| found.newest)
+        self.inode(inode).map(|found| found.newest())
     }
 
     /// The version of the node that wrote the byte at `offset`. `None` if none did: in a

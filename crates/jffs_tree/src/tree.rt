@@ -1,21 +1,19 @@
 //! The tree.
 
-ghost use Rattle.std.specs.Prelude.{◌≡◌, ◌+◌, ◌≤◌, ℕ, ◌∷◌, [], List};
-ghost use Rattle.std.specs.Prelude.{true, false, Some, None, IsSome, IsTrue};
-ghost use Rattle.std.specs.Prelude.{OnOk, OnErr, IfErr, is_some};
+ghost use Rattle.std.specs.Prelude.{◌≡◌, ◌∷◌, [], List};
+ghost use Rattle.std.specs.Prelude.{true, Some, IsTrue};
+ghost use Rattle.std.specs.Prelude.{OnOk, OnErr, IfErr};
 ghost use Rattle.jffs_node.specs.declared.node.Node.{Node};
 ghost use Rattle.jffs_tree.specs.Origin.{tree_of};
-ghost use Rattle.jffs_tree.specs.After.{held_in, suits_tree, tree_after, without_inode};
-ghost use Rattle.jffs_tree.specs.After.{put_node, takes_memory, IsWritable, WritesInode};
+ghost use Rattle.jffs_inodes.specs.Inodes.{without_inode, put_node, IsWritable};
+ghost use Rattle.jffs_tree.specs.After.{suits_tree, tree_after, takes_memory};
 ghost use Rattle.jffs_tree.specs.Look.{parent_name_in};
-ghost use Rattle.jffs_tree.specs.Marks.{AreMarksOf, SameMarks, HasMarksIn, MovesMarksIn};
-ghost use Rattle.jffs_tree.specs.Marks.{HasNewest};
+ghost use Rattle.jffs_inodes.specs.Marked.{HasNewest};
 
 use crate::children::{ChildKey, bears};
-use crate::inode::Inode;
-use crate::inodes::Inodes;
-use crate::marks::Marks;
 use crate::wish::Cause;
+use jffs_inodes::{Inodes, write_marked};
+use jffs_marks::Marks;
 use jffs_node::{Name, Node};
 use std::alloc::{AllocError, Global};
 use std::collections::BTreeSet;
@@ -33,7 +31,7 @@ pub struct Tree {
 
 impl Model for Tree {
     ghost use Rattle.std.specs.Prelude.{List, ℕ};
-    ghost use Rattle.jffs_tree.specs.Origin.{Held};
+    ghost use Rattle.jffs_inodes.specs.Held.{Held};
 
     ghost Value = { List (ℕ × Held) };
 
@@ -92,9 +90,10 @@ impl Tree {
         ensures { self.new ≡ without_inode self.old inode }
     {
         if let Some(old) = self.inodes.remove(inode) {
-            self.children.remove(&(old.parent, Some(old.name), inode));
+            self.children
+                .remove(&(old.parent(), Some(old.name()), inode));
             old.release(inode, &mut self.marks);
-            self.marks.lower(old.newest, inode, 1);
+            self.marks.lower(old.newest(), inode, 1);
         }
     }
 
@@ -108,11 +107,11 @@ impl Tree {
         let Some(found) = self.inode(node.inode) else {
             return self.write_elsewhere(node, name, None, None);
         };
-        let newest = Some(found.newest);
+        let newest = Some(found.newest());
         if found.is_child(node.parent, &name) {
             return self.write_here(node, name, newest);
         }
-        let place = (found.parent, found.name);
+        let place = (found.parent(), found.name());
         self.write_elsewhere(node, name, Some(place), newest)
     }
 
@@ -174,83 +173,4 @@ impl Tree {
         }
         Ok(())
     }
-}
-
-/// Writes a node over its inode in a map, present or not, with the newest version that it has
-/// there, and keeps the marks. Those that the node brings are added first, so that lowering is all
-/// that is left after the write.
-fn write_marked(
-    alloc: Global,
-    inodes: &mut Inodes,
-    marks: &mut Marks,
-    node: &Node,
-    name: Name,
-    newest: Option<u32>,
-) -> Result<(), AllocError>
-    requires writable { IsWritable inodes.old node.now name }
-    requires marked { AreMarksOf inodes.old marks.old }
-    requires newest { HasNewest inodes.old node.now.inode newest }
-    ensures ok { OnOk result (WritesInode inodes.old inodes.new node.now) }
-    ensures marks { OnOk result (AreMarksOf inodes.new marks.new) }
-    ensures err { OnErr result
-        ((inodes.new ≡ inodes.old) × SameMarks marks.old marks.new) }
-{
-    let brought = node.bytes.as_slice().len() as u32 + 1;
-    marks.raise(node.version, node.inode, brought)?;
-    if let Err(refused) = write_inode(alloc, inodes, marks, node, name, newest.is_some()) {
-        marks.lower(node.version, node.inode, brought);
-        return Err(refused);
-    }
-    if let Some(version) = newest {
-        marks.lower(version, node.inode, 1);
-    }
-    Ok(())
-}
-
-/// Writes a node over its inode in a map, present or not, and moves the marks of its bytes.
-fn write_inode(
-    alloc: Global,
-    inodes: &mut Inodes,
-    marks: &mut Marks,
-    node: &Node,
-    name: Name,
-    is_present: bool,
-) -> Result<(), AllocError>
-    requires present { is_present ≡ is_some (held_in inodes.old node.now.inode) }
-    requires writable { IsWritable inodes.old node.now name }
-    requires marked { HasMarksIn marks.old node.now inodes.old }
-    ensures ok { OnOk result (WritesInode inodes.old inodes.new node.now) }
-    ensures marks { OnOk result
-        (MovesMarksIn marks.old marks.new node.now inodes.old inodes.new) }
-    ensures err { OnErr result
-        ((inodes.new ≡ inodes.old) × SameMarks marks.old marks.new) }
-{
-    if is_present {
-        inodes.write(node, name, marks)
-    } else {
-        write_absent(alloc, inodes, marks, node, name)
-    }
-}
-
-/// Writes a node over its inode in a map, where it isn't present, and moves the marks of its bytes.
-fn write_absent(
-    alloc: Global,
-    inodes: &mut Inodes,
-    marks: &mut Marks,
-    node: &Node,
-    name: Name,
-) -> Result<(), AllocError>
-    requires absent { is_some (held_in inodes.old node.now.inode) ≡ false }
-    requires writable { IsWritable inodes.old node.now name }
-    requires marked { HasMarksIn marks.old node.now inodes.old }
-    ensures ok { OnOk result (WritesInode inodes.old inodes.new node.now) }
-    ensures marks { OnOk result
-        (MovesMarksIn marks.old marks.new node.now inodes.old inodes.new) }
-    ensures err { OnErr result
-        ((inodes.new ≡ inodes.old) × SameMarks marks.old marks.new) }
-{
-    let mut first = Inode::empty(alloc, node, name);
-    first.write(node, name, marks)?;
-    inodes.put(node.inode, first)?;
-    Ok(())
 }

@@ -5,7 +5,7 @@ use Rattle.jffs_node.specs.declared.node.Node.{Node}
 use Rattle.jffs_node.specs.Record.{record_len, is_fresh, is_unmount}
 use Rattle.jffs_tree.specs.declared.wish.Limits.{Limits}
 use Rattle.jffs_tree.specs.declared.wish.NewNode.{NewNode}
-use Rattle.jffs_tree.specs.State.{Entry}
+use Rattle.jffs_inodes.specs.Held.{Entry}
 use Rattle.jffs_tree.specs.Origin.{IsTrueCopy}
 use Rattle.jffs_tree.specs.Decide.{decide, decide_on, with, unmount_node, is_unmount_wish, is_copy_wish}
 use Rattle.jffs_tree.proofs.decisions.Copies.{decides_by_tree}

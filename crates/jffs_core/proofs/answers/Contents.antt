@@ -9,7 +9,8 @@ use Rattle.jffs_tree.specs.declared.wish.Limits.{Limits}
 use Rattle.jffs_tree.specs.declared.wish.NewNode.{NewNode}
 use Rattle.jffs_tree.specs.declared.wish.Outcome.{Outcome}
 use Rattle.jffs_tree.specs.declared.wish.Outcome.TheVariants.{Appended, Copied, Closed, Refused}
-use Rattle.jffs_tree.specs.State.{Entry, State, apply, state_of_past}
+use Rattle.jffs_inodes.specs.Held.{Entry}
+use Rattle.jffs_tree.specs.State.{State, apply, state_of_past}
 use Rattle.jffs_tree.specs.Origin.{IsTrueCopy}
 use Rattle.jffs_tree.specs.Decide.{decide, with, unmount_node, is_copy_wish, is_unmount_wish}
 use Rattle.jffs_line.specs.declared.request.Request.{Request}

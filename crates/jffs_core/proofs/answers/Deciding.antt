@@ -15,8 +15,9 @@ use Rattle.jffs_tree.specs.declared.wish.Cause.{Cause}
 use Rattle.jffs_tree.specs.declared.wish.Cause.TheVariants.{Memory, NoSpace, Device, Failed}
 use Rattle.jffs_tree.specs.declared.wish.Limits.{Limits}
 use Rattle.jffs_tree.specs.declared.wish.NewNode.{NewNode}
-use Rattle.jffs_tree.specs.State.{Entry, State, written, state_of_past}
-use Rattle.jffs_tree.specs.Origin.{Held, entry, concerns, holder, tree_of}
+use Rattle.jffs_inodes.specs.Held.{Entry, written, Held}
+use Rattle.jffs_tree.specs.State.{State, state_of_past}
+use Rattle.jffs_tree.specs.Origin.{entry, concerns, holder, tree_of}
 use Rattle.jffs_tree.specs.Decide.{unless, inode_at, entry_of, plain, write_node, causes_for, node_for, decide_in, decide, with, is_copy_wish, is_unmount_wish}
 use Rattle.jffs_tree.specs.Deciding.{IsLawfulPast, AreLimitsOf, IsWish}
 use Rattle.jffs_tree.proofs.decisions.Decided.{decided_nodes_keep_rules, nothing_stands}

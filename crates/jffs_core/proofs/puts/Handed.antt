@@ -2,7 +2,7 @@
 use Rattle.std.proofs.Common.{◌≡◌, ◌<◌, ◌≤◌, ℕ, inl, Bool, false, List, length, sym, ap, subst, ◌∙◌, Result, Ok, Err, OnOk, IfErr}
 use Rattle.std.proofs.lemmas.Bool.{both_ways}
 use Rattle.jffs_node.specs.declared.node.Node.{Node}
-use Rattle.jffs_tree.specs.Origin.{Tree}
+use Rattle.jffs_inodes.specs.Inodes.{Tree}
 use Rattle.jffs_tree.specs.declared.wish.Limits.{Limits}
 use Rattle.jffs_tree.specs.declared.wish.Cause.{Cause}
 use Rattle.jffs_tree.specs.declared.wish.Cause.TheVariants as causes

@@ -6,10 +6,12 @@ use Rattle.std.specs.FinMap.Entries as entries
 use Rattle.std.proofs.lemmas.Bool.{and_parts, and_from, both_ways}
 use Rattle.jffs_node.specs.declared.node.Node.{Node}
 use Rattle.jffs_node.specs.Record.{dsize, kind_byte, is_lawful, is_unmount}
-use Rattle.jffs_tree.specs.State.{Entry, State, at, bytes_of, written, apply, state_of_past}
-use Rattle.jffs_tree.specs.Origin.{Held, Tree, state_in, tree_of}
+use Rattle.jffs_inodes.specs.Held.{Entry, bytes_of, written, Held, held_after}
+use Rattle.jffs_tree.specs.State.{State, at, apply, state_of_past}
+use Rattle.jffs_inodes.specs.Inodes.{Tree, held_in, keeps_offsets_in}
+use Rattle.jffs_tree.specs.Origin.{state_in, tree_of}
 use Rattle.jffs_tree.specs.Check.{each_fits, check}
-use Rattle.jffs_tree.specs.After.{held_in, held_after, tree_after, can_apply, keeps_kind_in, keeps_offsets_in}
+use Rattle.jffs_tree.specs.After.{tree_after, can_apply, keeps_kind_in}
 use Rattle.jffs_tree.specs.declared.wish.Cause.{Cause}
 use Rattle.jffs_tree.specs.declared.wish.Outcome.{Outcome}
 use Rattle.jffs_tree.specs.declared.wish.Outcome.TheVariants.{Appended, Copied, Closed, Refused}

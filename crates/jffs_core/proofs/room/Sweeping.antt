@@ -9,8 +9,10 @@ use Rattle.jffs_tree.specs.declared.wish.Cause.{Cause}
 use Rattle.jffs_tree.specs.declared.wish.Cause.TheVariants as causes
 use Rattle.jffs_tree.specs.declared.wish.Limits.{Limits}
 use Rattle.jffs_tree.specs.declared.wish.NewNode.{NewNode}
-use Rattle.jffs_tree.specs.State.{Entry, state_of_past}
-use Rattle.jffs_tree.specs.Origin.{Tree, entry, is_live, state_in, tree_of}
+use Rattle.jffs_inodes.specs.Held.{Entry}
+use Rattle.jffs_tree.specs.State.{state_of_past}
+use Rattle.jffs_inodes.specs.Inodes.{Tree}
+use Rattle.jffs_tree.specs.Origin.{entry, is_live, state_in, tree_of}
 use Rattle.jffs_tree.specs.Look.{holds_version}
 use Rattle.jffs_tree.specs.Decide.{cleaning_copy, with}
 use Rattle.jffs_tree.proofs.decisions.Copies.{cleaning_copies_are_true, state_of_tree}

@@ -6,7 +6,7 @@ use Rattle.std.proofs.lemmas.List.{map-append, append-nil}
 use Rattle.std.proofs.lemmas.List.Sums.{take_while-cons}
 use Rattle.jffs_node.specs.declared.node.Node.{Node}
 use Rattle.jffs_node.specs.Record.{record_len}
-use Rattle.jffs_tree.specs.Origin.{Tree}
+use Rattle.jffs_inodes.specs.Inodes.{Tree}
 use Rattle.jffs_tree.specs.Look.{holds_version}
 use Rattle.jffs_log.specs.declared.log_index.RecordRef.{RecordRef}
 use Rattle.jffs_log.specs.Image.{Placed, placed_from, records_in, records_in_first, log_sectors}

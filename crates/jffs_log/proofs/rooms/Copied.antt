@@ -7,8 +7,9 @@ use Rattle.std.proofs.lemmas.Option.{none-some, same_Some}
 use Rattle.std.proofs.lemmas.List.{length-take, length-drop}
 use Rattle.jffs_node.specs.declared.node.Node.{Node}
 use Rattle.jffs_node.specs.Record.{dsize, len_of_data, is_unmount, is_file, kind_byte}
-use Rattle.jffs_tree.specs.State.{Entry, State, at, bytes_of, state_of_past}
-use Rattle.jffs_tree.specs.Origin.{concerns, entry, size_in, writes, offset_before, origin, newest, held, versions_held, version_of, writers_of, is_live, IsTrueCopy}
+use Rattle.jffs_inodes.specs.Held.{Entry, bytes_of, versions_held}
+use Rattle.jffs_tree.specs.State.{State, at, state_of_past}
+use Rattle.jffs_tree.specs.Origin.{concerns, entry, size_in, writes, offset_before, origin, newest, held, version_of, writers_of, is_live, IsTrueCopy}
 use Rattle.jffs_tree.specs.Check.{keeps_kind, keeps_offsets, keeps_form, has_second_form, each_fits}
 use Rattle.jffs_tree.specs.Decide.{entry_of, nobody}
 use Rattle.jffs_tree.proofs.states.Pointwise.{at-state}

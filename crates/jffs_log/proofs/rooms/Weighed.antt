@@ -10,7 +10,7 @@ use Rattle.jffs_node.specs.declared.read.Read.TheVariants.{Closed, Free, Torn, B
 use Rattle.jffs_node.specs.Record.{record_len}
 use Rattle.jffs_node.specs.Reading.{found, reading_of}
 use Rattle.jffs_node.proofs.Each.{each_front}
-use Rattle.jffs_tree.specs.Origin.{Tree}
+use Rattle.jffs_inodes.specs.Inodes.{Tree}
 use Rattle.jffs_tree.specs.Look.{holds_version}
 use Rattle.jffs_log.specs.declared.log_index.RecordRef.{RecordRef}
 use Rattle.jffs_log.specs.Image.{Sector, Placed, placed_from, records_in}

@@ -3,7 +3,8 @@ use Rattle.std.proofs.Common.{◌≡◌, Bool, false, cond, eqb, List, [], ◌�
 use Rattle.std.specs.List.{list_any, AllByRecursion}
 use Rattle.jffs_node.specs.declared.node.Node.{Node}
 use Rattle.jffs_node.specs.Record.{record_len}
-use Rattle.jffs_tree.specs.Origin.{is_live, versions_held}
+use Rattle.jffs_tree.specs.Origin.{is_live}
+use Rattle.jffs_inodes.specs.Held.{versions_held}
 use Rattle.jffs_tree.proofs.states.Rules.{erasing_keeps_rules}
 use Rattle.jffs_log.specs.Laws.{ErasingKeepsWeight}
 

@@ -8,7 +8,8 @@ use Rattle.jffs_node.specs.declared.node.Node.{Node}
 use Rattle.jffs_node.specs.Record.{is_lawful}
 use Rattle.jffs_tree.specs.Origin.{tree_of}
 use Rattle.jffs_tree.specs.Check.{each_fits, check, makes_tree, keeps_form}
-use Rattle.jffs_tree.specs.After.{can_apply, keeps_kind_in, keeps_offsets_in}
+use Rattle.jffs_tree.specs.After.{can_apply, keeps_kind_in}
+use Rattle.jffs_inodes.specs.Inodes.{keeps_offsets_in}
 use Rattle.jffs_tree.proofs.trees.Tested.{trees_test_as_nodes}
 use Rattle.jffs_tree.proofs.states.Entries.{fits_parts, each_fits_from}
 use Rattle.jffs_node.proofs.Each.{each_at}

@@ -6,7 +6,8 @@ use Rattle.jffs_node.specs.declared.node.Node.{Node}
 use Rattle.jffs_flash.specs.Device.{Device as FlashDevice}
 use Rattle.jffs_flash.specs.Sizes.{is_geometry}
 use Rattle.jffs_tree.specs.declared.wish.Limits.{Limits}
-use Rattle.jffs_tree.specs.Origin.{Tree, tree_of}
+use Rattle.jffs_inodes.specs.Inodes.{Tree}
+use Rattle.jffs_tree.specs.Origin.{tree_of}
 use Rattle.jffs_tree.specs.Check.{makes_tree}
 use Rattle.jffs_log.specs.declared.log_index.LogIndex.{LogIndex}
 use Rattle.jffs_log.specs.declared.scanning.ScanWhy.{ScanWhy}

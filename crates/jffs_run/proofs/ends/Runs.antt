@@ -13,7 +13,7 @@ use Rattle.jffs_line.specs.declared.hand.Hands.{Hands}
 use Rattle.jffs_line.specs.Settling.{all_hands}
 use Rattle.jffs_line.proofs.Lists.{All-left, All-right}
 use Rattle.jffs_core.specs.CoreState.{CoreState}
-use Rattle.jffs_tree.specs.Origin.{Tree}
+use Rattle.jffs_inodes.specs.Inodes.{Tree}
 use Rattle.jffs_index.specs.declared.step.Step.{Step}
 use Rattle.jffs_index.specs.declared.rule.History.{History}
 use Rattle.jffs_index.specs.Histories.{view_of}

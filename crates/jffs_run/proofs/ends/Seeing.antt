@@ -14,7 +14,7 @@ use Rattle.jffs_run.specs.declared.promise.Looks.{Looks}
 use Rattle.jffs_run.specs.Looking.{FitsView, FitsPath, ShowsAnswer, SeenIn, HasSeen, IsWhole}
 use Rattle.jffs_run.specs.Ends.{EachFrom}
 use Rattle.jffs_run.specs.Seen.{SawReply, SawReplyOrNone, ReadersSeeAnswers, history_of}
-use Rattle.jffs_tree.specs.Origin.{Tree}
+use Rattle.jffs_inodes.specs.Inodes.{Tree}
 use Rattle.jffs_tree.specs.declared.wish.Outcome.{Outcome}
 use Rattle.jffs_index.specs.declared.step.Step.{Step}
 use Rattle.jffs_index.specs.Outcomes.{outcome_at}

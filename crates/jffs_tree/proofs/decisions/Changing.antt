@@ -9,7 +9,8 @@ use Rattle.jffs_node.specs.declared.node.Kind.TheVariants.{File, Directory}
 use Rattle.jffs_node.specs.Name.{is_name}
 use Rattle.jffs_node.specs.Record.{file_max, is_file, is_directory}
 use Rattle.jffs_tree.specs.declared.wish.NewNode.{NewNode}
-use Rattle.jffs_tree.specs.State.{Entry, at, bytes_of, child, is_directory_in, state_of_past}
+use Rattle.jffs_inodes.specs.Held.{Entry, bytes_of}
+use Rattle.jffs_tree.specs.State.{at, child, is_directory_in, state_of_past}
 use Rattle.jffs_tree.specs.Origin.{concerns, entry, size_in, stated_size}
 use Rattle.jffs_tree.specs.Check.{is_within}
 use Rattle.jffs_tree.specs.Decide.{plain, write_node, truncate_node, copy_node, has_names, with}

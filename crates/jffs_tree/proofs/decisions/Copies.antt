@@ -15,13 +15,14 @@ use Rattle.jffs_tree.specs.declared.wish.Cause.{Cause}
 use Rattle.jffs_tree.specs.declared.wish.Cause.TheVariants.{DataLong, NotNeeded, Stale, VersionsSpent}
 use Rattle.jffs_tree.specs.declared.wish.Limits.{Limits}
 use Rattle.jffs_tree.specs.declared.wish.NewNode.{NewNode}
-use Rattle.jffs_tree.specs.State.{Entry, State, at, written, state_of_past}
-use Rattle.jffs_tree.specs.Origin.{Held, concerns, entry, held, tree_of, holder, versions_held, IsTrueCopy}
-use Rattle.jffs_tree.specs.Decide.{unless, copy_node, is_current, held_entry, held_inode, decide_copy, decide_in, with, entry_of, nobody}
+use Rattle.jffs_inodes.specs.Held.{Entry, written, Held, versions_held, is_current}
+use Rattle.jffs_tree.specs.State.{State, at, state_of_past}
+use Rattle.jffs_tree.specs.Origin.{concerns, entry, held, tree_of, holder, IsTrueCopy}
+use Rattle.jffs_tree.specs.Decide.{unless, copy_node, held_entry, held_inode, decide_copy, decide_in, with, entry_of, nobody}
 use Rattle.jffs_tree.specs.Laws.{DecidesByTree, AcceptedCopiesAreTrue, CleaningCopiesAreTrue}
 use Rattle.jffs_tree.proofs.states.Pointwise.{at-state, sorted-state}
 use Rattle.jffs_node.proofs.Rules.{ok_same}
-use Rattle.jffs_tree.proofs.trees.Maps.{tail_sorted, at_first, at_later}
+use Rattle.jffs_marks.proofs.Maps.{tail_sorted, at_first, at_later}
 use Rattle.jffs_tree.proofs.states.Steps.{not_unmount, entry-other, entry-deleted, entry-written}
 
 -- the tree's state is the state

@@ -14,9 +14,10 @@ use Rattle.jffs_tree.specs.declared.wish.Limits.{Limits}
 use Rattle.jffs_tree.specs.declared.wish.NewNode.{NewNode}
 use Rattle.jffs_tree.specs.declared.wish.Wish.{Wish}
 use Rattle.jffs_tree.specs.declared.wish.Wish.TheVariants.{MakeDir, Create, Write, Truncate, Rename, Remove, Copy, Unmount}
-use Rattle.jffs_tree.specs.State.{Entry, State, at, resolve, is_directory_in, state_of_past}
-use Rattle.jffs_tree.specs.Origin.{Held, entry, holder, tree_of}
-use Rattle.jffs_tree.specs.Decide.{unless, is_root, last_name, parent_in, has_parent, is_there, inode_at, nobody, entry_of, plain, write_node, copy_node, unmount_node, is_current, held_entry, held_inode, causes_of_new, new_node, decide_new, causes_of_copy, decide_copy, causes_for, node_for, decide, with}
+use Rattle.jffs_inodes.specs.Held.{Entry, Held, is_current}
+use Rattle.jffs_tree.specs.State.{State, at, resolve, is_directory_in, state_of_past}
+use Rattle.jffs_tree.specs.Origin.{entry, holder, tree_of}
+use Rattle.jffs_tree.specs.Decide.{unless, is_root, last_name, parent_in, has_parent, is_there, inode_at, nobody, entry_of, plain, write_node, copy_node, unmount_node, held_entry, held_inode, causes_of_new, new_node, decide_new, causes_of_copy, decide_copy, causes_for, node_for, decide, with}
 use Rattle.jffs_node.specs.Path.{IsPath}
 use Rattle.jffs_tree.specs.Deciding.{IsLawfulPast, AreNumbers, IsNewInode, AreLimitsOf, IsWish, DecidedNodesKeepRules, CleaningCopiesKeepRules}
 use Rattle.jffs_tree.proofs.states.Pointwise.{at-state, sorted-state}

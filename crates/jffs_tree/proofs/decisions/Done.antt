@@ -12,7 +12,8 @@ use Rattle.jffs_tree.specs.declared.wish.Limits.{Limits}
 use Rattle.jffs_tree.specs.declared.wish.NewNode.{NewNode}
 use Rattle.jffs_tree.specs.declared.wish.Wish.{Wish}
 use Rattle.jffs_tree.specs.declared.wish.Wish.TheVariants.{MakeDir, Create, Write, Truncate, Rename, Remove, Copy, Unmount}
-use Rattle.jffs_tree.specs.State.{Entry, State, at, apply, sized, written, resolve, state_of_past}
+use Rattle.jffs_inodes.specs.Held.{Entry, sized, written}
+use Rattle.jffs_tree.specs.State.{State, at, apply, resolve, state_of_past}
 use Rattle.jffs_tree.specs.Origin.{stated_size}
 use Rattle.jffs_tree.specs.Decide.{is_root, last_name, parent_in, has_parent, inode_at, entry_of, plain, write_node, truncate_node, causes_of_new, new_node, decide_new, decide, with}
 use Rattle.jffs_tree.specs.Deciding.{AreLimitsOf}

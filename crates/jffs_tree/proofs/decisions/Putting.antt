@@ -8,7 +8,8 @@ use Rattle.jffs_node.specs.declared.node.Kind.{Kind}
 use Rattle.jffs_node.specs.declared.node.Kind.TheVariants.{File, Directory}
 use Rattle.jffs_node.specs.Name.{is_name}
 use Rattle.jffs_node.specs.Record.{dsize, file_max, is_file, is_unmount, is_directory, kind_byte, kind_numbers, size_numbers, is_lawful, has_no_range}
-use Rattle.jffs_tree.specs.State.{Entry, at, written, state_of_past, is_directory_in}
+use Rattle.jffs_inodes.specs.Held.{Entry, written}
+use Rattle.jffs_tree.specs.State.{at, state_of_past, is_directory_in}
 use Rattle.jffs_tree.specs.Origin.{entry, size_in}
 use Rattle.jffs_tree.specs.Check.{keeps_kind, keeps_offsets, keeps_form, each_fits, is_within}
 use Rattle.jffs_tree.specs.Deciding.{IsLawfulPast, AreNumbers}

@@ -5,7 +5,8 @@ use Rattle.std.specs.Option.{option_map_or}
 use Rattle.std.specs.FinMap.Entries as entries
 use Rattle.std.proofs.lemmas.Bool.{eqb-true, eq-eqb, and_parts, and_from, or_left, or_right, or_cases, both_ways}
 use Rattle.std.proofs.lemmas.Slice.Eq.{bytes_eq-Decides}
-use Rattle.jffs_tree.specs.State.{Entry, State, at, is_child, child, resolve_from, resolve, is_directory_in}
+use Rattle.jffs_inodes.specs.Held.{Entry}
+use Rattle.jffs_tree.specs.State.{State, at, is_child, child, resolve_from, resolve, is_directory_in}
 use Rattle.jffs_tree.specs.Check.{is_within}
 use Rattle.jffs_tree.specs.Decide.{last_name, parent_in, has_parent, is_there, inode_at}
 use Rattle.jffs_tree.proofs.states.States.{found_at, not_found}

@@ -6,9 +6,10 @@ use Rattle.std.specs.Ordering.{eq_by_cmp}
 use Rattle.std.specs.Cmp.{unsigned_tied}
 use Rattle.std.proofs.lemmas.Bool.{cases_Bool, eq-eqb}
 use Rattle.std.proofs.lemmas.Option.{same_Some}
-use Rattle.jffs_tree.specs.State.{Entry, State, at, child, is_child, resolve_from, resolve, is_directory_in}
-use Rattle.jffs_tree.specs.Origin.{Held, Tree, state_in}
-use Rattle.jffs_tree.specs.After.{held_in}
+use Rattle.jffs_inodes.specs.Held.{Entry, Held}
+use Rattle.jffs_tree.specs.State.{State, at, child, is_child, resolve_from, resolve, is_directory_in}
+use Rattle.jffs_inodes.specs.Inodes.{Tree, held_in}
+use Rattle.jffs_tree.specs.Origin.{state_in}
 use Rattle.jffs_tree.specs.Decide.{entry_of, nobody}
 use Rattle.jffs_tree.proofs.trees.Looked.{entry_in}
 

@@ -10,12 +10,13 @@ use Rattle.std.specs.declared.cmp.Ordering.TheVariants.{Less}
 use Rattle.std.proofs.lemmas.Bool.{cases_Bool, cases_lt, cases_eq, and_parts, and_from, eqb-true, eq-eqb, or_left, or_right, not-true}
 use Rattle.std.proofs.lemmas.Map.Keys.{sorted_head, sorted_tail}
 use Rattle.std.proofs.lemmas.Option.{same_Some}
-use Rattle.jffs_tree.specs.State.{Entry, at}
-use Rattle.jffs_tree.specs.Origin.{Held, Tree, state_in}
-use Rattle.jffs_tree.specs.After.{held_in}
+use Rattle.jffs_inodes.specs.Held.{Entry, Held}
+use Rattle.jffs_tree.specs.State.{at}
+use Rattle.jffs_inodes.specs.Inodes.{Tree, held_in}
+use Rattle.jffs_tree.specs.Origin.{state_in}
 use Rattle.jffs_tree.specs.Check.{names_differ}
 use Rattle.jffs_tree.specs.Index.{ChildKey, key_cmp, has_child, is_named, namesakes, apart_from, IsIndexOf}
-use Rattle.jffs_tree.proofs.trees.Maps.{is_less}
+use Rattle.jffs_marks.proofs.Maps.{is_less}
 use Rattle.jffs_tree.proofs.listing.KeyOrder.{same_key, own_key, between, by_inode, after_first}
 use Rattle.jffs_tree.proofs.listing.Indexed.{named_by, names}
 use Rattle.jffs_tree.proofs.listing.Standing.{some_of}

@@ -15,14 +15,16 @@ use Rattle.std.proofs.lemmas.Bool.{cases_Bool, eqb-true, eq-eqb}
 use Rattle.std.proofs.lemmas.List.Folds.{list_any-append}
 use Rattle.std.proofs.lemmas.Map.Keys.{IsDistinct-from_sorted, IsDistinct-cons, Less-from_sorted}
 use Rattle.std.proofs.lemmas.Slice.Eq.{bytes_eq-Decides}
-use Rattle.jffs_tree.specs.State.{Entry, State, is_directory_in}
-use Rattle.jffs_tree.specs.Origin.{Held, Tree, state_in}
-use Rattle.jffs_tree.specs.After.{held_in}
+use Rattle.jffs_inodes.specs.Held.{Entry, Held}
+use Rattle.jffs_tree.specs.State.{State, is_directory_in}
+use Rattle.jffs_inodes.specs.Inodes.{Tree, held_in}
+use Rattle.jffs_tree.specs.Origin.{state_in}
 use Rattle.jffs_tree.specs.Index.{ChildKey, key_cmp, has_child, stands_at, name_under, names_under, IsIndexOf}
 use Rattle.jffs_tree.specs.Look.{name_cmp, children, names_in}
-use Rattle.jffs_tree.proofs.listing.KeyOrder.{same_key, own_key, nat_tied, then_tied}
+use Rattle.jffs_tree.proofs.listing.KeyOrder.{same_key, own_key}
+use Rattle.jffs_marks.proofs.Order.{nat_tied, then_tied}
 use Rattle.jffs_tree.proofs.listing.Indexed.{names}
-use Rattle.jffs_tree.proofs.trees.Maps.{behind, tail_sorted}
+use Rattle.jffs_marks.proofs.Maps.{behind, tail_sorted}
 use Rattle.jffs_tree.proofs.listing.Listed.{by_name}
 use Rattle.jffs_tree.proofs.listing.Members.{each_other, same_members}
 

@@ -1,14 +1,10 @@
 -- What the first key of a range says of a name, and of a directory.
-use Rattle.std.proofs.Common.{◌≡◌, ℕ, ◌≤◌, true, false, ◌&&◌, eqb, List, ◌∷◌, IfSome, slice_get, Option, Some, None, refl, sym, ap, subst, ◌∙◌, ⊎_elim}
+use Rattle.std.proofs.Common.{◌≡◌, ℕ, ◌≤◌, true, false, ◌&&◌, eqb, List, Option, Some, None, refl, sym, ap, ◌∙◌, ⊎_elim}
 use Rattle.std.specs.Ordering.{is_gt}
 use Rattle.std.proofs.lemmas.Bool.{cases_Bool, eq-eqb, and_from}
 use Rattle.std.proofs.lemmas.Slice.Eq.{bytes_eq-Decides}
 use Rattle.jffs_tree.specs.Index.{ChildKey, key_cmp, has_child, is_named}
 use Rattle.jffs_tree.proofs.listing.KeyOrder.{between, first_of_name, first_of_directory}
-
--- what holds of the first element of a list that begins with it
-pub of_first : {X : Type 0} {r t : List X} {k : X} (P : X → Type 0) → r ≡ k ∷ t → IfSome (slice_get r 0) P → P k
-of_first P e h = subst (λ x. IfSome (slice_get x 0) P) e h
 
 pub named_by : (name : List ℕ) (o : Option (List ℕ)) → is_named name o ≡ true → o ≡ Some name
 named_by name None h = cc

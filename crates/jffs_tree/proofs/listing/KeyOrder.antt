@@ -1,15 +1,15 @@
 -- The order of keys in the index of children.
-use Rattle.std.proofs.Common.{◌≡◌, ℕ, zero, suc, ◌≤◌, Bool, true, false, cond, eqb, ltb, List, Option, Some, None, refl, sym, ap, ◌∙◌, arith, ⊎_elim, nat_cmp}
+use Rattle.std.proofs.Common.{◌≡◌, ℕ, ◌≤◌, true, false, List, Option, Some, None, refl, sym, ap, ◌∙◌, nat_cmp}
 use Rattle.std.specs.declared.cmp.Ordering.{Ordering}
 use Rattle.std.specs.declared.cmp.Ordering.TheVariants.{Less, Equal, Greater}
-use Rattle.std.specs.Ordering.{is_gt, is_eq, ordering_then, ordering_reverse}
+use Rattle.std.specs.Ordering.{is_gt, is_eq, ordering_then}
 use Rattle.std.specs.Option.{option_cmp}
-use Rattle.std.specs.Cmp.{Equal-is, IsTotalOrder, nat_cmp_total, then_total, on_total, tied_itself, unsigned_tied}
+use Rattle.std.specs.Cmp.{Equal-is, IsTotalOrder, nat_cmp_total, then_total, on_total, tied_itself}
 use Rattle.std.specs.Cmp.Lexicographic.{slice_cmp, nat_list_cmp_total, options_total, texts_ties}
 use Rattle.std.specs.BTreeMap.{is_at}
-use Rattle.std.proofs.lemmas.Bool.{cases_lt, cases_eq, lt-ltb, le-ltb, eqb-true, ne_eqb}
 use Rattle.std.proofs.lemmas.Slice.Eq.{bytes_eq-Decides}
 use Rattle.jffs_tree.specs.Index.{ChildKey, key_cmp}
+use Rattle.jffs_marks.proofs.Order.{then_low, then_tied, level, nat_tied, nat_low, zero_low}
 
 -- directory and name alone
 abbrev head_cmp : ChildKey → ChildKey → Ordering
@@ -18,53 +18,11 @@ head_cmp a b = ordering_then (nat_cmp a.0 b.0) (option_cmp (slice_cmp nat_cmp) a
 head_total : IsTotalOrder head_cmp
 head_total = then_total (on_total (λ (t : ChildKey). t.0) nat_cmp_total) (on_total (λ (t : ChildKey). t.1) (options_total nat_list_cmp_total))
 
--- parts of an answer of two steps
-pub then_low : (a b : Ordering) → is_gt (ordering_then a b) ≡ false → is_gt a ≡ false
-then_low Less b h = refl
-then_low Equal b h = refl
-then_low Greater b h = cc
-
-pub then_tied : (a b : Ordering) → ordering_then a b ≡ Equal → (a ≡ Equal) × (b ≡ Equal)
-then_tied Less b h = cc
-then_tied Equal b h = (refl, h)
-then_tied Greater b h = cc
-
--- neither is above the other
-level : (a b : Ordering) → a ≡ ordering_reverse b → is_gt a ≡ false → is_gt b ≡ false → b ≡ Equal
-level Less Less e h k = cc
-level Less Equal e h k = refl
-level Less Greater e h k = cc
-level Equal Less e h k = cc
-level Equal Equal e h k = refl
-level Equal Greater e h k = cc
-level Greater b e h k = cc
-
-pub nat_tied : (a b : ℕ) → nat_cmp a b ≡ Equal → a ≡ b
-nat_tied a b h = eqb-true a b (sym (unsigned_tied a b) ∙ ap is_eq h)
-
 pub name_tied : (a b : Option (List ℕ)) → option_cmp (slice_cmp nat_cmp) a b ≡ Equal → a ≡ b
 name_tied None None h = refl
 name_tied None (Some y) h = cc
 name_tied (Some x) None h = cc
 name_tied (Some x) (Some y) h = ap (λ n. Some n) ((bytes_eq-Decides x y).0 (texts_ties x y ∙ ap is_eq h))
-
-pub nat_low : (a b : ℕ) → is_gt (nat_cmp a b) ≡ false → a ≤ b
-nat_low a b h = ⊎_elim
-    (λ less. omega arith)
-    (λ more. ⊎_elim
-    (λ same. omega arith)
-    (λ above. absurd (is_above (ltb a b) (eqb a b) (le-ltb a b more) (ne_eqb a b (λ e. omega arith)) h))
-    (cases_eq a b))
-    (cases_lt a b)
-  where
-    is_above : (l e : Bool) → l ≡ false → e ≡ false → is_gt (cond l Less (cond e Equal Greater)) ≡ false → ⊥
-    is_above true e p q h = cc
-    is_above false true p q h = cc
-    is_above false false p q h = cc
-
-pub zero_low : (b : ℕ) → is_gt (nat_cmp 0 b) ≡ false
-zero_low zero = refl
-zero_low (suc b) = ap (λ t. is_gt (cond t Less (cond (eqb 0 (suc b)) Equal Greater))) (lt-ltb 0 (suc b) (omega arith))
 
 -- What lies between the first key of a name and another key of it is a key of it too.
 pub between : (p : ℕ) (o : Option (List ℕ)) (j : ℕ) (k : ChildKey) → is_gt (key_cmp (p, o, 0) k) ≡ false → is_gt (key_cmp k (p, o, j)) ≡ false → (k.0 ≡ p) × (k.1 ≡ o) × (k.2 ≤ j)

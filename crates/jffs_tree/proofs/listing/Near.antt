@@ -4,10 +4,12 @@ use Rattle.std.specs.List.{AllByRecursion, list_all}
 use Rattle.std.specs.Option.{option_map_or}
 use Rattle.std.specs.FinMap.Entries as entries
 use Rattle.jffs_node.specs.declared.path.TheConstants.{PATH_DEPTH_MAX}
-use Rattle.jffs_tree.specs.State.{Entry, State, at}
-use Rattle.jffs_tree.specs.Origin.{Tree, state_in}
+use Rattle.jffs_inodes.specs.Held.{Entry}
+use Rattle.jffs_tree.specs.State.{State, at}
+use Rattle.jffs_inodes.specs.Inodes.{Tree}
+use Rattle.jffs_tree.specs.Origin.{state_in}
 use Rattle.jffs_tree.specs.Check.{is_within, is_near}
-use Rattle.jffs_tree.proofs.trees.Maps.{tail_sorted, at_first, at_later}
+use Rattle.jffs_marks.proofs.Maps.{tail_sorted, at_first, at_later}
 use Rattle.jffs_tree.proofs.listing.Apart.{sorted_state_in}
 
 -- each entry is found under its number

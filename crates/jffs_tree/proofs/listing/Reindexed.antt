@@ -6,13 +6,13 @@ use Rattle.std.specs.BTreeMap.{is_at}
 use Rattle.std.proofs.lemmas.Bool.{cases_Bool, and_parts, and_from, eqb-true, eq-eqb}
 use Rattle.std.proofs.lemmas.Slice.Eq.{bytes_eq-Decides}
 use Rattle.jffs_node.specs.declared.node.Node.{Node}
-use Rattle.jffs_tree.specs.Origin.{Held, Tree}
-use Rattle.jffs_tree.specs.After.{held_in, held_after, without_inode, WritesInode}
+use Rattle.jffs_inodes.specs.Held.{Held, held_after}
+use Rattle.jffs_inodes.specs.Inodes.{Tree, held_in, without_inode, WritesInode}
 use Rattle.jffs_tree.specs.Look.{parent_name_in}
 use Rattle.jffs_tree.specs.Index.{ChildKey, key_cmp, has_child, is_named, stands_at, IsIndexOf}
 use Rattle.jffs_tree.proofs.listing.KeyOrder.{same_key, own_key}
 use Rattle.jffs_tree.proofs.listing.Indexed.{named_by, names}
-use Rattle.jffs_tree.proofs.states.Pointwise.{find_without}
+use Rattle.jffs_inodes.proofs.Put.{find_without}
 
 abbrev pub tied : ChildKey → ChildKey → Bool
 tied a q = is_at (key_cmp a) q

@@ -9,10 +9,11 @@ use Rattle.std.proofs.lemmas.Bool.{cases_Bool, and_parts, and_from, eqb-true, or
 use Rattle.std.proofs.lemmas.Slice.Eq.{bytes_eq-Decides}
 use Rattle.std.proofs.lemmas.Option.{same_Some}
 use Rattle.jffs_tree.specs.State.{child, is_child}
-use Rattle.jffs_tree.specs.Origin.{Held, Tree, state_in}
-use Rattle.jffs_tree.specs.After.{held_in}
+use Rattle.jffs_inodes.specs.Held.{Held}
+use Rattle.jffs_inodes.specs.Inodes.{Tree, held_in}
+use Rattle.jffs_tree.specs.Origin.{state_in}
 use Rattle.jffs_tree.specs.Index.{ChildKey, has_child, stands_at, is_named, IsIndexOf}
-use Rattle.jffs_tree.proofs.trees.Maps.{tail_sorted, at_first, behind, at_later}
+use Rattle.jffs_marks.proofs.Maps.{tail_sorted, at_first, behind, at_later}
 
 pub some_of : (test : Held → Bool) (o : Option Held) → option_map_or test o false ≡ true → (h : Held) × (o ≡ Some h) × (test h ≡ true)
 some_of test None e = cc

@@ -10,7 +10,7 @@ use Rattle.jffs_node.specs.declared.node.Kind.{Kind}
 use Rattle.jffs_node.specs.declared.node.Kind.TheVariants.{File, Directory, Unmount}
 use Rattle.jffs_node.specs.Name.{is_name}
 use Rattle.jffs_node.specs.Record.{dsize, file_max, is_file, is_unmount, kind_byte, kind_numbers, is_lawful, name_bytes}
-use Rattle.jffs_tree.specs.State.{Entry, bytes_of, sized, written}
+use Rattle.jffs_inodes.specs.Held.{Entry, bytes_of, sized, written}
 use Rattle.jffs_tree.specs.Origin.{concerns, entry, size_in}
 use Rattle.jffs_tree.specs.Check.{keeps_kind, keeps_offsets, keeps_form, each_fits}
 use Rattle.jffs_tree.proofs.trees.Applied.{small}

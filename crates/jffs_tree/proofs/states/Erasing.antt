@@ -6,7 +6,8 @@ use Rattle.std.proofs.lemmas.Bool.{cases_lt, cases_Bool, both_ways}
 use Rattle.std.proofs.lemmas.Option.{none-some}
 use Rattle.std.proofs.lemmas.List.{ext_get_or, get_or_past}
 use Rattle.jffs_node.specs.declared.node.Node.{Node}
-use Rattle.jffs_tree.specs.State.{Entry, bytes_of, written, sized, splice, state_of_past}
+use Rattle.jffs_inodes.specs.Held.{Entry, bytes_of, written, sized, splice}
+use Rattle.jffs_tree.specs.State.{state_of_past}
 use Rattle.jffs_tree.specs.Origin.{concerns, entry, size_in, offset_before, origin, newest, is_live, held, writers_of, version_of, has_size}
 use Rattle.jffs_tree.specs.Laws.{NoneLive, BytesHaveOrigins, ErasingKeepsState, ErasingKeepsTree, ErasingKeepsOrigins}
 use Rattle.jffs_tree.proofs.states.Offsets.{length-sized}

@@ -6,10 +6,11 @@ use Rattle.std.specs.FinMap.Entries as entries
 use Rattle.std.proofs.Math.Bool.{or-false}
 use Rattle.std.proofs.lemmas.Bool.{eqb-true, eq-eqb, and_parts, and_from, or_left, or_right, or_cases, cases_Bool, cases_eq, not_from_false, both_ways, not-true}
 use Rattle.jffs_node.specs.Record.{is_directory}
-use Rattle.jffs_tree.specs.State.{Entry, State, at, is_child, is_directory_in}
+use Rattle.jffs_inodes.specs.Held.{Entry}
+use Rattle.jffs_tree.specs.State.{State, at, is_child, is_directory_in}
 use Rattle.jffs_tree.specs.Check.{parents_are_there, names_differ, is_within}
 use Rattle.jffs_tree.proofs.states.States.{all_at, all_from, none_at, none_from, at_cases}
-use Rattle.jffs_tree.proofs.trees.Maps.{tail_sorted, at_first, behind, at_later}
+use Rattle.jffs_marks.proofs.Maps.{tail_sorted, at_first, behind, at_later}
 use Rattle.jffs_tree.proofs.decisions.Copies.{same_bytes}
 use Rattle.std.proofs.lemmas.Slice.Eq.{bytes_eq-Decides}
 use Rattle.std.proofs.lemmas.Option.{same_Some}

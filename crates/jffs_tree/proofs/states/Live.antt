@@ -7,8 +7,9 @@ use Rattle.std.proofs.lemmas.Bool.{eqb-true, eq-eqb, or_left, or_right, cases_Bo
 use Rattle.std.proofs.lemmas.List.Folds.{list_any-append}
 use Rattle.std.proofs.lemmas.Option.{same_Some}
 use Rattle.jffs_node.specs.declared.node.Node.{Node}
-use Rattle.jffs_tree.specs.State.{Entry, State, at, state_of_past}
-use Rattle.jffs_tree.specs.Origin.{entry, size_in, origin, newest, held, versions_held, version_of, writers_of, is_live}
+use Rattle.jffs_inodes.specs.Held.{Entry, versions_held}
+use Rattle.jffs_tree.specs.State.{State, at, state_of_past}
+use Rattle.jffs_tree.specs.Origin.{entry, size_in, origin, newest, held, version_of, writers_of, is_live}
 use Rattle.jffs_tree.proofs.states.Pointwise.{at-state}
 
 is_it : ℕ → ℕ → Bool

@@ -7,9 +7,10 @@ use Rattle.std.proofs.lemmas.List.Folds.{list_all-map}
 use Rattle.jffs_node.specs.declared.node.Node.{Node}
 use Rattle.jffs_node.specs.declared.node.Kind.TheVariants.{File}
 use Rattle.jffs_node.specs.Record.{is_lawful}
-use Rattle.jffs_tree.specs.State.{Entry, State, bytes_of, written, state_of_past}
-use Rattle.jffs_tree.specs.Origin.{Held, concerns, entry, size_in, origin, newest, held, tree_of, version_of, writers_of, has_size}
-use Rattle.jffs_tree.specs.Check.{each_fits, parents_are_there, names_differ, is_within, bytes_are_written, check}
+use Rattle.jffs_inodes.specs.Held.{Entry, bytes_of, written, Held, bytes_are_written}
+use Rattle.jffs_tree.specs.State.{State, state_of_past}
+use Rattle.jffs_tree.specs.Origin.{concerns, entry, size_in, origin, newest, held, tree_of, version_of, writers_of, has_size}
+use Rattle.jffs_tree.specs.Check.{each_fits, parents_are_there, names_differ, is_within, check}
 use Rattle.jffs_tree.specs.Deciding.{IsLawfulPast}
 use Rattle.jffs_tree.proofs.states.Pointwise.{at-state, sorted-state}
 use Rattle.jffs_tree.proofs.states.Steps.{entry-other, entry-deleted, entry-written, newest-written}

@@ -8,9 +8,10 @@ use Rattle.std.proofs.lemmas.Bool.{eqb-true, cases_Bool, cases_eq, and_parts, an
 use Rattle.std.proofs.lemmas.Option.{same_Some}
 use Rattle.jffs_node.specs.declared.node.Node.{Node}
 use Rattle.jffs_node.specs.Record.{is_file, kind_byte, dsize}
-use Rattle.jffs_tree.specs.State.{Entry, State, at, bytes_of, written, state_of_past}
-use Rattle.jffs_tree.specs.Origin.{Held, state_in, concerns, entry, size_in, origin, newest, held, tree_of, writers_of, version_of, has_size}
-use Rattle.jffs_tree.specs.Check.{keeps_kind, keeps_offsets, keeps_form, each_fits, check, bytes_are_written, parents_are_there, names_differ, is_within}
+use Rattle.jffs_inodes.specs.Held.{Entry, bytes_of, written, Held, bytes_are_written}
+use Rattle.jffs_tree.specs.State.{State, at, state_of_past}
+use Rattle.jffs_tree.specs.Origin.{state_in, concerns, entry, size_in, origin, newest, held, tree_of, writers_of, version_of, has_size}
+use Rattle.jffs_tree.specs.Check.{keeps_kind, keeps_offsets, keeps_form, each_fits, check, parents_are_there, names_differ, is_within}
 use Rattle.jffs_tree.specs.Laws.{RulesGiveOrigins, ErasingKeepsRules}
 use Rattle.jffs_tree.proofs.states.Pointwise.{at-state}
 use Rattle.jffs_node.proofs.Fitting.{or_second}

@@ -4,7 +4,7 @@ use Rattle.std.specs.Option.{option_map_or}
 use Rattle.std.proofs.lemmas.Bool.{cases_Bool, cases_lt}
 use Rattle.std.proofs.lemmas.List.{get_or_past}
 use Rattle.jffs_node.specs.declared.node.Node.{Node}
-use Rattle.jffs_tree.specs.State.{bytes_of}
+use Rattle.jffs_inodes.specs.Held.{bytes_of}
 use Rattle.jffs_tree.specs.Origin.{concerns, entry, size_in, writes, offset_before, origin, origin_offset}
 use Rattle.jffs_tree.specs.Laws.{BytesComeFromOrigins}
 use Rattle.jffs_tree.proofs.states.Pointwise.{at-state}

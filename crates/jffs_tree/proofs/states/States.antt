@@ -6,8 +6,9 @@ use Rattle.std.specs.Cmp.{unsigned_tied}
 use Rattle.std.specs.FinMap.Entries as entries
 use Rattle.std.proofs.lemmas.Bool.{eqb-true, and_parts, and_from, or_left, or_right, or_from, cases_Bool}
 use Rattle.std.proofs.lemmas.Option.{same_Some}
-use Rattle.jffs_tree.specs.State.{Entry, State, at}
-use Rattle.jffs_tree.proofs.trees.Maps.{tail_sorted, at_first, at_later}
+use Rattle.jffs_inodes.specs.Held.{Entry}
+use Rattle.jffs_tree.specs.State.{State, at}
+use Rattle.jffs_marks.proofs.Maps.{tail_sorted, at_first, at_later}
 
 pub at_cases : (x : ℕ × Entry) (s : State) (i : ℕ) (e : Entry) → at (x ∷ s) i ≡ Some e → ((i ≡ x.0) × (x.1 ≡ e)) ⊎ (at s i ≡ Some e)
 at_cases x s i e is = ⊎_elim

@@ -5,7 +5,7 @@ use Rattle.std.proofs.lemmas.Option.{none-some, same_Some}
 use Rattle.std.specs.List.{AllByRecursion}
 use Rattle.jffs_node.specs.declared.node.Node.{Node}
 use Rattle.jffs_node.specs.Record.{dsize, is_unmount}
-use Rattle.jffs_tree.specs.State.{written, sized, splice}
+use Rattle.jffs_inodes.specs.Held.{written, sized, splice}
 use Rattle.jffs_tree.specs.Origin.{concerns, entry, size_in, writes, offset_before, origin, newest}
 use Rattle.jffs_tree.proofs.states.Offsets.{spliced, length-spliced, read_before, read_written, read_after, length-sized, read_sized}
 

@@ -4,7 +4,8 @@ use Rattle.std.proofs.lemmas.Bool.{leb-true, and_parts, cases_lt, not-true}
 use Rattle.std.proofs.lemmas.List.{ext_get_or}
 use Rattle.jffs_node.specs.declared.node.Node.{Node}
 use Rattle.jffs_node.specs.Record.{is_unmount, is_file, dsize}
-use Rattle.jffs_tree.specs.State.{Entry, sized, splice, written, state_of_past}
+use Rattle.jffs_inodes.specs.Held.{Entry, sized, splice, written}
+use Rattle.jffs_tree.specs.State.{state_of_past}
 use Rattle.jffs_tree.specs.Origin.{concerns, entry, IsTrueCopy, stated_size}
 use Rattle.jffs_tree.proofs.states.Pointwise.{same_state}
 use Rattle.jffs_tree.proofs.states.Offsets.{spliced, length-spliced, read_before, read_written, read_after, length-sized, read_sized}

@@ -6,8 +6,10 @@ use Rattle.jffs_node.specs.declared.node.Node.{Node}
 use Rattle.jffs_node.specs.declared.node.Kind.TheVariants.{File, Directory, Unmount}
 use Rattle.jffs_node.specs.Name.{is_name}
 use Rattle.jffs_node.specs.Record.{dsize, file_max, is_unmount, fits_fields, suits_kind, kind_numbers, numbers_hold, is_lawful}
-use Rattle.jffs_tree.specs.Origin.{Tree, tree_of}
-use Rattle.jffs_tree.specs.After.{keeps_offsets_in, suits_tree, without_inode, put_node, tree_after, IsSmall}
+use Rattle.jffs_inodes.specs.Inodes.{Tree, keeps_offsets_in, without_inode, put_node}
+use Rattle.jffs_tree.specs.Origin.{tree_of}
+use Rattle.jffs_tree.specs.After.{suits_tree, tree_after}
+use Rattle.jffs_inodes.specs.Held.{IsSmall}
 use Rattle.jffs_node.proofs.Lawfulness.{rules_of, no_range, unmount_range, file_numbers, directory_numbers}
 use Rattle.jffs_tree.proofs.trees.Grown.{tree_steps}
 

@@ -12,9 +12,11 @@ use Rattle.std.proofs.lemmas.List.{ext_get_or, get_or_past, length-replicate, ge
 use Rattle.std.proofs.lemmas.List.FromFn.{length-map-range_with_len, get_or-map-range_with_len}
 use Rattle.jffs_node.specs.declared.node.Node.{Node}
 use Rattle.jffs_node.specs.Record.{dsize, is_unmount}
-use Rattle.jffs_tree.specs.State.{Entry, State, at, written, bytes_of, state_of_past}
-use Rattle.jffs_tree.specs.Origin.{Held, Tree, concerns, entry, size_in, offset_before, origin, held, writers_of, version_of, has_size, tree_of}
-use Rattle.jffs_tree.specs.After.{spliced_with, held_in, writers_after, held_after, tree_after}
+use Rattle.jffs_inodes.specs.Held.{Entry, written, bytes_of, Held, spliced_with, writers_after, held_after}
+use Rattle.jffs_tree.specs.State.{State, at, state_of_past}
+use Rattle.jffs_inodes.specs.Inodes.{Tree, held_in}
+use Rattle.jffs_tree.specs.Origin.{concerns, entry, size_in, offset_before, origin, held, writers_of, version_of, has_size, tree_of}
+use Rattle.jffs_tree.specs.After.{tree_after}
 use Rattle.jffs_tree.proofs.states.Pointwise.{find-step, sorted-step, at-state, sorted-state}
 use Rattle.jffs_tree.proofs.states.Steps.{entry-other, entry-deleted, entry-written, newest-other, newest-written, origin-other, origin-written, origin-moved, origin-padding, where_is, Inside, Outside, rewritten}
 use Rattle.jffs_tree.proofs.states.Offsets.{same_length, read_sized, read_before, read_written, read_after}

@@ -6,9 +6,10 @@ use Rattle.jffs_node.specs.declared.node.Kind.TheVariants.{Directory}
 use Rattle.jffs_node.specs.Record.{is_directory}
 use Rattle.std.proofs.lemmas.List.{get_or_past}
 use Rattle.jffs_node.specs.declared.node.Node.{Node}
-use Rattle.jffs_tree.specs.State.{Entry, State, at, bytes_of, has_kind, is_directory_in}
-use Rattle.jffs_tree.specs.Origin.{Held, Tree, state_in, concerns, tree_of, entry, size_in, origin, newest, version_of, writers_of}
-use Rattle.jffs_tree.specs.After.{held_in}
+use Rattle.jffs_inodes.specs.Held.{Entry, bytes_of, Held}
+use Rattle.jffs_tree.specs.State.{State, at, has_kind, is_directory_in}
+use Rattle.jffs_inodes.specs.Inodes.{Tree, held_in}
+use Rattle.jffs_tree.specs.Origin.{state_in, concerns, tree_of, entry, size_in, origin, newest, version_of, writers_of}
 use Rattle.jffs_tree.specs.Check.{is_within}
 use Rattle.jffs_tree.specs.Look.{writers_in, kind_in, bytes_in}
 use Rattle.std.proofs.Math.Bool.{or-false}

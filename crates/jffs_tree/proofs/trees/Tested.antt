@@ -3,10 +3,11 @@ use Rattle.std.proofs.Common.{◌≡◌, ◌+◌, Bool, true, false, not, ◌||�
 use Rattle.std.specs.Option.{option_map_or, unwrap_or}
 use Rattle.jffs_node.specs.declared.node.Node.{Node}
 use Rattle.jffs_node.specs.Record.{dsize, is_file, kind_byte, is_lawful}
-use Rattle.jffs_tree.specs.State.{Entry, bytes_of}
+use Rattle.jffs_inodes.specs.Held.{Entry, bytes_of}
 use Rattle.jffs_tree.specs.Origin.{entry, size_in, tree_of}
 use Rattle.jffs_tree.specs.Check.{keeps_kind, keeps_offsets}
-use Rattle.jffs_tree.specs.After.{keeps_kind_in, keeps_offsets_in}
+use Rattle.jffs_tree.specs.After.{keeps_kind_in}
+use Rattle.jffs_inodes.specs.Inodes.{keeps_offsets_in}
 use Rattle.jffs_tree.specs.Laws.{TreesTestAsNodes}
 use Rattle.jffs_node.proofs.Lawfulness.{as_long}
 use Rattle.jffs_tree.proofs.trees.Grown.{at-tree, held_at}

@@ -4,9 +4,9 @@ use Rattle.std.specs.Cmp.{nat_cmp_total}
 use Rattle.std.specs.FinMap.{nat_cmp-IsAntisymmetric}
 use Rattle.std.specs.FinMap.Entries as entries
 use Rattle.jffs_node.specs.declared.node.Node.{Node}
-use Rattle.jffs_tree.specs.Origin.{Tree}
-use Rattle.jffs_tree.specs.After.{held_in, held_after, put_node, WritesInode}
-use Rattle.jffs_tree.proofs.states.Pointwise.{find_rewritten}
+use Rattle.jffs_inodes.specs.Inodes.{Tree, held_in, put_node, WritesInode}
+use Rattle.jffs_inodes.specs.Held.{held_after}
+use Rattle.jffs_inodes.proofs.Put.{find_rewritten}
 
 -- That is the tree with the node put in.
 pub put_there : (old seen new : Tree) (n : Node) → old ≡ seen → IsTrue (entries.is_sorted nat_cmp old) → WritesInode old new n → new ≡ put_node seen n

@@ -8,11 +8,13 @@ use Rattle.std.proofs.lemmas.Bool.{cases_Bool, eqb-true, eq-eqb, ne_eqb, and_fro
 use Rattle.std.proofs.lemmas.List.Folds.{list_any-append}
 use Rattle.std.proofs.lemmas.List.Sums.{sum_by-cons}
 use Rattle.std.proofs.lemmas.Option.{same_Some}
-use Rattle.jffs_tree.specs.Origin.{Held, Tree, versions_held, holder}
-use Rattle.jffs_tree.specs.After.{held_in}
+use Rattle.jffs_inodes.specs.Held.{Held, versions_held}
+use Rattle.jffs_inodes.specs.Inodes.{Tree, held_in}
+use Rattle.jffs_tree.specs.Origin.{holder}
 use Rattle.jffs_tree.specs.Look.{holds_version, any_live_in}
-use Rattle.jffs_tree.specs.Marks.{Counts, mark_of, held_marks, AreMarksOf}
-use Rattle.jffs_tree.proofs.trees.Maps.{tail_sorted, at_first, behind}
+use Rattle.jffs_marks.specs.Marks.{Counts, mark_of}
+use Rattle.jffs_inodes.specs.Marked.{held_marks, AreMarksOf}
+use Rattle.jffs_marks.proofs.Maps.{tail_sorted, at_first, behind}
 use Rattle.jffs_tree.proofs.versions.Totals.{no_marks}
 
 -- Counting and finding agree.

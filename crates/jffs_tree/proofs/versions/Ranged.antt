@@ -1,9 +1,10 @@
 -- What the marks of a range of versions tell of the tree.
 use Rattle.std.proofs.Common.{◌≡◌, ℕ, ◌<◌, true, false, ltb, Option, Some, None, IfNone, sym, ap, ◌∙◌}
 use Rattle.std.proofs.lemmas.Bool.{lt-ltb}
-use Rattle.jffs_tree.specs.Origin.{Tree}
+use Rattle.jffs_inodes.specs.Inodes.{Tree}
 use Rattle.jffs_tree.specs.Look.{holds_version}
-use Rattle.jffs_tree.specs.Marks.{Counts, mark_of, AreMarksOf}
+use Rattle.jffs_marks.specs.Marks.{Counts, mark_of}
+use Rattle.jffs_inodes.specs.Marked.{AreMarksOf}
 use Rattle.jffs_tree.proofs.versions.Finding.{marks_hold}
 
 module _ (tree seen : Tree) (counts : Counts) (marked : AreMarksOf tree counts) (same : tree ≡ seen) where

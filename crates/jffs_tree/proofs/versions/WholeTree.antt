@@ -8,8 +8,10 @@ use Rattle.std.proofs.Math.Bool.{or-false}
 use Rattle.std.proofs.lemmas.Bool.{eqb-true, cases_Bool, or_cases}
 use Rattle.std.proofs.lemmas.List.Folds.{list_any-append}
 use Rattle.jffs_node.specs.declared.node.Node.{Node}
-use Rattle.jffs_tree.specs.State.{Entry, state_of_past}
-use Rattle.jffs_tree.specs.Origin.{Held, Tree, entry, size_in, origin, newest, held, versions_held, version_of, writers_of, tree_of, is_live}
+use Rattle.jffs_inodes.specs.Held.{Entry, Held, versions_held}
+use Rattle.jffs_tree.specs.State.{state_of_past}
+use Rattle.jffs_inodes.specs.Inodes.{Tree}
+use Rattle.jffs_tree.specs.Origin.{entry, size_in, origin, newest, held, version_of, writers_of, tree_of, is_live}
 use Rattle.jffs_tree.specs.Look.{holds_version, IsVersionOf}
 use Rattle.jffs_tree.proofs.states.Pointwise.{at-state, sorted-state}
 use Rattle.jffs_tree.proofs.decisions.Copies.{found_there}

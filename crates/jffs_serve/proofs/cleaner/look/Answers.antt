@@ -1,6 +1,6 @@
 use Rattle.std.proofs.Common.{rules, ◌≡◌, ℕ, List, [], subst, ◌∙◌, Option, Some, None, IfSome}
 use Rattle.jffs_node.specs.declared.node.Node.{Node}
-use Rattle.jffs_tree.specs.Origin.{Tree}
+use Rattle.jffs_inodes.specs.Inodes.{Tree}
 use Rattle.jffs_index.specs.Histories.{view_of}
 use Rattle.jffs_index.specs.Ends.{known}
 use Rattle.jffs_serve.specs.declared.cleaner.Found.{Found}

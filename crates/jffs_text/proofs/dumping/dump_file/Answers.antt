@@ -3,8 +3,10 @@ use Rattle.std.specs.Prelude.{codes}
 use Rattle.std.specs.Option.{unwrap_or}
 use Rattle.std.specs.Io.KnownBytes.{Appends}
 use Rattle.std.proofs.KnownBytes.{Appends-trans}
-use Rattle.jffs_tree.specs.State.{at, bytes_of}
-use Rattle.jffs_tree.specs.Origin.{Tree, state_in}
+use Rattle.jffs_tree.specs.State.{at}
+use Rattle.jffs_inodes.specs.Held.{bytes_of}
+use Rattle.jffs_inodes.specs.Inodes.{Tree}
+use Rattle.jffs_tree.specs.Origin.{state_in}
 use Rattle.jffs_tree.specs.Look.{bytes_in}
 use Rattle.jffs_text.specs.Dump.{line_end, size_text, shown_bytes}
 use Rattle.jffs_text.proofs.Adding.{begun_more, begun_then, begun_whole}

@@ -3,7 +3,8 @@ use Rattle.std.proofs.Common.{◌≡◌, ℕ, true, false, List, Some, sym}
 use Rattle.std.specs.Ordering.{is_gt}
 use Rattle.jffs_tree.specs.Index.{ChildKey, key_cmp, has_child}
 use Rattle.jffs_tree.proofs.listing.KeyOrder.{first_of_name}
-use Rattle.jffs_tree.proofs.listing.Indexed.{of_first, is_least, no_child}
+use Rattle.jffs_marks.proofs.Order.{of_first}
+use Rattle.jffs_tree.proofs.listing.Indexed.{is_least, no_child}
 use Rattle.jffs_tree.proofs.children.first_named.Goals as goal
 
 -- a key of the index from the first key of the name on

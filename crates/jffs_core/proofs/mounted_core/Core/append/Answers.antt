@@ -3,7 +3,7 @@ use Rattle.jffs_node.specs.declared.node.Node.{Node}
 use Rattle.jffs_node.specs.Record.{record_len}
 use Rattle.jffs_flash.specs.Device.{Device, Fails}
 use Rattle.jffs_flash.specs.Wear.{Wear}
-use Rattle.jffs_tree.specs.Origin.{Tree}
+use Rattle.jffs_inodes.specs.Inodes.{Tree}
 use Rattle.jffs_tree.proofs.trees.Applied.{lawful_suits}
 use Rattle.jffs_log.specs.declared.room.Room.{Room}
 use Rattle.jffs_log.specs.LogIndex.{layout_in}

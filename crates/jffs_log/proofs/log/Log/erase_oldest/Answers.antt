@@ -2,7 +2,7 @@ use Rattle.std.proofs.Common.{◌≡◌, ℕ, ◌-◌, ◌<◌, ◌≤◌, false
 use Rattle.jffs_flash.specs.Device.{Device, with_image}
 use Rattle.jffs_flash.specs.Image.{erased}
 use Rattle.std.specs.List.{AllByRecursion}
-use Rattle.jffs_tree.specs.Origin.{Tree}
+use Rattle.jffs_inodes.specs.Inodes.{Tree}
 use Rattle.jffs_log.specs.LogIndex.{lives_in, oldest_in}
 use Rattle.jffs_log.specs.LogState.{LogState, OldestIsDead, ErasedOldest}
 use Rattle.jffs_log.proofs.append.Appended.{described_readable}

@@ -1,6 +1,7 @@
 use Rattle.std.proofs.Common.{◌≡◌, false, List, ap, subst, ◌∙◌}
 use Rattle.jffs_node.specs.declared.node.Node.{Node}
-use Rattle.jffs_tree.specs.Origin.{Tree, tree_of}
+use Rattle.jffs_inodes.specs.Inodes.{Tree}
+use Rattle.jffs_tree.specs.Origin.{tree_of}
 use Rattle.jffs_log.specs.LogIndex.{log_in, live_in, live_records_in}
 use Rattle.jffs_log.specs.History.{IsHistory}
 use Rattle.jffs_log.specs.LogState.{LogState}

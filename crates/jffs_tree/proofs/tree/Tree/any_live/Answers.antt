@@ -1,5 +1,5 @@
 use Rattle.std.proofs.Common.{List, ℕ, T, ap, subst, sym, ◌∙◌}
-use Rattle.jffs_tree.specs.Origin.{Held}
+use Rattle.jffs_inodes.specs.Held.{Held}
 use Rattle.jffs_tree.specs.Look.{any_live_in}
 use Rattle.jffs_tree.proofs.versions.Finding.{any_told}
 use Rattle.jffs_tree.proofs.tree.Tree.any_live.Goals as goal

@@ -1,6 +1,6 @@
 use Rattle.std.proofs.Common.{◌≡◌}
 use Rattle.std.specs.List.{list_all}
-use Rattle.jffs_tree.specs.Check.{bytes_are_written}
+use Rattle.jffs_inodes.specs.Held.{bytes_are_written}
 use Rattle.jffs_tree.proofs.tree.Tree.bytes_are_written.Given as goal
 
 abbrev pub invariant-loop-found : goal.invariant-loop-found

@@ -1,6 +1,7 @@
 use Rattle.std.proofs.Common.{sym, ◌∙◌}
 use Rattle.std.proofs.lemmas.Bool.{and_parts}
-use Rattle.jffs_tree.specs.After.{keeps_kind_in, keeps_offsets_in}
+use Rattle.jffs_tree.specs.After.{keeps_kind_in}
+use Rattle.jffs_inodes.specs.Inodes.{keeps_offsets_in}
 use Rattle.jffs_tree.proofs.trees.Applied.{lawful_suits}
 use Rattle.jffs_tree.proofs.tree.Tree.can_apply.Goals as goal
 

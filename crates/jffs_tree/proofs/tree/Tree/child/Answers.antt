@@ -1,5 +1,6 @@
 use Rattle.std.proofs.Common.{ℕ, List, T, ap, subst, sym, ◌∙◌}
-use Rattle.jffs_tree.specs.Origin.{Held, state_in}
+use Rattle.jffs_inodes.specs.Held.{Held}
+use Rattle.jffs_tree.specs.Origin.{state_in}
 use Rattle.jffs_tree.specs.State.{child}
 use Rattle.jffs_tree.proofs.listing.Standing.{child_found}
 use Rattle.jffs_tree.proofs.tree.Tree.child.Goals as goal

@@ -1,7 +1,7 @@
 use Rattle.std.proofs.Common.{◌≡◌, true, false, Some, rules, ◌∙◌}
 use Rattle.std.specs.Option.{option_map_or}
 use Rattle.jffs_node.specs.Record.{is_directory}
-use Rattle.jffs_tree.specs.After.{held_in}
+use Rattle.jffs_inodes.specs.Inodes.{held_in}
 use Rattle.jffs_tree.specs.Look.{kind_in}
 use Rattle.jffs_tree.proofs.trees.Looked.{directory_in}
 use Rattle.jffs_tree.proofs.decisions.There.{entry_found}

@@ -1,6 +1,7 @@
 use Rattle.std.proofs.Common.{ℕ, Bool, ◌&&◌, eqb, List, T, ap, subst, sym, ◌∙◌}
 use Rattle.std.specs.List.{list_any}
-use Rattle.jffs_tree.specs.Origin.{Held, state_in}
+use Rattle.jffs_inodes.specs.Held.{Held}
+use Rattle.jffs_tree.specs.Origin.{state_in}
 use Rattle.jffs_tree.proofs.listing.Standing.{any_found}
 use Rattle.jffs_tree.proofs.tree.Tree.has_names.Goals as goal
 

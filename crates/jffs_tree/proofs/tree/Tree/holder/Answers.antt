@@ -1,6 +1,7 @@
 use Rattle.std.proofs.Common.{ℕ, List, T, option_map, ap, subst, sym, ◌∙◌}
-use Rattle.jffs_tree.specs.Origin.{Held, holder}
-use Rattle.jffs_tree.specs.After.{held_in}
+use Rattle.jffs_inodes.specs.Held.{Held}
+use Rattle.jffs_tree.specs.Origin.{holder}
+use Rattle.jffs_inodes.specs.Inodes.{held_in}
 use Rattle.jffs_tree.proofs.versions.Finding.{none_told, some_told}
 use Rattle.jffs_tree.proofs.tree.Tree.holder.Goals as goal
 

@@ -1,5 +1,5 @@
 use Rattle.std.proofs.Common.{ltb, List, ℕ, ap, ◌∙◌}
-use Rattle.jffs_tree.specs.Origin.{Held}
+use Rattle.jffs_inodes.specs.Held.{Held}
 use Rattle.jffs_tree.specs.Look.{holds_version}
 use Rattle.jffs_tree.proofs.versions.Finding.{marks_hold}
 use Rattle.jffs_tree.proofs.versions.WholeTree.{live_whole}

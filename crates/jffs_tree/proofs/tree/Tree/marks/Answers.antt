@@ -1,5 +1,5 @@
 use Rattle.std.proofs.Common.{List, ℕ, T, min, ap, subst, sym, ◌∙◌}
-use Rattle.jffs_tree.specs.Origin.{Held}
+use Rattle.jffs_inodes.specs.Held.{Held}
 use Rattle.jffs_tree.specs.Look.{marks_in}
 use Rattle.jffs_tree.proofs.versions.Totals.{marks_counted}
 use Rattle.jffs_tree.proofs.tree.Tree.marks.Goals as goal

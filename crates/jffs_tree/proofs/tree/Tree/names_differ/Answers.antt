@@ -1,5 +1,6 @@
 use Rattle.std.proofs.Common.{List, ℕ, T, ap, subst, sym, ◌∙◌}
-use Rattle.jffs_tree.specs.Origin.{Held, state_in}
+use Rattle.jffs_inodes.specs.Held.{Held}
+use Rattle.jffs_tree.specs.Origin.{state_in}
 use Rattle.jffs_tree.specs.Check.{names_differ}
 use Rattle.jffs_tree.proofs.listing.Apart.{apart_exactly}
 use Rattle.jffs_tree.proofs.tree.Tree.names_differ.Goals as goal

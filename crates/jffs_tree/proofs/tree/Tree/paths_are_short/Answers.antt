@@ -1,6 +1,6 @@
 use Rattle.std.proofs.Common.{ℕ, List, T, subst, sym, nat_cmp, ◌∙◌}
 use Rattle.std.specs.FinMap.Entries as entries
-use Rattle.jffs_tree.specs.Origin.{Held}
+use Rattle.jffs_inodes.specs.Held.{Held}
 use Rattle.jffs_tree.proofs.listing.Near.{near_exactly}
 use Rattle.jffs_tree.proofs.tree.Tree.paths_are_short.Goals as goal
 

@@ -1,12 +1,12 @@
 use Rattle.std.proofs.Common.{◌≡◌, ℕ, true, false, cond, ◌&&◌, eqb, List, Option, None, Some, IsTrue, inl, inr, ap, subst, sym, rules, nat_cmp, ◌∙◌}
 use Rattle.std.specs.FinMap.Entries as entries
 use Rattle.std.proofs.lemmas.Bool.{not-true}
-use Rattle.jffs_tree.specs.Origin.{Held}
+use Rattle.jffs_inodes.specs.Held.{Held}
 use Rattle.jffs_tree.specs.Look.{parent_name_in}
 use Rattle.jffs_tree.specs.Index.{ChildKey, has_child, is_named, IsIndexOf}
-use Rattle.jffs_tree.specs.Marks.{AreMarksOf}
+use Rattle.jffs_inodes.specs.Marked.{AreMarksOf}
 use Rattle.jffs_tree.proofs.trees.Written.{put_there}
-use Rattle.jffs_tree.proofs.versions.Marked.{same_marks_of}
+use Rattle.jffs_inodes.proofs.Marked.{same_marks_of}
 use Rattle.jffs_tree.proofs.listing.Reindexed.{tied, by_key, restored, parted, stayed}
 use Rattle.jffs_tree.proofs.tree.Tree.write_elsewhere.Goals as goal
 

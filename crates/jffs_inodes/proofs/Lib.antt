@@ -1,0 +1,4 @@
+pub mod Put
+pub mod InOrder
+pub mod Marked
+pub mod files

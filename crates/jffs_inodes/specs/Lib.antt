@@ -1,0 +1,5 @@
+pub mod Held
+pub mod Inodes
+pub mod Marked
+pub mod Fragments
+pub mod Shown

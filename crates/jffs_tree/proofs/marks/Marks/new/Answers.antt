@@ -1,9 +1,0 @@
-use Rattle.std.proofs.Common.{subst, sym}
-use Rattle.std.specs.List.Sorted.{IsStrictlySortedBy}
-use Rattle.jffs_tree.specs.Marks.{Counts}
-use Rattle.jffs_tree.proofs.versions.Places.{InOrder}
-use Rattle.jffs_tree.proofs.marks.Marks.new.Goals as goal
-
-pub invariant_of-result : goal.invariant_of-result
-unfolding IsStrictlySortedBy
-invariant_of-result c = record { ordered = subst (λ (t : Counts). InOrder t) (sym c.new.ensures.items) tt }

@@ -1,9 +1,0 @@
-use Rattle.jffs_tree.proofs.versions.Walks.{AreSpentFrom}
-use Rattle.jffs_tree.proofs.marks.Marks.next.Given as goal
-
--- what was passed is spent
-abbrev pub invariant-loop-index : goal.invariant-loop-index
-invariant-loop-index l = AreSpentFrom l.self l.first l.index
-
-abbrev pub decreases-loop-index : goal.decreases-loop-index
-decreases-loop-index l = l.index

@@ -1,13 +1,13 @@
 -- How often each sector is erased. The oldest sector of the log is erased each time, so the ring of
 -- sectors wears evenly.
-use Rattle.std.specs.Prelude.{◌≡◌, ℕ, zero, suc, ◌+◌, ◌-◌, ◌^◌, ◌<◌, ◌≤◌, ◌==◌, min, List, []}
-use Rattle.std.specs.Prelude.{◌∷◌, if◌then◌else◌}
+use Rattle.std.specs.Prelude.{◌≡◌, ℕ, zero, suc, ◌+◌, ◌-◌, ◌^◌, ◌<◌, ◌≤◌, ◌==◌, nat_lt, min}
+use Rattle.std.specs.Prelude.{List, [], ◌∷◌, if◌then◌else◌}
 use Rattle.jffs_log.specs.declared.log_index.LogIndex.{LogIndex}
 use Rattle.jffs_log.specs.LogIndex.{IsLogIndex, HasSizes}
 
 -- the sector after this one, where the first comes after the last
 abbrev pub sector_after : ℕ → ℕ → ℕ
-sector_after count k = if k + 1 == count then 0 else k + 1
+sector_after count k = if nat_lt (k + 1) count then k + 1 else 0
 
 -- the sector that is so many after this one
 abbrev pub sector_after_each : ℕ → ℕ → ℕ → ℕ

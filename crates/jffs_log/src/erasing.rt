@@ -3,7 +3,7 @@
 ghost use Rattle.std.specs.Prelude.{◌≡◌, ◌≤◌, false, OnOk, IfErr};
 ghost use Rattle.jffs_log.specs.LogIndex.{from_other};
 
-use crate::log::{Log, failure, sector_at};
+use crate::log::{Log, failure, sector_after};
 use crate::log_index::RecordRef;
 use jffs_flash::Flash;
 use jffs_tree::{Cause, Tree};
@@ -32,7 +32,7 @@ impl<F: Flash> Log<F> {
         match self.flash.erase(index.first) {
             Ok(()) => {
                 forget_sector(&mut index.records, index.first);
-                index.first = sector_at(index.first, 1, index.sectors);
+                index.first = sector_after(index.first, index.sectors);
                 index.held -= 1;
                 Ok(())
             }

@@ -29,7 +29,7 @@ pub use laws::{
     cleaning_keeps_room, cleanings_copy_little, copies_take_over, full_logs_are_heavy,
     histories_stay_lawful, mounts_are_sound, puts_keep_room, wear_is_even, weight_is_kept,
 };
-pub use log::Log;
+pub use log::{Log, sector_after};
 pub use log_index::{LogIndex, RecordRef};
 pub use place::Place;
 pub use room::Room;

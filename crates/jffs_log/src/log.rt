@@ -1,9 +1,10 @@
 //! The log of a device.
 
 ghost use Rattle.std.specs.Prelude.{◌≡◌, ◌-◌, ◌^◌, ◌<◌, ◌≤◌, true, false, length, map};
-ghost use Rattle.std.specs.Prelude.{is_some, nat_le, IfSome, IsTrue, OnOk, IfErr};
+ghost use Rattle.std.specs.Prelude.{is_some, nat_le, IfSome, IfNone, IsTrue, OnOk, IfErr};
 ghost use Rattle.std.specs.VecDeque.{deque_len, deque_capacity};
 ghost use Rattle.jffs_log.specs.Ring.{IsAt};
+ghost use Rattle.jffs_log.specs.Wear.{sector_after};
 ghost use Rattle.jffs_flash.specs.declared.sizes.TheConstants.{MAX_SECTORS};
 
 use crate::log_index::{LogIndex, RecordRef};
@@ -85,6 +86,20 @@ impl<F: Flash> Log<F> {
             (sectors_in self.now.index.sectors self.now.index.sector_size self.now.device.image) }
     {
         self.index.sectors - self.index.held
+    }
+
+    /// The number of the sector that was begun last; `None` where no sector holds the log. Takes no
+    /// memory.
+    pub fn tail(&self) -> Option<u32>
+        ensures last { IfSome result (λ sector.
+            IsAt self.now.index.first self.now.index.sectors (self.now.index.held - 1) sector) }
+        ensures none { IfNone result (self.now.index.held ≡ 0) }
+    {
+        let index = &self.index;
+        if index.held == 0 {
+            return None;
+        }
+        Some(sector_at(index.first, index.held - 1, index.sectors))
     }
 
     /// How many bytes are erased after the last record of the sector that was begun last; 0 where a
@@ -260,6 +275,16 @@ pub(crate) fn failure(failed: &mut bool, _: FlashFault) -> Cause
 {
     *failed = true;
     Cause::Device
+}
+
+/// The sector after another, round a device of `sectors` sectors.
+pub fn sector_after(sector: u32, sectors: u32) -> u32
+    ensures { result ≡ sector_after sectors sector }
+{
+    match sector.checked_add(1) {
+        Some(next) if next < sectors => next,
+        _ => 0,
+    }
 }
 
 /// The sector that is `steps` after the first of the ring.

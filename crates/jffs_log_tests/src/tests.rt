@@ -118,6 +118,7 @@ fn comes_back(rt: &(impl Abort + AllocGlobal), log: Log<MemoryFlash>, image: &[u
 /// The log and the tree after both versions.
 fn holds_two(rt: &impl Abort, log: &Log<MemoryFlash>, tree: &Tree) {
     assert_eq!(rt; (log.erased(), log.erases()), (5, 0));
+    assert_eq!(rt; log.tail(), Some(0));
     assert_eq!(rt;
         (log.free(), log.sure_weight()),
         (1024 - 2 * 72, 2 * (768 - 64))
@@ -134,6 +135,7 @@ fn each_call_on_its_happy_path(rt: HostRuntime) -> Result<(), TestFail> {
         ..
     } = mount(&rt, blank(&rt));
     assert_eq!(rt; (log.erased(), log.free()), (6, 0));
+    assert_eq!(rt; log.tail(), None);
     assert!(rt; !is_oldest_dead(&rt, &log, &tree));
     append_two(&rt, &mut log, &mut tree)?;
     holds_two(&rt, &log, &tree);

@@ -95,15 +95,7 @@ pub(crate) fn map_of<F: Flash>(alloc: Global, core: &Core<F>) -> Result<Map, All
 
 /// The tail of a log; `None` where it has no sector.
 fn tail_of<F: Flash>(log: &Log<F>) -> Option<MapTail> {
-    if log.held() == 0 {
-        return None;
-    }
-    let at = log.oldest().saturating_add(log.held() - 1);
-    let sector = if at < log.sectors() {
-        at
-    } else {
-        at.saturating_sub(log.sectors())
-    };
+    let sector = log.tail()?;
     Some(MapTail {
         sector,
         free: log.free(),

@@ -1,8 +1,9 @@
 -- The texts that the tools print.
-use Rattle.std.specs.Prelude.{ℕ, zero, suc, ◌+◌, Bool, true, false, nat_eq, nat_lt, List, [], ◌++◌}
+use Rattle.std.specs.Prelude.{ℕ, zero, suc, ◌+◌, Bool, true, false, nat_eq, List, [], ◌++◌}
 use Rattle.std.specs.Prelude.{Option, Some, None, codes, decimal, if◌then◌else◌}
 use Rattle.jffs_tree.specs.declared.wish.Limits.{Limits}
 use Rattle.jffs_log.specs.declared.log_index.RecordRef.{RecordRef}
+use Rattle.jffs_log.specs.Wear.{sector_after}
 use Rattle.jffs_tools.specs.declared.did.Did.{Did}
 use Rattle.jffs_tools.specs.declared.did.Did.TheVariants.{Appended, Copied, ClosedAt, Closed}
 use Rattle.jffs_tools.specs.declared.did.Did.TheVariants.{Cleaned, OneSector, Erased, Refused}
@@ -71,12 +72,8 @@ rest_text copies (Some t) = copies_text copies ++ totals_text t
 abbrev pub answered_text : Answered → List ℕ
 answered_text a = did_text a.did ++ rest_text a.copies a.totals
 
--- the sector after another, round a device of `sectors` sectors
-abbrev pub sector_behind : ℕ → ℕ → ℕ
-sector_behind sectors sector = if nat_lt (sector + 1) sectors then sector + 1 else 0
-
 -- the numbers of the sectors from `first` on, round a device; the second number says how many
 unfoldable pub ring_text : ℕ → ℕ → ℕ → List ℕ
 ring_text sectors zero first = []
 ring_text sectors (suc held) first =
-    codes " " ++ (decimal first ++ ring_text sectors held (sector_behind sectors first))
+    codes " " ++ (decimal first ++ ring_text sectors held (sector_after sectors first))

@@ -12,11 +12,10 @@ ghost use Rattle.jffs_tools.specs.Texts.{refused_text as text_of_refused, did_te
 ghost use Rattle.jffs_tools.specs.Texts.{copies_text as text_of_copies};
 ghost use Rattle.jffs_tools.specs.Texts.{totals_text as text_of_totals, rest_text as text_of_rest};
 ghost use Rattle.jffs_tools.specs.Texts.{answered_text as text_of_answered, ring_text};
-ghost use Rattle.jffs_tools.specs.Texts.{sector_behind};
 
 use crate::did::{Answered, Did, Totals};
 use crate::names::rule_name;
-use jffs_log::{RecordRef, ScanWhy};
+use jffs_log::{RecordRef, ScanWhy, sector_after};
 use jffs_text::cause_name;
 use jffs_tree::{Cause, Limits};
 use sha2::{Digest, Sha256};
@@ -112,19 +111,9 @@ pub fn sectors_text(
     for _ in 0..held {
         text.push_str(" ")?;
         text.push_str(format!(in alloc; "{sector}")?.as_str())?;
-        sector = next_sector(sector, sectors);
+        sector = sector_after(sector, sectors);
     }
     Ok(text)
-}
-
-/// The sector after another, round the device.
-fn next_sector(sector: u32, sectors: u32) -> u32
-    ensures { result ≡ sector_behind sectors sector }
-{
-    match sector.checked_add(1) {
-        Some(next) if next < sectors => next,
-        _ => 0,
-    }
 }
 
 /// `record SECTOR PLACE LENGTH VERSION live`, or with `dead` at its end. The error: allocation

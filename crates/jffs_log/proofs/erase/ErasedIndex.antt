@@ -5,19 +5,17 @@ use Rattle.jffs_log.specs.declared.log_index.RecordRef.{RecordRef}
 use Rattle.std.specs.List.{last_or}
 use Rattle.jffs_log.specs.Image.{records_in, records_in_first, log_sectors, is_clean, is_clean_tail}
 use Rattle.jffs_log.specs.Volume.{sectors_in}
-use Rattle.jffs_log.specs.Ring.{IsAt, IsNext}
+use Rattle.jffs_log.specs.Ring.{IsNext}
+use Rattle.jffs_log.specs.Wear.{sector_after}
 use Rattle.jffs_log.specs.Live.{live_log}
 use Rattle.jffs_log.specs.Cleaning.{layout_of, erase_oldest}
 use Rattle.jffs_log.specs.LogIndex.{Describes, from_other}
 use Rattle.jffs_log.proofs.ring.Ring.{Numbered, ring_log}
 use Rattle.jffs_log.proofs.append.Appended.{described_inside, image_small}
+use Rattle.jffs_log.proofs.erase.Wear.{next_after}
 use Rattle.jffs_log.proofs.erase.Erased.{IsErasedOldest, oldest_erased, placed_go}
 use Rattle.jffs_log.proofs.ring.Layouts.{layout_erased}
 use Rattle.jffs_log.proofs.ring.Volume.{sector_fits}
-
-next_is : (first count next : ℕ) → first < count → IsAt first count 1 next → IsNext first count next
-next_is first count next inside (inl at) = let e = at.0 in inl (omega arith, at.1)
-next_is first count next inside (inr at) = let e = at.0 in let l = at.1 in inr (omega arith, omega arith)
 
 -- the last sector is the same without the first
 same_last : (first : Numbered) (later : List Numbered) → 1 ≤ length later → is_clean_tail (last_or None later) ≡ is_clean_tail (last_or None (first ∷ later))
@@ -34,7 +32,7 @@ pub record IsIndexErased (count len : ℕ) (old new : List ℕ) (next left tail 
   pub layout : layout_of len (sectors_in count len new) ≡ erase_oldest (layout_of len (sectors_in count len old))
   pub clean : is_clean (sectors_in count len new) ≡ is_clean (sectors_in count len old)
 
-pub index_erased : (count len : ℕ) (old new : List ℕ) (first many tail used free next : ℕ) (records rest : List RecordRef) → Describes count len old first many tail used free records → 2 ≤ many → IsAt first count 1 next
+pub index_erased : (count len : ℕ) (old new : List ℕ) (first many tail used free next : ℕ) (records rest : List RecordRef) → Describes count len old first many tail used free records → 2 ≤ many → next ≡ sector_after count first
     → new ≡ erased len first old → rest ≡ from_other first records → IsIndexErased count len old new next (many - 1) tail used free rest
 index_erased count len old new first many tail used free next records rest h several at changed left =
     subst (λ (xs : List ℕ). IsIndexErased count len old xs next (many - 1) tail used free rest) (sym changed) on_erased
@@ -43,7 +41,7 @@ index_erased count len old new first many tail used free next records rest h sev
     inside = (described_inside count len old first many tail used free records h).0
 
     e : IsErasedOldest count len old (erased len first old) first next (many - 1) tail used free records
-    e = oldest_erased count len old first many tail used free next records h several (next_is first count next inside at)
+    e = oldest_erased count len old first many tail used free next records h several (subst (IsNext first count) (sym at) (next_after first count inside))
 
     others : rest ≡ e.others
     others =

@@ -1,23 +1,24 @@
 -- Erases go around the ring of sectors.
-use Rattle.std.proofs.Common.{◌≡◌, ◌≢◌, inl, inr, ℕ, zero, suc, ◌+◌, ◌-◌, ◌^◌, ◌<◌, ◌≤◌, eqb, min, refl, sym, ap, subst, ◌∙◌, arith}
-use Rattle.std.proofs.lemmas.Bool.{cond-true, cond-false, cases_eq, cases_lt, eq-eqb, ne_eqb}
-use Rattle.jffs_log.specs.Ring.{IsAt}
+use Rattle.std.proofs.Common.{◌≡◌, ◌≢◌, inl, inr, ℕ, zero, suc, ◌+◌, ◌-◌, ◌^◌, ◌<◌, ◌≤◌, eqb, ltb, min, refl, sym, ap, subst, ◌∙◌, arith}
+use Rattle.std.proofs.lemmas.Bool.{cond-true, cond-false, cases_eq, cases_lt, eq-eqb, ne_eqb, lt-ltb, le-ltb}
+use Rattle.jffs_log.specs.Ring.{IsAt, IsNext}
 use Rattle.jffs_log.specs.declared.log_index.LogIndex.{LogIndex}
 use Rattle.jffs_log.proofs.ring.Ring.{at_once}
 use Rattle.jffs_log.specs.Wear.{sector_after, sector_after_each, erases_of, ErasedInTurn, WearIsEven, TurnsGoOn}
 
 -- the last sector is followed by the first, each other by the next
-after_last : (count k : ℕ) → k + 1 ≡ count → sector_after count k ≡ 0
-after_last count k last = cond-true (eqb (k + 1) count) 0 (k + 1) (eq-eqb (k + 1) count last)
+after_last : (count k : ℕ) → count ≤ k + 1 → sector_after count k ≡ 0
+after_last count k last = cond-false (ltb (k + 1) count) (k + 1) 0 (le-ltb (k + 1) count last)
 
-after_other : (count k : ℕ) → k + 1 ≢ count → sector_after count k ≡ k + 1
-after_other count k other = cond-false (eqb (k + 1) count) 0 (k + 1) (ne_eqb (k + 1) count other)
+after_other : (count k : ℕ) → k + 1 < count → sector_after count k ≡ k + 1
+after_other count k other = cond-true (ltb (k + 1) count) (k + 1) 0 (lt-ltb (k + 1) count other)
 
 -- one step around the ring
-pub next_after : (first count next : ℕ) → IsAt first count 1 next → first < count → next ≡ sector_after count first
-next_after first count next (inl at) inside = sym at.0 ∙ sym (after_other count first (λ last. omega arith))
-next_after first count next (inr at) inside =
-    let zero_next : next ≡ 0 = omega arith in zero_next ∙ sym (after_last count first (omega arith))
+pub next_after : (first count : ℕ) → first < count → IsNext first count (sector_after count first)
+next_after first count inside = elim (cases_lt (first + 1) count) [
+  | inl below ↦ let e = after_other count first below in inl (e, omega arith)
+  | inr last ↦ inr (omega arith, after_last count first last)
+]
 
 -- So far `rounds` rounds are over, and in the next one those sectors were erased that are less than
 -- `steps` after the first.
@@ -45,16 +46,16 @@ other_steps first count d e k u v other (inr a) (inr b) = other (omega arith)
 
 -- the step after this one
 step_on : (first count d c : ℕ) → first < count → d + 1 < count → IsAt first count d c → IsAt first count (d + 1) (sector_after count c)
-step_on first count d c inside short (inl at) = elim (cases_eq (c + 1) count) [
-  | inl last ↦ inr (let e = after_last count c last in omega arith, let e = after_last count c last in omega arith)
-  | inr other ↦ inl (let e = after_other count c other in omega arith, let e = after_other count c other in omega arith)
+step_on first count d c inside short (inl at) = elim (cases_lt (c + 1) count) [
+  | inl other ↦ inl (let e = after_other count c other in omega arith, let e = after_other count c other in omega arith)
+  | inr last ↦ inr (let e = after_last count c last in omega arith, let e = after_last count c last in omega arith)
 ]
 step_on first count d c inside short (inr at) =
-    let e = after_other count c (λ last. omega arith) in inr (omega arith, omega arith)
+    let e = after_other count c (omega arith) in inr (omega arith, omega arith)
 
 step_round : (first count d c : ℕ) → first < count → d + 1 ≡ count → IsAt first count d c → IsAt first count 0 (sector_after count c)
 step_round first count d c inside full (inl at) = let e = after_last count c (omega arith) in inl (omega arith, omega arith)
-step_round first count d c inside full (inr at) = let e = after_other count c (λ last. omega arith) in inl (omega arith, omega arith)
+step_round first count d c inside full (inr at) = let e = after_other count c (omega arith) in inl (omega arith, omega arith)
 
 -- one erase more of the sector itself, none of another
 one_more : (count first many k : ℕ) → sector_after_each count first many ≡ k → erases_of count first (suc many) k ≡ 1 + erases_of count first many k

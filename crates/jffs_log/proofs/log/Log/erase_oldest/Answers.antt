@@ -9,9 +9,8 @@ use Rattle.jffs_log.proofs.append.Appended.{described_readable}
 use Rattle.jffs_log.proofs.Histories.{erasing_keeps_history}
 use Rattle.jffs_log.proofs.erase.ErasedIndex.{IsIndexErased, index_erased}
 use Rattle.jffs_log.proofs.Seen.{told, only_image, same_sizes, log_holds}
-use Rattle.jffs_log.proofs.erase.Wear.{next_after}
 use Rattle.jffs_log.proofs.log.Log.erase_oldest.Goals as goal
-use Rattle.jffs_log.proofs.log.Log.erase_oldest.Goals.{After-sector_at-index}
+use Rattle.jffs_log.proofs.log.Log.erase_oldest.Goals.{After-sector_after-index}
 
 -- what is said of the log inside is said of it by its other name
 done_seen : (inside seen new : LogState) (tree : Tree) → inside ≡ seen → ErasedOldest tree inside new → ErasedOldest tree seen new
@@ -22,14 +21,14 @@ changed : (old new : Device) (size first : ℕ) → new ≡ with_image old (eras
 changed old new size first done same = ap (λ (d : Device). d.image) done ∙ ap (λ (k : ℕ). erased k first old.image) same
 
 -- the index without it
-after : (g : _) (c : After-sector_at-index g)
-    → IsIndexErased c.self.inside.index.sectors c.self.inside.index.sector_size (g.F.Flash.device c.self.inside.flash).image (g.F.Flash.device c.erase.new.self).image c.sector_at-index.result
+after : (g : _) (c : After-sector_after-index g)
+    → IsIndexErased c.self.inside.index.sectors c.self.inside.index.sector_size (g.F.Flash.device c.self.inside.flash).image (g.F.Flash.device c.erase.new.self).image c.sector_after-index.result
     (c.self.inside.index.held - 1) c.self.inside.index.tail c.self.inside.index.used c.self.inside.index.free c.forget_sector.new.records.items
 after g c =
     let b = c.self.inside.index in
     index_erased _ _ _ _ _ _ _ _ _ _ _ c.forget_sector.new.records.items (told _ _ c.self.view_is c.self.invariant c.requires.working)
     (subst (λ (v : LogState). 2 ≤ v.index.held) (sym c.self.view_is) c.requires.several)
-    c.sector_at-index.ensures (changed (g.F.Flash.device c.self.inside.flash) _ b.sector_size b.first c.in-Ok.ensures.device c.self.invariant.sizes.1) c.forget_sector.ensures
+    c.sector_after-index.ensures (changed (g.F.Flash.device c.self.inside.flash) _ b.sector_size b.first c.in-Ok.ensures.device c.self.invariant.sizes.1) c.forget_sector.ensures
 
 pub erase-requires : goal.erase-requires
 erase-requires g c = subst (λ (k : ℕ). c.self.inside.index.first < k) (sym c.self.invariant.sizes.0) c.self.invariant.first
@@ -37,7 +36,7 @@ erase-requires g c = subst (λ (k : ℕ). c.self.inside.index.first < k) (sym c.
 pub invariant_of-self : goal.invariant_of-self
 invariant_of-self g c =
     log_holds _ (same_sizes (g.F.Flash.device c.self.inside.flash) _ c.self.inside.index _ c.in-Ok.ensures.device c.self.invariant.sizes)
-    (after g (goal.at.invariant_of-self g c).After-sector_at-index).index
+    (after g (goal.at.invariant_of-self g c).After-sector_after-index).index
 
 pub returns-in-Ok-clause-done : goal.returns-in-Ok-clause-done
 returns-in-Ok-clause-done g c =
@@ -47,7 +46,7 @@ returns-in-Ok-clause-done g c =
     let tree = c.args.tree.now in
     let done = c.in-Ok.ensures.device in
     let image = changed old new b.sector_size b.first done c.self.invariant.sizes.1 in
-    let after = after g (goal.at.returns-in-Ok-clause-done g c).After-sector_at-index in
+    let after = after g (goal.at.returns-in-Ok-clause-done g c).After-sector_after-index in
     let readable = described_readable _ _ _ _ _ _ _ _ _ after.index in
     let dead = subst (λ (v : LogState). OldestIsDead tree v) (sym c.self.view_is) c.requires.dead in
     done_seen _ _ _ tree c.self.view_is
@@ -61,7 +60,7 @@ returns-in-Ok-clause-done g c =
       image = image;
       sizes = (refl, refl);
       erases = c.saturating_add-index.ensures;
-      first = next_after _ _ _ c.sector_at-index.ensures c.self.invariant.first;
+      first = c.sector_after-index.ensures;
       gone = after.gone;
       layout_is = after.layout;
       clean = after.clean;

@@ -5,6 +5,7 @@ use Rattle.jffs_node.specs.Record.{record_len}
 use Rattle.jffs_tree.specs.declared.wish.Cause.{Cause}
 use Rattle.jffs_tree.specs.declared.wish.Cause.TheVariants.{NoSpace, Device}
 use Rattle.jffs_log.specs.declared.room.Room.{Room}
+use Rattle.jffs_log.specs.declared.sector.TheConstants.{RECORDS_PER_SECTOR}
 use Rattle.jffs_log.specs.LogIndex.{layout_in}
 use Rattle.jffs_log.specs.History.{KeepsRules}
 use Rattle.jffs_log.specs.Cleaning.{put}
@@ -17,7 +18,7 @@ use Rattle.jffs_core.specs.Calls.{RefusedWith}
 -- the node may be the next of the history, and its record may stand where that room is
 pub record MayPut (past : List Node) (sector_size : ℕ) (room : Room) (n : Node) : Type 0 where
   pub rules : KeepsRules (n ∷ past)
-  pub short : record_len n ≤ sector_size / 4
+  pub short : record_len n ≤ sector_size / RECORDS_PER_SECTOR
   pub suits : suits_room room n ≡ true
   pub follows : MayFollow past n
   pub next : HasNextVersion past n

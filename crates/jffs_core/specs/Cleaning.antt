@@ -15,6 +15,7 @@ use Rattle.jffs_log.specs.Cleaning.{Layout, handled, handled_each, copy_has_room
 use Rattle.jffs_log.specs.Cleaning.{oldest_records, cleaned, erase_oldest, fresh_has_room}
 use Rattle.jffs_log.specs.Cleaning.{room_made, used}
 use Rattle.jffs_log.specs.Work.{live_and_free}
+use Rattle.jffs_log.specs.declared.sector.TheConstants.{RECORDS_PER_SECTOR}
 use Rattle.jffs_log.specs.RoomLaws.{Among}
 use Rattle.jffs_core.specs.declared.cleaning.Cleaned.{Cleaned}
 use Rattle.jffs_core.specs.declared.cleaning.Cleaned.TheVariants.{Erased, OneSector}
@@ -52,7 +53,7 @@ pub record IsSource (source : Node) (c : CoreState) : Type 0 where
   pub past : List Node
   pub known : RepresentsWorking past c
   pub among : Among source past
-  pub short : record_len source ≤ c.index.sector_size / 4
+  pub short : record_len source ≤ c.index.sector_size / RECORDS_PER_SECTOR
 
 -- Several records were handled, and `copies` copies were made.
 pub record HasCopied (nodes past after : List Node) (copies : ℕ) (old new : CoreState) :

@@ -15,6 +15,7 @@ use Rattle.jffs_core.specs.Step.{Turn, IsStep, decision, takes_no_node, had_room
 use Rattle.jffs_core.specs.Step.{newest_is_unmount}
 use Rattle.jffs_node.specs.declared.layout.TheConstants.{HEADER_LEN}
 use Rattle.jffs_flash.specs.declared.sizes.TheConstants.{MIN_SECTORS}
+use Rattle.jffs_log.specs.declared.sector.TheConstants.{RECORDS_PER_SECTOR}
 
 -- the versions up to here fit 32 bits
 abbrev pub HasVersions : GcState → Type 0
@@ -55,7 +56,7 @@ NoSpaceIsAStep =
     → Holds s gone → HEADER_LEN ≤ t.volume.sector_size → MIN_SECTORS ≤ t.volume.sectors
     → 2 ≤ t.erased
     → takes_no_node t q ≡ false → decision t q ≡ Ok n → is_fresh (with n 0 0 0) ≡ true
-    → record_len (with n 0 0 0) ≤ t.volume.sector_size / 4 → had_room t n ≡ false
+    → record_len (with n 0 0 0) ≤ t.volume.sector_size / RECORDS_PER_SECTOR → had_room t n ≡ false
     → fresh_has_room (record_len (with n 0 0 0))
     (room_made t.volume.sector_size (record_len (with n 0 0 0)) (length s.log.sectors) s) ≡ false
     → HasVersions (room_made t.volume.sector_size (record_len (with n 0 0 0)) (length s.log.sectors)

@@ -11,6 +11,7 @@ use Rattle.jffs_tree.specs.Check.{each_fits}
 use Rattle.jffs_tree.specs.Decide.{cleaning_copy, with}
 use Rattle.jffs_log.specs.declared.room.Room.{Room}
 use Rattle.jffs_log.specs.declared.room.Room.TheVariants.{Fresh, Copy}
+use Rattle.jffs_log.specs.declared.sector.TheConstants.{RECORDS_PER_SECTOR}
 use Rattle.jffs_log.specs.Image.{Sector, tail_of, log_sectors, erased_count, free_of_tail}
 use Rattle.jffs_log.specs.Room.{tail_need, has_room}
 
@@ -147,7 +148,7 @@ cleanings sector_size len (suc left) s =
 abbrev pub stands_from : ℕ → ℕ → List Node → Bool
 stands_from sector_size offset [] = true
 stands_from sector_size offset (n ∷ nodes) =
-    fits_rest n.kind (dsize n) (sector_size / 4) (sector_size - offset)
+    fits_rest n.kind (dsize n) (sector_size / RECORDS_PER_SECTOR) (sector_size - offset)
     && stands_from sector_size (offset + record_len n) nodes
 
 -- the last sector's records, and what is free after them

@@ -14,6 +14,7 @@ use Rattle.jffs_flash.specs.Wear.{Wear, Wears, no_erase, one_erase}
 use Rattle.jffs_flash.specs.declared.sizes.TheConstants.{MAX_SECTORS}
 use Rattle.jffs_log.specs.declared.log_index.LogIndex.{LogIndex}
 use Rattle.jffs_log.specs.declared.place.Place.{Place}
+use Rattle.jffs_log.specs.declared.sector.TheConstants.{RECORDS_PER_SECTOR}
 use Rattle.jffs_log.specs.declared.room.Room.{Room}
 use Rattle.jffs_log.specs.declared.room.Room.TheVariants as room
 use Rattle.jffs_log.specs.LogIndex.{IsLogIndex, HasSizes, IsSameLogIndex, IsCutSomewhere}
@@ -59,7 +60,7 @@ pub record IsLog (s : LogState) : Type 0 where
 -- the node's record may be the next, where that room is
 pub record MayAppend (r : Room) (n : Node) (s : LogState) : Type 0 where
   pub lawful : IsTrue (is_lawful n)
-  pub short : record_len n ≤ s.index.sector_size / 4
+  pub short : record_len n ≤ s.index.sector_size / RECORDS_PER_SECTOR
   pub has_room : IsTrue
       (has_room_in s.index.sectors s.index.sector_size s.device.image r (record_len n))
   pub unmounts : r ≡ room.Unmount → IsTrue (is_unmount n.kind)

@@ -9,6 +9,7 @@ use Rattle.jffs_log.specs.Image.{tail_of, free_of_tail, erased_count}
 use Rattle.jffs_log.specs.Volume.{sectors_in}
 use Rattle.jffs_log.specs.declared.room.Room.{Room}
 use Rattle.jffs_log.specs.declared.room.Room.TheVariants.{Fresh, Unmount}
+use Rattle.jffs_log.specs.declared.sector.TheConstants.{RECORDS_PER_SECTOR}
 use Rattle.jffs_node.specs.declared.layout.TheConstants.{HEADER_LEN}
 
 -- the sum of the record lengths of the live nodes
@@ -59,7 +60,7 @@ next_inode past = following (greatest_inode past)
 
 -- the most bytes of data that a record of a quarter of a sector has
 abbrev pub data_max : ℕ → ℕ
-data_max sector_size = sector_size / 4 - HEADER_LEN
+data_max sector_size = sector_size / RECORDS_PER_SECTOR - HEADER_LEN
 
 -- what a decision has to know of the log
 abbrev pub limits : ℕ → List Node → Limits

@@ -17,6 +17,7 @@ use Rattle.jffs_log.specs.Cleaning.{fresh_has_room, room_made, cleanings, oldest
 use Rattle.jffs_log.specs.Cleaning.{stands_from, last_fits, is_history, version_after}
 use Rattle.jffs_node.specs.declared.layout.TheConstants.{HEADER_LEN}
 use Rattle.jffs_flash.specs.declared.sizes.TheConstants.{MIN_SECTORS}
+use Rattle.jffs_log.specs.declared.sector.TheConstants.{RECORDS_PER_SECTOR}
 
 -- one of these
 abbrev pub Among : Node → List Node → Type 0
@@ -97,7 +98,7 @@ abbrev pub PutsKeepSound : Type 0
 PutsKeepSound =
     (sectors sector_size : ℕ) (room : Room) (n : Node) (s : GcState) → IsSound sectors sector_size s
     → is_history (n ∷ s.past) ≡ true → suits_room room n ≡ true
-    → record_len n ≤ sector_size / 4 → has_room room (record_len n) s.log.free s.log.erased ≡ true
+    → record_len n ≤ sector_size / RECORDS_PER_SECTOR → has_room room (record_len n) s.log.free s.log.erased ≡ true
     → IsSound sectors sector_size (record { past = n ∷ s.past; log = put sector_size room n s.log })
 
 -- The oldest sector may go, where it isn't the tail.
@@ -124,7 +125,7 @@ live_weight s = live_used s.past (flat_map (λ nodes. nodes) s.log.sectors)
 abbrev pub FullLogsAreHeavy : Type 0
 FullLogsAreHeavy =
     (sectors sector_size len : ℕ) (s : GcState) → HEADER_LEN ≤ sector_size → MIN_SECTORS ≤ sectors
-    → len ≤ sector_size / 4 → IsSound sectors sector_size s → 2 ≤ s.log.erased
+    → len ≤ sector_size / RECORDS_PER_SECTOR → IsSound sectors sector_size s → 2 ≤ s.log.erased
     → fresh_has_room len (room_made sector_size len (length s.log.sectors) s) ≡ false
     → heavy sectors sector_size ≤ live_weight s
 
@@ -133,7 +134,7 @@ FullLogsAreHeavy =
 abbrev pub FullLogsFill : Type 0
 FullLogsFill =
     (sectors sector_size len : ℕ) (s : GcState) → HEADER_LEN ≤ sector_size → MIN_SECTORS ≤ sectors
-    → len ≤ sector_size / 4 → IsSound sectors sector_size s → 2 ≤ s.log.erased
+    → len ≤ sector_size / RECORDS_PER_SECTOR → IsSound sectors sector_size s → 2 ≤ s.log.erased
     → fresh_has_room len (room_made sector_size len (length s.log.sectors) s) ≡ false
     → (sectors - 3) * (3 * sector_size / 4 - HEADER_LEN) ≤ live_weight s
 
@@ -174,7 +175,7 @@ MountsAreSound = (sector_size : ℕ) (image : List (List ℕ)) (scanned : Scanne
 abbrev pub CopiesKeepSound : Type 0
 CopiesKeepSound =
     (sectors sector_size : ℕ) (n : Node) (s : GcState) → IsSound sectors sector_size s
-    → Among n s.past → is_live s.past n.version ≡ true → record_len n ≤ sector_size / 4
+    → Among n s.past → is_live s.past n.version ≡ true → record_len n ≤ sector_size / RECORDS_PER_SECTOR
     → has_room Copy (record_len (copied s.past n)) s.log.free s.log.erased ≡ true
     → IsSound sectors sector_size (with_copy sector_size n s)
 

@@ -8,6 +8,7 @@ use Rattle.jffs_node.specs.Reading.{reading, reading_len, found}
 use Rattle.jffs_flash.specs.Device.{Device as FlashDevice}
 use Rattle.jffs_flash.specs.ReadsLeft.{HasSpent}
 use Rattle.jffs_log.specs.declared.sector.SectorRead.TheInside.{Inside}
+use Rattle.jffs_log.specs.declared.sector.TheConstants.{RECORDS_PER_SECTOR}
 use Rattle.jffs_log.specs.declared.scanning.ScanWhy.{ScanWhy}
 use Rattle.jffs_log.specs.declared.scanning.ScanWhy.TheVariants.{Device, Memory, NoErased}
 use Rattle.jffs_log.specs.declared.scanning.ScanWhy.TheVariants.{Scattered}
@@ -36,7 +37,7 @@ rest_of sector = drop (reading_len (reading sector)) sector
 -- after them, and its bytes are bytes
 pub record IsSpelled (sector : List ℕ) : Type 0 where
   pub holds : HoldsNodes sector (reading sector).nodes (rest_of sector)
-  pub ends : (reading sector).ending ≡ found (length sector / 4) (rest_of sector)
+  pub ends : (reading sector).ending ≡ found (length sector / RECORDS_PER_SECTOR) (rest_of sector)
   pub bytes : (i : ℕ) → get_or sector i 0 < 256
 
 -- the oldest sector, or why there is none

@@ -2,6 +2,7 @@
 use Rattle.std.specs.Prelude.{◌≡◌, ℕ, ◌-◌, ◌/◌, List, [], ◌∷◌, ◌++◌, length, flat_map, IsTrue}
 use Rattle.jffs_node.specs.declared.node.Node.{Node}
 use Rattle.jffs_node.specs.Record.{spelling, record_len, dsize, is_lawful, fits_rest}
+use Rattle.jffs_log.specs.declared.sector.TheConstants.{RECORDS_PER_SECTOR}
 
 -- the records of these nodes, one after another
 abbrev pub spellings : List Node → List ℕ
@@ -17,4 +18,4 @@ FitSector record_max len (n ∷ nodes) =
 -- the sector is their records and then these bytes
 pub record HoldsNodes (sector : List ℕ) (nodes : List Node) (rest : List ℕ) : Type 0 where
   pub spelled : sector ≡ spellings nodes ++ rest
-  pub fit : FitSector (length sector / 4) (length sector) nodes
+  pub fit : FitSector (length sector / RECORDS_PER_SECTOR) (length sector) nodes

@@ -59,7 +59,7 @@ impl GreatestNumbers {
 
     /// The longest data of a node, and the numbers that come next; none where they are used up.
     pub(crate) fn limits(self, sector_size: u32) -> Limits
-        ensures data_max { result.data_max ≡ sector_size / 4 - HEADER_LEN }
+        ensures data_max { result.data_max ≡ sector_size / RECORDS_PER_SECTOR - HEADER_LEN }
         ensures inode { result.next_inode ≡ following self.inode }
         ensures version { result.next_version ≡ following self.version }
     {

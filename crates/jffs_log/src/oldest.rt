@@ -7,7 +7,7 @@ ghost use Rattle.jffs_node.specs.declared.layout.TheConstants.{HEADER_LEN};
 
 use crate::log::{Log, failure};
 use crate::log_index::RecordRef;
-use crate::sector::{read_sector, shared_nodes};
+use crate::sector::{RECORDS_PER_SECTOR, read_sector, shared_nodes};
 use jffs_flash::{ERASED_BYTE, Flash};
 use jffs_node::{HEADER_LEN, Node};
 use jffs_tree::{Cause, Tree};
@@ -49,9 +49,9 @@ impl<F: Flash> Log<F> {
 
     /// The longest record, in bytes: a quarter of a sector.
     pub fn record_max(&self) -> u32
-        ensures { result ≡ self.now.index.sector_size / 4 }
+        ensures { result ≡ self.now.index.sector_size / RECORDS_PER_SECTOR }
     {
-        self.index.sector_size / 4
+        self.index.sector_size / RECORDS_PER_SECTOR
     }
 
     /// Whether the oldest sector may be erased: it isn't the tail, and none of its records lives in

@@ -14,6 +14,7 @@ use Rattle.jffs_tree.specs.Decide.{cleaning_copy}
 use Rattle.jffs_tree.specs.declared.wish.NewNode.{NewNode}
 use Rattle.jffs_serve.specs.declared.copies.Copying.{Copying}
 use Rattle.jffs_node.specs.declared.layout.TheConstants.{HEADER_LEN}
+use Rattle.jffs_log.specs.declared.sector.TheConstants.{RECORDS_PER_SECTOR}
 
 -- the copy of a node with this version, which says what the new node does
 abbrev pub copying_as : ℕ → NewNode → Option Copying
@@ -37,7 +38,8 @@ copy_in tree n =
 -- the most bytes of a record in an image of this length: a quarter of it, and no more than a number
 -- of 32 bits may say
 abbrev pub record_max : ℕ → ℕ
-record_max len = if nat_lt (len / 4) (2 ^ 32) then len / 4 else 2 ^ 32 - 1
+record_max len =
+    if nat_lt (len / RECORDS_PER_SECTOR) (2 ^ 32) then len / RECORDS_PER_SECTOR else 2 ^ 32 - 1
 
 -- the nodes of an image's records, as a sector is read
 abbrev pub nodes_in : List ℕ → List Node

@@ -9,6 +9,7 @@ use Rattle.jffs_node.specs.Record.{record_len, len_of_data, is_fresh, is_unmount
 use Rattle.jffs_node.specs.Name.{is_name}
 use Rattle.jffs_node.proofs.Lawfulness.{rules_of}
 use Rattle.jffs_flash.specs.Sizes.{is_geometry, is_sector_size}
+use Rattle.jffs_flash.specs.declared.sizes.TheConstants.{MIN_SECTORS, MAX_SECTORS}
 use Rattle.jffs_tree.specs.declared.wish.Wish.{Wish}
 use Rattle.jffs_tree.specs.declared.wish.Wish.TheVariants.{MakeDir, Create, Write, Truncate, Rename, Remove, Copy, Unmount}
 use Rattle.jffs_tree.specs.declared.wish.Cause.{Cause}
@@ -23,6 +24,7 @@ use Rattle.jffs_tree.specs.Deciding.{IsLawfulPast, AreLimitsOf, IsWish}
 use Rattle.jffs_tree.proofs.decisions.Decided.{decided_nodes_keep_rules, nothing_stands}
 use Rattle.jffs_tree.proofs.states.TrueCopy.{true_copy_keeps_state}
 use Rattle.jffs_log.specs.declared.room.Room.{Room}
+use Rattle.jffs_log.specs.declared.sector.TheConstants.{RECORDS_PER_SECTOR}
 use Rattle.jffs_log.specs.RoomLaws.{suits_room}
 use Rattle.jffs_log.specs.Room.{following, greatest_inode, next_version, data_max, limits as limits_of}
 use Rattle.jffs_log.proofs.scans.ScanNumbers.{inode_one}
@@ -183,10 +185,10 @@ sector_sizes P z h a b c d e = by_any (eqb 1024 z) (eqb 2048 z) (eqb 4096 z) (eq
     by_any false false false false true p q r s t h = subst P (t refl) e
     by_any false false false false false p q r s t h = cc
 
-pub short_enough : (count z k : ℕ) → is_geometry count z ≡ true → k ≤ data_max z → len_of_data k ≤ z / 4
+pub short_enough : (count z k : ℕ) → is_geometry count z ≡ true → k ≤ data_max z → len_of_data k ≤ z / RECORDS_PER_SECTOR
 short_enough count z k sizes fits =
-    let size = (and_parts (leb 6 count && leb count 64) (is_sector_size z) sizes).1 in
-    let P : ℕ → Type 0 = λ y. k ≤ y / 4 - 64 → len_of_data k ≤ y / 4 in
+    let size = (and_parts (leb MIN_SECTORS count && leb count MAX_SECTORS) (is_sector_size z) sizes).1 in
+    let P : ℕ → Type 0 = λ y. k ≤ data_max y → len_of_data k ≤ y / RECORDS_PER_SECTOR in
     sector_sizes P z size (λ l. omega arith) (λ l. omega arith) (λ l. omega arith) (λ l. omega arith) (λ l. omega arith) fits
 
 -- A decided node may follow own copies, with the version that comes next.

@@ -2,6 +2,8 @@
 use Rattle.std.proofs.Common.{◌≡◌, ℕ, ◌/◌, ◌≤◌, true, false, ◌&&◌, List, ◌++◌, length, reverse, leb, sym, ap, ◌∙◌, arith}
 use Rattle.std.proofs.lemmas.Bool.{and_parts, leb-true}
 use Rattle.jffs_node.specs.declared.node.Node.{Node}
+use Rattle.jffs_node.specs.declared.layout.TheConstants.{HEADER_LEN}
+use Rattle.jffs_flash.specs.declared.sizes.TheConstants.{MIN_SECTORS, MAX_SECTORS}
 use Rattle.jffs_flash.specs.Sizes.{is_geometry, is_sector_size}
 use Rattle.jffs_log.specs.declared.room.Room.TheVariants as rooms
 use Rattle.jffs_log.specs.Room.{heavy, weight}
@@ -26,10 +28,12 @@ past_holds past c h = (
   h.history.front ∙ ap (λ (nodes : List Node). reverse nodes ++ h.history.gone) (log_nodes (log_sectors (sectors_in c.index.sectors c.index.sector_size c.image))),
 )
 
-pub sizes_low : (count z : ℕ) → is_geometry count z ≡ true → (6 ≤ count) × (64 ≤ z)
+pub sizes_low : (count z : ℕ) → is_geometry count z ≡ true → (MIN_SECTORS ≤ count) × (HEADER_LEN ≤ z)
 sizes_low count z h =
-    let parts = and_parts (leb 6 count && leb count 64) (is_sector_size z) h in
-    (leb-true 6 count (and_parts (leb 6 count) (leb count 64) parts.0).0, sector_sizes (λ y. 64 ≤ y) z parts.1 (omega arith) (omega arith) (omega arith) (omega arith) (omega arith))
+    let parts = and_parts (leb MIN_SECTORS count && leb count MAX_SECTORS) (is_sector_size z) h in (
+      leb-true MIN_SECTORS count (and_parts (leb MIN_SECTORS count) (leb count MAX_SECTORS) parts.0).0,
+      sector_sizes (λ y. HEADER_LEN ≤ y) z parts.1 (omega arith) (omega arith) (omega arith) (omega arith) (omega arith),
+    )
 
 -- Where a fresh record has no room after room was made, the log was heavy.
 pub turn_was_full : (len : ℕ) (past after : List Node) (old middle : CoreState) → RepresentsWorking past old → HasMadeRoom len past after old middle → len ≤ old.index.sector_size / 4 → has_room_for middle rooms.Fresh len ≡ false

@@ -4,6 +4,8 @@ use Rattle.std.specs.List.{AllByRecursion}
 use Rattle.std.proofs.lemmas.Bool.{lt-ltb, cases_Bool, both_ways, and_parts, or_left, false_from_ne_true}
 use Rattle.jffs_node.specs.declared.node.Node.{Node}
 use Rattle.jffs_node.specs.Record.{record_len}
+use Rattle.jffs_node.specs.declared.layout.TheConstants.{HEADER_LEN}
+use Rattle.jffs_flash.specs.declared.sizes.TheConstants.{MIN_SECTORS}
 use Rattle.jffs_tree.specs.Origin.{is_live}
 use Rattle.jffs_tree.proofs.decisions.Copies.{cleaning_copies_are_true}
 use Rattle.jffs_log.specs.Room.{next_version, weight}
@@ -82,7 +84,7 @@ stopped_only_copies total z s done rest sound is few =
     let known = subst (AllByRecursion (λ n. Among n s.past)) is (oldest_known s.past s.log.sectors sound.known) in
     each_only z done s sound.history (each_front (λ n. Among n s.past) done rest known).0 few
 
-module _ (total z weight len : ℕ) (low : 64 ≤ z) (enough : 6 ≤ total) where
+module _ (total z weight len : ℕ) (low : HEADER_LEN ≤ z) (enough : MIN_SECTORS ≤ total) where
   made_only : (left : ℕ) (s : GcState) → IsTurn total z weight left s → version_after (room_made z len left s).past ≤ 2 ^ 32 → OnlyCopies s.past (room_made z len left s).past
   made_only zero s w few = none_made s.past
   made_only (suc left) s w few = ⊎_elim

@@ -4,6 +4,8 @@ use Rattle.std.proofs.lemmas.Bool.{le-leb, eqb-true, and_parts, or_left, or_righ
 use Rattle.std.proofs.Math.Nat.{mul-le-mul_right}
 use Rattle.jffs_node.specs.declared.node.Node.{Node}
 use Rattle.jffs_node.specs.Record.{record_len, len_of_data, dsize, is_unmount}
+use Rattle.jffs_node.specs.declared.layout.TheConstants.{HEADER_LEN}
+use Rattle.jffs_flash.specs.declared.sizes.TheConstants.{MIN_SECTORS}
 use Rattle.jffs_tree.specs.Origin.{is_live}
 use Rattle.jffs_log.specs.declared.room.Room.{Room}
 use Rattle.jffs_log.specs.declared.room.Room.TheVariants.{Fresh, Unmount}
@@ -46,7 +48,7 @@ module _ (takes : CopiesTakeOver) (unmounts : UnmountNodesAreDead) where
       (subst (λ r. IsUnderWay total z weight w.0 s.log.erased (oldest_records s.log.sectors) r s) is b) in
       (e.sound, ⊎_elim (λ f. omega arith) (λ f. let g = f.0 in omega arith) e.space)
 
-  module _ (total z weight len : ℕ) (low : 64 ≤ z) (enough : 6 ≤ total) where
+  module _ (total z weight len : ℕ) (low : HEADER_LEN ≤ z) (enough : MIN_SECTORS ≤ total) where
     pub no_room : (s : GcState) → fresh_has_room len s ≡ false → (s.log.free < len + 64) × (s.log.erased < 4)
     no_room s h =
         let a = ⊎_elim (λ l. l) (λ g. absurd (both_ways _ h (or_left (leb (len + 64) s.log.free) (leb 4 s.log.erased) (le-leb (len + 64) s.log.free g)))) (cases_lt s.log.free (len + 64)) in

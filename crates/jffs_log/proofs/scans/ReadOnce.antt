@@ -5,6 +5,7 @@ use Rattle.std.proofs.lemmas.Bool.{and_parts}
 use Rattle.std.specs.Prelude.{◌&&◌, nat_le}
 use Rattle.jffs_flash.specs.ReadsLeft.{HasSpent}
 use Rattle.jffs_flash.specs.Sizes.{is_sector_size, is_geometry}
+use Rattle.jffs_flash.specs.declared.sizes.TheConstants.{MIN_SECTORS, MAX_SECTORS}
 
 -- A sector that is still to be read is as it was, and stands inside the device.
 pub sector_spent : (count k len : ℕ) (image : List ℕ) (old now : ℕ → ℕ) → length image ≡ count * len → k < count → ((i : ℕ) → k * len ≤ i → old i ≤ now i) → HasSpent now (k * len) len → HasSpent old 0 (length image)
@@ -21,4 +22,4 @@ sector_some zero h = cc
 sector_some (suc len) h = omega arith
 
 pub sizes_some : (count len : ℕ) → is_geometry count len ≡ true → 1 ≤ len
-sizes_some count len h = sector_some len (and_parts (nat_le 6 count && nat_le count 64) (is_sector_size len) h).1
+sizes_some count len h = sector_some len (and_parts (nat_le MIN_SECTORS count && nat_le count MAX_SECTORS) (is_sector_size len) h).1

@@ -1,8 +1,14 @@
 //! The map of a volume, as text and as a picture.
 
 use crate::mapping::{CELLS, Held, Map, MapTotals, Part, Row};
+use jffs_flash::MAX_SECTORS;
 use std::io;
 use std::io::Write;
+
+/// How many places a sector's number takes in a line: as many as the greatest has digits.
+const NUMBER_WIDTH: usize = 2;
+
+const _: () = prove!(MAX_SECTORS <= 100);
 
 /// How wide and how high a cell of the picture is, in its units.
 const CELL_WIDTH: u32 = 8;
@@ -70,7 +76,7 @@ impl Part {
 /// terminal.
 pub(crate) fn draw<W: Write>(map: &Map, coloured: bool, out: &mut W) -> io::Result<()> {
     for row in map.rows.iter() {
-        write!(out, "{:>2} {:<4} ", row.sector, row.part.word())?;
+        write!(out, "{:>NUMBER_WIDTH$} {:<4} ", row.sector, row.part.word())?;
         draw_cells(row, coloured, out)?;
     }
     let MapTotals {

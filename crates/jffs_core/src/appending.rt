@@ -26,8 +26,8 @@ impl<F: Flash> Core<F> {
     /// Puts a node at the end of the history: the log's capacity is reserved, the tree is changed,
     /// and the record is programmed. Precondition: it may follow all nodes before it.
     ///
-    /// NoSpace: nothing is changed. Memory: nothing is changed but what is reserved. Device: the tree
-    /// has the node, and the log has it or has it not.
+    /// NoSpace: nothing is changed. Memory: nothing is changed but what is reserved. Device: the
+    /// tree has the node, and the log has it or has it not.
     pub(crate) fn append(&mut self, room: Room, node: &Node) -> Result<(), Cause>
         requires working { self.old.failed ≡ false }
         requires follows { (past : List Node) × RepresentsWorking past self.old

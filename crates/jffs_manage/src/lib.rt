@@ -3,10 +3,11 @@
 //!
 //! It stands on `jffs_core` for the volume and on `jffs_file` for the file. [`run_volume`] is the
 //! program; `arguments` reads its words, `mounting` opens the file, `looking`, `mapping` and
-//! `drawing` write what is there, `changing` does what is asked of a `mounted_volume`, which ends with
-//! an unmount, `rooming` sees that a put has room before it begins, `hosting` carries whole trees from
-//! and to a directory of the host, `salvaging` saves what is left of a volume that is refused, and
-//! `serving` answers a client's requests, which `wanting` reads and `answering` looks up.
+//! `drawing` write what is there, `changing` does what is asked of a `mounted_volume`, which ends
+//! with an unmount, `rooming` sees that a put has room before it begins, `hosting` carries whole
+//! trees from and to a directory of the host, `salvaging` saves what is left of a volume that is
+//! refused, and `serving` answers a client's requests, which `wanting` reads and `answering` looks
+//! up.
 #![tactic(auto)]
 
 mod answering;

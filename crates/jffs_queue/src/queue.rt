@@ -1,13 +1,15 @@
 //! The device.
 
-ghost use Rattle.std.specs.Prelude.{◌≡◌, ◌+◌, ◌*◌, ◌<◌, ◌≤◌, List, [], ◌∷◌, length, OnOk, OnErr, IsOk};
+ghost use Rattle.std.specs.Prelude.{◌≡◌, ◌+◌, ◌*◌, ◌<◌, ◌≤◌, List, [], ◌∷◌, length};
+ghost use Rattle.std.specs.Prelude.{OnOk, OnErr, IsOk};
 ghost use Rattle.jffs_flash.specs.Image.{window, programmed, erased};
 ghost use Rattle.jffs_flash.specs.Device.{Reads, Programs, Erases};
 ghost use Rattle.jffs_flash.specs.ReadsLeft.{TakesReads};
 ghost use Rattle.jffs_flash.specs.Wear.{Wears, uncounted, no_erase, one_erase};
 ghost use Rattle.jffs_queue.specs.declared.call.Call.{Call};
 ghost use Rattle.jffs_queue.specs.declared.call.Call.TheVariants.{Erase};
-ghost use Rattle.jffs_queue.specs.Queue.{queued_of, seen_device, with_call, IsInside, IsProgram, Adds};
+ghost use Rattle.jffs_queue.specs.Queue.{queued_of, seen_device, with_call, IsInside};
+ghost use Rattle.jffs_queue.specs.Queue.{IsProgram, Adds};
 
 use crate::call::Call;
 use crate::overlay::lay_over;
@@ -16,8 +18,8 @@ use std::alloc::{AllocError, Global};
 use std::collections::VecDeque;
 use std::marker::Model;
 
-/// Flash of which the bytes stand in memory as the medium has them, and the calls that are to change
-/// it.
+/// Flash of which the bytes stand in memory as the medium has them, and the calls that are to
+/// change it.
 ///
 /// A call fails only where memory is wanting for it, and then changes nothing. No call fails any
 /// more after 2<sup>64</sup> - 1 have failed.

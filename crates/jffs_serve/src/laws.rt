@@ -4,8 +4,8 @@ ghost use Rattle.jffs_serve.specs.Answered.{SessionsGoOn};
 ghost use Rattle.jffs_serve.specs.Stopping.{StopsGoOn};
 ghost use Rattle.jffs_serve.specs.ChainLaws.{ChainsEndSo, ChainsSplit, FailedAnswersFailed};
 ghost use Rattle.jffs_serve.specs.ChainLaws.{FailuresAreFaults, NoSpaceIsHeavy, NoRoomAtTheTurn};
-ghost use Rattle.jffs_serve.specs.ChainLaws.{NoSpaceIsHeavyThen, RepliesAreLawful, UnmountsHaveSpace};
-ghost use Rattle.jffs_serve.specs.ChainLaws.{UnmountsHaveSpaceThen};
+ghost use Rattle.jffs_serve.specs.ChainLaws.{NoSpaceIsHeavyThen, RepliesAreLawful};
+ghost use Rattle.jffs_serve.specs.ChainLaws.{UnmountsHaveSpace, UnmountsHaveSpaceThen};
 
 /// The answers of a session are a lawful run of the requests.
 pub fn replies_are_lawful()

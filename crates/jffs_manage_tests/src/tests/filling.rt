@@ -71,8 +71,8 @@ fn a_put_without_room_leaves_nothing(rt: HostRuntime) -> Result<(), Fail> {
     Ok(())
 }
 
-/// A file that stays keeps its sector from being erased, so one that is replaced again and again has
-/// room only since that sector is cleaned.
+/// A file that stays keeps its sector from being erased, so one that is replaced again and again
+/// has room only since that sector is cleaned.
 #[test]
 fn a_put_has_room_once_the_oldest_sector_is_cleaned(rt: HostRuntime) -> Result<(), Fail> {
     let _ = fs::remove_file(&rt, "o.filled");

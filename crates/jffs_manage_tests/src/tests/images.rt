@@ -1,5 +1,5 @@
-//! Images byte by byte, by the format's page: some that no command leaves, written by hand, and what
-//! commands leave.
+//! Images byte by byte, by the format's page: some that no command leaves, written by hand, and
+//! what commands leave.
 
 use super::plays;
 use std::alloc::Global;

@@ -13,8 +13,8 @@ use Rattle.jffs_tree.specs.Look.{bytes_in, size_of, names_in, name_cmp, holds_ve
 use Rattle.jffs_log.specs.Room.{heavy}
 use Rattle.jffs_c.specs.declared.code.Code.{Code}
 use Rattle.jffs_c.specs.declared.code.Code.TheVariants as code
-use Rattle.jffs_c.specs.declared.looks.Sight.{Sight}
-use Rattle.jffs_c.specs.declared.looks.Usage.{Usage}
+use Rattle.jffs_c.specs.declared.looks.PathSight.{PathSight}
+use Rattle.jffs_c.specs.declared.looks.VolumeUsage.{VolumeUsage}
 use Rattle.jffs_c.specs.declared.volume.Volume.{Volume}
 
 -- the code of why bytes spell no path
@@ -50,14 +50,14 @@ pub record LeadsNowhere (bytes : List ℕ) (volume : Volume) : Type 0 where
   pub none : resolve (state_in volume.core.tree) path ≡ None
 
 -- the kind and the size of an inode
-abbrev pub sight_in : Tree → ℕ → Sight
+abbrev pub sight_in : Tree → ℕ → PathSight
 sight_in tree inode = record {
   directory = is_directory_in (state_in tree) inode;
   size = unwrap_or (size_of tree inode) 0;
 }
 
 -- what was seen is what stands at the path
-pub record IsSeen (bytes : List ℕ) (volume : Volume) (sight : Sight) : Type 0 where
+pub record IsSeen (bytes : List ℕ) (volume : Volume) (sight : PathSight) : Type 0 where
   pub inode : ℕ
   pub leads : LeadsTo bytes volume inode
   pub seen : sight ≡ sight_in volume.core.tree inode
@@ -75,7 +75,7 @@ pub record IsRead (bytes : List ℕ) (volume : Volume) (offset count : ℕ) (old
 
 -- The name with this number, in the order of their bytes, of the directory at the path was copied
 -- into a buffer, and what stands there was seen.
-pub record IsEntry (bytes : List ℕ) (volume : Volume) (number : ℕ) (sight : Sight) (len : ℕ)
+pub record IsEntry (bytes : List ℕ) (volume : Volume) (number : ℕ) (sight : PathSight) (len : ℕ)
     (old new : List ℕ) : Type 0 where
   pub inode : ℕ
   pub leads : LeadsTo bytes volume inode
@@ -91,7 +91,7 @@ pub record IsEntry (bytes : List ℕ) (volume : Volume) (number : ℕ) (sight : 
 
 -- How full the log is: its sectors, those that are erased, its records, the lengths of those that
 -- live, and the weight that is sure to have room.
-pub record IsUsage (volume : Volume) (usage : Usage) : Type 0 where
+pub record IsUsage (volume : Volume) (usage : VolumeUsage) : Type 0 where
   pub sectors : usage.sectors ≡ volume.core.index.sectors
   pub sector_size : usage.sector_size ≡ volume.core.index.sector_size
   pub erased : usage.erased ≡ volume.core.index.sectors - volume.core.index.held

@@ -13,7 +13,7 @@ ghost use Rattle.jffs_c.specs.Seen.{IsSeen, IsUsage, IsRead, IsEntry};
 use crate::calls::{NextCall, put};
 use crate::code::Code;
 use crate::handle::Handle;
-use crate::looks::{Longest, Sight, Usage};
+use crate::looks::{Longest, PathSight, VolumeUsage};
 use crate::opening::{Refusal, open};
 use crate::texts::{name_of, text_of};
 use std::alloc::Global;
@@ -165,7 +165,7 @@ pub extern "C" fn pg_calls_left(volume: &mut Handle) -> u32 {
 
 /// `pg_look`: what stands at a path.
 #[unsafe(no_mangle)]
-pub extern "C" fn pg_look(volume: &mut Handle, path: &[u8], sight: &mut Sight) -> u32
+pub extern "C" fn pg_look(volume: &mut Handle, path: &[u8], sight: &mut PathSight) -> u32
     ensures held_back { HoldsBackLooks volume.old volume.new result }
     ensures seen { result ≡ 0 → IsSeen path.now volume.old.value sight.new }
     ensures refused { result ≢ 0 → sight.new ≡ sight.old }
@@ -185,7 +185,7 @@ pub extern "C" fn pg_longest_of(volume: &mut Handle, longest: &mut Longest) -> u
 
 /// `pg_usage_of`: how full the volume is.
 #[unsafe(no_mangle)]
-pub extern "C" fn pg_usage_of(volume: &mut Handle, usage: &mut Usage) -> u32
+pub extern "C" fn pg_usage_of(volume: &mut Handle, usage: &mut VolumeUsage) -> u32
     ensures held_back { HoldsBackLooks volume.old volume.new result }
     ensures usage { result ≡ 0 → IsUsage volume.old.value usage.new }
     ensures refused { result ≢ 0 → usage.new ≡ usage.old }
@@ -244,7 +244,7 @@ pub extern "C" fn pg_entry(
     number: u32,
     name: &mut [u8],
     name_len: &mut usize,
-    sight: &mut Sight,
+    sight: &mut PathSight,
 ) -> u32
     ensures held_back { HoldsBackLooks volume.old volume.new result }
     ensures entry { result ≡ 0

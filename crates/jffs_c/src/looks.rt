@@ -15,17 +15,17 @@ use jffs_tree::Tree;
 /// The most bytes of a path: eight names, each after a slash.
 const PATH_TEXT_MAX: u32 = (PATH_DEPTH_MAX * (NAME_MAX + 1)) as u32;
 
-/// What stands at a path.
+/// What stands at a path: `pg_sight` of `pumpgrape.h`.
 #[repr(C)]
 #[derive(Clone, Copy, Debug, PartialEq, Eq)]
-pub struct Sight {
+pub struct PathSight {
     /// Whether it is a directory; else it is a file.
     pub directory: bool,
     /// How many bytes a file has; 0 for a directory.
     pub size: u32,
 }
 
-/// How long things may be, in bytes, but for the depth.
+/// How long things may be, in bytes, but for the depth: `pg_longest` of `pumpgrape.h`.
 #[repr(C)]
 #[derive(Clone, Copy, Debug, PartialEq, Eq)]
 pub struct Longest {
@@ -38,10 +38,10 @@ pub struct Longest {
     pub file: u32,
 }
 
-/// How full a volume is.
+/// How full a volume is: `pg_usage` of `pumpgrape.h`.
 #[repr(C)]
 #[derive(Clone, Copy, Debug, PartialEq, Eq)]
-pub struct Usage {
+pub struct VolumeUsage {
     pub sectors: u32,
     /// How many bytes a sector has.
     pub sector_size: u32,
@@ -57,7 +57,7 @@ pub struct Usage {
 
 impl Volume {
     /// What stands at a path. `Failed`, the path's faults, `NotFound`.
-    pub(crate) fn look(&self, path: &[u8]) -> Result<Sight, Code>
+    pub(crate) fn look(&self, path: &[u8]) -> Result<PathSight, Code>
         ensures held_back { IfErr (looks_blocked self.now.phase) (λ why. result ≡ Err why) }
         ensures seen { IfOk result (λ sight. IsSeen path.now self.now sight) }
         ensures none { result ≡ Err Code.NotFound → LeadsNowhere path.now self.now }
@@ -97,7 +97,7 @@ impl Volume {
         path: &[u8],
         number: u32,
         buffer: &mut [u8],
-    ) -> Result<(Sight, usize), Code>
+    ) -> Result<(PathSight, usize), Code>
         ensures held_back { IfErr (looks_blocked self.now.phase) (λ why. result ≡ Err why) }
         ensures entry { IfOk result
             (λ e. IsEntry path.now self.now number e.0 e.1 buffer.old buffer.new) }
@@ -138,14 +138,14 @@ impl Volume {
     }
 
     /// How full it is. `Failed`.
-    pub(crate) fn usage(&self) -> Result<Usage, Code>
+    pub(crate) fn usage(&self) -> Result<VolumeUsage, Code>
         ensures held_back { IfErr (looks_blocked self.now.phase) (λ why. result ≡ Err why) }
         ensures usage { IfOk result (λ usage. IsUsage self.now usage) }
         ensures refused { IfErr result (λ code. code ≢ Code.Done) }
     {
         self.may_look()?;
         let log = self.core.log();
-        Ok(Usage {
+        Ok(VolumeUsage {
             sectors: log.sectors(),
             sector_size: log.sector_size(),
             erased: log.erased(),
@@ -190,10 +190,10 @@ impl Volume {
     }
 }
 
-fn sight_of(tree: &Tree, inode: u32) -> Sight
+fn sight_of(tree: &Tree, inode: u32) -> PathSight
     ensures { result ≡ sight_in tree.now inode }
 {
-    Sight {
+    PathSight {
         directory: tree.is_directory(inode),
         size: tree.size(inode).unwrap_or(0),
     }

@@ -91,7 +91,7 @@ impl CommandWord {
 
 /// A call of the program.
 #[derive(Clone, Copy)]
-pub(crate) enum Call<'a> {
+pub(crate) enum VolumeCall<'a> {
     Help,
     Version,
     Do(VolumeWork<'a>),
@@ -116,9 +116,9 @@ pub(crate) enum Task<'a> {
     /// An empty one is made, of so many sectors of so many bytes.
     Format { sectors: u32, sector_size: u32 },
     /// It is looked at, and stays as it is.
-    Look(Look<'a>),
+    Look(VolumeLook<'a>),
     /// It is changed.
-    Change(Change<'a>),
+    Change(VolumeChange<'a>),
     /// All of it is written into this directory of the host; of a volume that is refused, if
     /// `damaged`, what its records make.
     Save { directory: &'a str, damaged: bool },
@@ -128,7 +128,7 @@ pub(crate) enum Task<'a> {
 
 /// What is to be seen of a volume.
 #[derive(Clone, Copy)]
-pub(crate) enum Look<'a> {
+pub(crate) enum VolumeLook<'a> {
     /// The names in a directory; `long` with what they weigh.
     List { path: &'a str, long: bool },
     /// The bytes of the file at this path.
@@ -141,7 +141,7 @@ pub(crate) enum Look<'a> {
 
 /// What is to be changed on a volume.
 #[derive(Clone, Copy)]
-pub(crate) enum Change<'a> {
+pub(crate) enum VolumeChange<'a> {
     Put(&'a str),
     MakeDir(&'a str),
     Move { from: &'a str, to: &'a str },
@@ -228,7 +228,10 @@ impl Options {
 
 /// Reads the words of a call, the program's own name first. A word that begins with `-` is an
 /// option; `--help`, or `-h`, and `--version` stand alone.
-pub(crate) fn call_of<'a>(alloc: Global, words: &'a [String]) -> Result<Call<'a>, CallFault<'a>> {
+pub(crate) fn call_of<'a>(
+    alloc: Global,
+    words: &'a [String],
+) -> Result<VolumeCall<'a>, CallFault<'a>> {
     let mut plain: Vec<&'a str> = Vec::new(alloc);
     let mut options = Options {
         sector_size: None,
@@ -249,8 +252,8 @@ pub(crate) fn call_of<'a>(alloc: Global, words: &'a [String]) -> Result<Call<'a>
             continue;
         }
         match word {
-            "--help" | "-h" => return alone(words, word, Call::Help),
-            "--version" => return alone(words, word, Call::Version),
+            "--help" | "-h" => return alone(words, word, VolumeCall::Help),
+            "--version" => return alone(words, word, VolumeCall::Version),
             "--sector-size" => wants_number = true,
             "-l" => options.long = true,
             "-r" => options.recursive = true,
@@ -263,15 +266,15 @@ pub(crate) fn call_of<'a>(alloc: Global, words: &'a [String]) -> Result<Call<'a>
     if wants_number {
         return Err(CallFault::NoNumber);
     }
-    work_of(&plain, options).map(Call::Do)
+    work_of(&plain, options).map(VolumeCall::Do)
 }
 
 /// What a word asks for that stands alone in a call. `Beside` with the first other word.
 fn alone<'a>(
     words: &'a [String],
     asked: &'a str,
-    call: Call<'a>,
-) -> Result<Call<'a>, CallFault<'a>> {
+    call: VolumeCall<'a>,
+) -> Result<VolumeCall<'a>, CallFault<'a>> {
     for word in words.iter().skip(1) {
         let word = word.as_str();
         if word != asked {
@@ -321,27 +324,27 @@ fn task_of<'a>(
             sectors: number_of(first)?,
             sector_size: number_of(second)?,
         },
-        CommandWord::List => Task::Look(Look::List {
+        CommandWord::List => Task::Look(VolumeLook::List {
             path: if first.is_empty() { "/" } else { first },
             long: options.long,
         }),
-        CommandWord::Show => Task::Look(Look::Show(first)),
-        CommandWord::Usage => Task::Look(Look::Usage),
-        CommandWord::Check => Task::Look(Look::Check),
-        CommandWord::Map => Task::Look(Look::Map { svg: options.svg }),
+        CommandWord::Show => Task::Look(VolumeLook::Show(first)),
+        CommandWord::Usage => Task::Look(VolumeLook::Usage),
+        CommandWord::Check => Task::Look(VolumeLook::Check),
+        CommandWord::Map => Task::Look(VolumeLook::Map { svg: options.svg }),
         CommandWord::Save => Task::Save {
             directory: first,
             damaged: options.from_damaged,
         },
-        CommandWord::Put => Task::Change(Change::Put(first)),
-        CommandWord::MakeDir => Task::Change(Change::MakeDir(first)),
-        CommandWord::Move => Task::Change(Change::Move {
+        CommandWord::Put => Task::Change(VolumeChange::Put(first)),
+        CommandWord::MakeDir => Task::Change(VolumeChange::MakeDir(first)),
+        CommandWord::Move => Task::Change(VolumeChange::Move {
             from: first,
             to: second,
         }),
-        CommandWord::Remove if options.recursive => Task::Change(Change::RemoveAll(first)),
-        CommandWord::Remove => Task::Change(Change::Remove(first)),
-        CommandWord::Load => Task::Change(Change::Load(first)),
+        CommandWord::Remove if options.recursive => Task::Change(VolumeChange::RemoveAll(first)),
+        CommandWord::Remove => Task::Change(VolumeChange::Remove(first)),
+        CommandWord::Load => Task::Change(VolumeChange::Load(first)),
         CommandWord::Serve => Task::Serve,
     })
 }

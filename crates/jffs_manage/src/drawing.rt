@@ -1,6 +1,6 @@
 //! The map of a volume, as text and as a picture.
 
-use crate::mapping::{CELLS, Held, Map, MapTotals, Part, Row};
+use crate::mapping::{CELLS, Map, MapCell, MapTotals, Part, Row};
 use jffs_flash::MAX_SECTORS;
 use std::io;
 use std::io::Write;
@@ -21,42 +21,42 @@ const LEFT: u32 = 72;
 /// What ends a colour on a terminal.
 const PLAIN: &str = "\u{1b}[0m";
 
-impl Held {
+impl MapCell {
     fn letter(self) -> &'static str {
         match self {
-            Held::Live => "#",
-            Held::Dead => "x",
-            Held::Unused => "-",
-            Held::Erased => ".",
+            MapCell::Live => "#",
+            MapCell::Dead => "x",
+            MapCell::Unused => "-",
+            MapCell::Erased => ".",
         }
     }
 
     fn word(self) -> &'static str {
         match self {
-            Held::Live => "live",
-            Held::Dead => "dead",
-            Held::Unused => "unused",
-            Held::Erased => "erased",
+            MapCell::Live => "live",
+            MapCell::Dead => "dead",
+            MapCell::Unused => "unused",
+            MapCell::Erased => "erased",
         }
     }
 
     /// What begins its colour on a terminal.
     fn colour(self) -> &'static str {
         match self {
-            Held::Live => "\u{1b}[32m",
-            Held::Dead => "\u{1b}[31m",
-            Held::Unused => "\u{1b}[33m",
-            Held::Erased => "\u{1b}[2m",
+            MapCell::Live => "\u{1b}[32m",
+            MapCell::Dead => "\u{1b}[31m",
+            MapCell::Unused => "\u{1b}[33m",
+            MapCell::Erased => "\u{1b}[2m",
         }
     }
 
     /// Its colour in a picture.
     fn fill(self) -> &'static str {
         match self {
-            Held::Live => "#2e7d32",
-            Held::Dead => "#c62828",
-            Held::Unused => "#f9a825",
-            Held::Erased => "#dddddd",
+            MapCell::Live => "#2e7d32",
+            MapCell::Dead => "#c62828",
+            MapCell::Unused => "#f9a825",
+            MapCell::Erased => "#dddddd",
         }
     }
 }
@@ -144,7 +144,12 @@ pub(crate) fn draw_svg<W: Write>(map: &Map, out: &mut W) -> io::Result<()> {
 /// Writes what the colours mean, in a row of a picture.
 fn draw_legend<W: Write>(top: u32, out: &mut W) -> io::Result<()> {
     let mut left = LEFT;
-    for held in [Held::Live, Held::Dead, Held::Unused, Held::Erased] {
+    for held in [
+        MapCell::Live,
+        MapCell::Dead,
+        MapCell::Unused,
+        MapCell::Erased,
+    ] {
         draw_rect(left, top, CELL_WIDTH, held, out)?;
         draw_text(left.saturating_add(16), top, held.word(), None, out)?;
         left = left.saturating_add(96);
@@ -152,7 +157,13 @@ fn draw_legend<W: Write>(top: u32, out: &mut W) -> io::Result<()> {
     Ok(())
 }
 
-fn draw_rect<W: Write>(left: u32, top: u32, width: u32, held: Held, out: &mut W) -> io::Result<()> {
+fn draw_rect<W: Write>(
+    left: u32,
+    top: u32,
+    width: u32,
+    held: MapCell,
+    out: &mut W,
+) -> io::Result<()> {
     writeln!(
         out,
         "<rect x=\"{left}\" y=\"{top}\" width=\"{width}\" height=\"{CELL_HEIGHT}\" fill=\"{}\"/>",

@@ -15,7 +15,7 @@ pub(crate) const CELLS: usize = 64;
 
 /// What a byte of a sector holds. Of the bytes of a cell the first in this order is shown.
 #[derive(Clone, Copy, PartialEq, Eq)]
-pub(crate) enum Held {
+pub(crate) enum MapCell {
     /// A byte of a live record.
     Live,
     /// A byte of another record.
@@ -42,7 +42,7 @@ pub(crate) enum Part {
 pub(crate) struct Row {
     pub sector: u32,
     pub part: Part,
-    pub cells: [Held; CELLS],
+    pub cells: [MapCell; CELLS],
 }
 
 /// How many bytes of a volume hold what.
@@ -113,11 +113,11 @@ fn is_held<F: Flash>(log: &Log<F>, sector: u32) -> bool {
 }
 
 /// What stands in a sector after its records.
-fn rest_of<F: Flash>(log: &Log<F>, sector: u32, tail: Option<MapTail>) -> Held {
+fn rest_of<F: Flash>(log: &Log<F>, sector: u32, tail: Option<MapTail>) -> MapCell {
     match tail {
-        Some(tail) if tail.sector == sector && tail.free > 0 => Held::Erased,
-        _ if is_held(log, sector) => Held::Unused,
-        _ => Held::Erased,
+        Some(tail) if tail.sector == sector && tail.free > 0 => MapCell::Erased,
+        _ if is_held(log, sector) => MapCell::Unused,
+        _ => MapCell::Erased,
     }
 }
 
@@ -131,7 +131,7 @@ fn part_of<F: Flash>(log: &Log<F>, sector: u32, tail: Option<MapTail>) -> Part {
 }
 
 /// Sets the cells of a sector in which its records stand.
-fn paint<F: Flash>(core: &Core<F>, sector: u32, cell_len: u32, cells: &mut [Held; CELLS]) {
+fn paint<F: Flash>(core: &Core<F>, sector: u32, cell_len: u32, cells: &mut [MapCell; CELLS]) {
     let cell_len = cell_len.max(1);
     for record in core.log().records().iter() {
         if record.sector != sector {
@@ -144,8 +144,8 @@ fn paint<F: Flash>(core: &Core<F>, sector: u32, cell_len: u32, cells: &mut [Held
             .div_ceil(cell_len);
         for at in record.offset / cell_len..end {
             match cells.get_mut(at as usize) {
-                Some(cell) if live => *cell = Held::Live,
-                Some(cell) if *cell != Held::Live => *cell = Held::Dead,
+                Some(cell) if live => *cell = MapCell::Live,
+                Some(cell) if *cell != MapCell::Live => *cell = MapCell::Dead,
                 _ => {}
             }
         }

@@ -1,7 +1,9 @@
 //! The program.
 
 use crate::answering::PATH_TEXT_MAX;
-use crate::arguments::{Call, CallFault, Change, Look, Task, VolumeWork, call_of};
+use crate::arguments::{
+    CallFault, Task, VolumeCall, VolumeChange, VolumeLook, VolumeWork, call_of,
+};
 use crate::changing::{put, read_all, remove_all};
 use crate::drawing::{draw, draw_svg};
 use crate::fault::{BROKEN, DONE, MISUSED, VolumeFault};
@@ -52,9 +54,9 @@ pub fn run_volume<Rt: Files<File = File> + AllocGlobal + Clone + Drop, R: Read, 
     };
     let mut reached = String::new(rt.alloc());
     let done = match call {
-        Call::Help => write_text(HELP, out),
-        Call::Version => write_text(VERSION, out),
-        Call::Do(work) => carry_out(rt, work, input, out, errors, coloured, &mut reached),
+        VolumeCall::Help => write_text(HELP, out),
+        VolumeCall::Version => write_text(VERSION, out),
+        VolumeCall::Do(work) => carry_out(rt, work, input, out, errors, coloured, &mut reached),
     };
     match done {
         Ok(()) => DONE,
@@ -68,13 +70,13 @@ pub fn run_volume<Rt: Files<File = File> + AllocGlobal + Clone + Drop, R: Read, 
 /// Writes what a call ended with, after the words that it is about and the path at which it
 /// stopped.
 fn tell<E: Write>(
-    call: Call<'_>,
+    call: VolumeCall<'_>,
     reached: &str,
     fault: VolumeFault,
     errors: &mut E,
 ) -> io::Result<()> {
     errors.write_all(b"jffs_volume: ")?;
-    if let Call::Do(work) = call {
+    if let VolumeCall::Do(work) = call {
         for word in [work.file, work.first, work.second, reached] {
             if !word.is_empty() {
                 write!(errors, "{word}: ")?;
@@ -142,18 +144,18 @@ fn check_sizes(sectors: u32, sector_size: u32) -> Result<(), VolumeFault> {
 fn look<Rt: Files + AllocGlobal, W: Write>(
     rt: &Rt,
     work: &VolumeWork<'_>,
-    asked: Look<'_>,
+    asked: VolumeLook<'_>,
     out: &mut W,
     coloured: bool,
 ) -> Result<(), VolumeFault> {
     let core = mount_copy(rt, work.file, work.sector_size)?;
     let alloc = rt.alloc();
     match asked {
-        Look::List { path, long } => list_at(alloc, &core, path, long, out),
-        Look::Show(path) => show_at(alloc, core.tree(), path, out),
-        Look::Usage => Ok(write_usage(&core, out)?),
-        Look::Check => Ok(check(&core, out)?),
-        Look::Map { svg } => {
+        VolumeLook::List { path, long } => list_at(alloc, &core, path, long, out),
+        VolumeLook::Show(path) => show_at(alloc, core.tree(), path, out),
+        VolumeLook::Usage => Ok(write_usage(&core, out)?),
+        VolumeLook::Check => Ok(check(&core, out)?),
+        VolumeLook::Map { svg } => {
             let map = map_of(alloc, &core)?;
             Ok(draw_as(&map, svg, coloured, out)?)
         }
@@ -192,7 +194,7 @@ fn draw_as<W: Write>(map: &Map, svg: bool, coloured: bool, out: &mut W) -> io::R
 fn change<Rt: Files<File = File> + AllocGlobal + Clone + Drop, R: Read>(
     rt: &Rt,
     work: &VolumeWork<'_>,
-    asked: Change<'_>,
+    asked: VolumeChange<'_>,
     input: &mut R,
     reached: &mut String,
 ) -> Result<(), VolumeFault> {
@@ -233,20 +235,20 @@ fn serve_volume<Rt: Files<File = File> + AllocGlobal, R: Read, W: Write>(
 fn change_in<Rt: Files + AllocGlobal + Clone + Drop, F: Flash, R: Read>(
     rt: &Rt,
     volume: &mut MountedVolume<F>,
-    asked: Change<'_>,
+    asked: VolumeChange<'_>,
     input: &mut R,
     reached: &mut String,
 ) -> Result<(), VolumeFault> {
     let alloc = rt.alloc();
     match asked {
-        Change::Put(path) => put(alloc, volume, path, &read_all(alloc, input)?),
-        Change::MakeDir(path) => volume.ask(Wish::MakeDir(Path::parse(alloc, path)?)),
-        Change::Move { from, to } => volume.ask(Wish::Rename {
+        VolumeChange::Put(path) => put(alloc, volume, path, &read_all(alloc, input)?),
+        VolumeChange::MakeDir(path) => volume.ask(Wish::MakeDir(Path::parse(alloc, path)?)),
+        VolumeChange::Move { from, to } => volume.ask(Wish::Rename {
             from: Path::parse(alloc, from)?,
             to: Path::parse(alloc, to)?,
         }),
-        Change::Remove(path) => volume.ask(Wish::Remove(Path::parse(alloc, path)?)),
-        Change::RemoveAll(path) => remove_all(alloc, volume, path, reached),
-        Change::Load(directory) => load(rt, volume, directory, reached),
+        VolumeChange::Remove(path) => volume.ask(Wish::Remove(Path::parse(alloc, path)?)),
+        VolumeChange::RemoveAll(path) => remove_all(alloc, volume, path, reached),
+        VolumeChange::Load(directory) => load(rt, volume, directory, reached),
     }
 }

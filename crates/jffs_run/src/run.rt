@@ -40,7 +40,7 @@ const JOB_PLACES: usize = 4;
 type Accounted<F, H> = (Snapshot<Hands<H>>, Run<F, ()>);
 
 /// The published index of a run, and the job ring.
-struct Opened<W: Wait + Drop> {
+struct OpenedIndex<W: Wait + Drop> {
     publisher: Publisher<W>,
     readers: Vec<Reader>,
     cleaner: Reader,
@@ -55,7 +55,7 @@ fn open<W: Wait + Drop, F: Flash>(
     alloc: Global,
     core: &Core<F>,
     readers: usize,
-) -> Result<Opened<W>, RunWhy>
+) -> Result<OpenedIndex<W>, RunWhy>
     ensures published { IfOk result
         (λ opened. (published opened.publisher ≡ opening_of core.now.tree)
         × (pending opened.publisher ≡ [])) }
@@ -73,7 +73,7 @@ fn open<W: Wait + Drop, F: Flash>(
     let index = publish_index(rt, alloc, tree, readers + 1);
     let (publisher, mut readers) = index.map_err(|_| RunWhy::Index)?;
     let cleaner = readers.pop().ok_or(RunWhy::Index)?;
-    Ok(Opened {
+    Ok(OpenedIndex {
         publisher,
         readers,
         cleaner,
@@ -101,7 +101,7 @@ where
         (λ r. IsRun core (account_of F.Flash script.now
         (λ sender. accepted_by T.Of.Hand sender (all_hands r.0.value)) r.1)) }
 {
-    let Opened {
+    let OpenedIndex {
         publisher,
         readers,
         cleaner,

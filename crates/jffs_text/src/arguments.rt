@@ -41,7 +41,7 @@ pub struct Work<'a> {
 
 /// What a program is called for.
 #[derive(Debug, Drop)]
-pub(crate) enum Call<'a> {
+pub(crate) enum CalledFor<'a> {
     /// To say how it is called.
     Help,
     /// To say its version.
@@ -51,7 +51,7 @@ pub(crate) enum Call<'a> {
 
 /// Why a call ends before the program's work, with the word that is wrong.
 #[derive(Clone, Copy, Debug, PartialEq, Eq, Error)]
-pub(crate) enum CallFault<'a> {
+pub(crate) enum UsageFault<'a> {
     /// An option that the program hasn't got.
     #[error("unknown option '{word}'; options are {options}")]
     Option {
@@ -84,28 +84,28 @@ pub(crate) enum CallFault<'a> {
     Memory,
 }
 
-impl<'a> CallFault<'a> {
+impl<'a> UsageFault<'a> {
     /// The status that the program ends with.
     fn status(self) -> u8 {
         match self {
-            CallFault::Write | CallFault::Memory => BROKEN,
+            UsageFault::Write | UsageFault::Memory => BROKEN,
             _ => MISUSED,
         }
     }
 }
 
-impl<'a, T: Drop> From<AllocFailed<T>> for CallFault<'a> {
-    fn from(_: AllocFailed<T>) -> CallFault<'a> {
-        CallFault::Memory
+impl<'a, T: Drop> From<AllocFailed<T>> for UsageFault<'a> {
+    fn from(_: AllocFailed<T>) -> UsageFault<'a> {
+        UsageFault::Memory
     }
 }
 
 /// An error of standard output.
-impl<'a> From<io::Error> for CallFault<'a> {
-    fn from(error: io::Error) -> CallFault<'a> {
+impl<'a> From<io::Error> for UsageFault<'a> {
+    fn from(error: io::Error) -> UsageFault<'a> {
         match error.kind() {
-            ErrorKind::OutOfMemory => CallFault::Memory,
-            _ => CallFault::Write,
+            ErrorKind::OutOfMemory => UsageFault::Memory,
+            _ => UsageFault::Write,
         }
     }
 }
@@ -140,11 +140,11 @@ impl Usage {
         alloc: Global,
         words: &'a [String],
         out: &mut W,
-    ) -> Result<Option<Work<'a>>, CallFault<'a>> {
+    ) -> Result<Option<Work<'a>>, UsageFault<'a>> {
         match self.call(alloc, words)? {
-            Call::Work(work) => return Ok(Some(work)),
-            Call::Help => out.write_all(self.help.as_bytes())?,
-            Call::Version => writeln!(out, "{} {VERSION}", self.program)?,
+            CalledFor::Work(work) => return Ok(Some(work)),
+            CalledFor::Help => out.write_all(self.help.as_bytes())?,
+            CalledFor::Version => writeln!(out, "{} {VERSION}", self.program)?,
         }
         out.flush()?;
         Ok(None)
@@ -160,38 +160,38 @@ impl Usage {
         &self,
         alloc: Global,
         words: &'a [String],
-    ) -> Result<Call<'a>, CallFault<'a>> {
+    ) -> Result<CalledFor<'a>, UsageFault<'a>> {
         let mut plain = Vec::new(alloc);
         let mut value = None;
         let mut open = None;
         for word in words.iter().skip(1) {
             let word = word.as_str();
             if word.is_empty() {
-                return Err(CallFault::Empty);
+                return Err(UsageFault::Empty);
             } else if open.is_some() {
                 value = Some(word);
                 open = None;
             } else if word == "--help" || word == "-h" {
-                return alone(words, word, Call::Help);
+                return alone(words, word, CalledFor::Help);
             } else if word == "--version" {
-                return alone(words, word, Call::Version);
+                return alone(words, word, CalledFor::Version);
             } else if self.option == Some(word) {
                 if value.is_some() {
-                    return Err(CallFault::Twice(word));
+                    return Err(UsageFault::Twice(word));
                 }
                 open = Some(word);
             } else if word.starts_with('-') {
                 let options = self.options;
-                return Err(CallFault::Option { word, options });
+                return Err(UsageFault::Option { word, options });
             } else if plain.len() >= self.most {
-                return Err(CallFault::Extra(word));
+                return Err(UsageFault::Extra(word));
             } else {
                 plain.push(word)?;
             }
         }
         match open {
-            Some(option) => Err(CallFault::NoValue(option)),
-            None => Ok(Call::Work(Work {
+            Some(option) => Err(UsageFault::NoValue(option)),
+            None => Ok(CalledFor::Work(Work {
                 value,
                 words: plain,
             })),
@@ -203,12 +203,12 @@ impl Usage {
 fn alone<'a>(
     words: &'a [String],
     asked: &'a str,
-    call: Call<'a>,
-) -> Result<Call<'a>, CallFault<'a>> {
+    call: CalledFor<'a>,
+) -> Result<CalledFor<'a>, UsageFault<'a>> {
     for word in words.iter().skip(1) {
         let word = word.as_str();
         if word != asked {
-            return Err(CallFault::Beside { word, alone: asked });
+            return Err(UsageFault::Beside { word, alone: asked });
         }
     }
     Ok(call)

@@ -158,11 +158,20 @@ fn spaces_in(text: &[u8]) -> usize
 /// A decimal number without leading zeros, of at most 32 bits.
 fn number(word: &str) -> Option<u32> {
     let digits = word.as_bytes();
-    match digits {
-        [b'0', _, ..] => None,
-        _ if digits.iter().all(|b| b.is_ascii_digit()) => word.parse::<u32>().ok(),
-        _ => None,
+    if matches!(digits, [] | [b'0', _, ..]) {
+        return None;
     }
+    let mut value = 0u64;
+    for digit in digits {
+        if !digit.is_ascii_digit() {
+            return None;
+        }
+        value = value * 10 + u64::from(*digit - b'0');
+        if value > u64::from(u32::MAX) {
+            return None;
+        }
+    }
+    Some(value as u32)
 }
 
 /// Why a word is no number from `least` to `most`.

@@ -1,6 +1,5 @@
 -- The bounds of a script: the smallest and the largest that each part of one may be.
-use Rattle.std.specs.Prelude.{◌≡◌, ◌≤◌, ◌<◌, ◌-◌, ⊤, ℕ, true, List, length, vec_len, IfSome}
-use Rattle.std.specs.Prelude.{slice_get}
+use Rattle.std.specs.Prelude.{◌≡◌, ◌≤◌, ◌<◌, ⊤, ℕ, true, List, length, vec_len, IfSome}
 use Rattle.std.specs.List.{All}
 use Rattle.jffs_flash.specs.Sizes.{is_geometry}
 use Rattle.jffs_text.specs.declared.command.Command.{Command}
@@ -63,8 +62,6 @@ pub record IsDraft (d : Draft) : Type 0 where
 abbrev pub Admits : Draft → Keyword → Type 0
 Admits d keyword.Reader = vec_len d.readers < READERS_MAX
 Admits d keyword.Writer = vec_len d.writers < WRITERS_MAX
-Admits d (keyword.Edit edit) = IfSome (slice_get d.writers.items (vec_len d.writers - 1))
-    (λ (w : Writer). vec_len w.commands < COMMANDS_MAX)
 Admits d _ = ⊤
 
 -- a script keeps within the bounds

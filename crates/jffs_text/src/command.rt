@@ -6,6 +6,7 @@ ghost use Rattle.jffs_text.specs.Wishes.{wish_of};
 
 use crate::keyword::Edit;
 use crate::mistake::Mistake;
+use crate::quote::Quote;
 use crate::spelled::SpelledPath;
 use crate::word::Words;
 use jffs_node::{Bytes, NoMemory};
@@ -55,14 +56,18 @@ impl<'a> Command<'a> {
         ensures { IfOk result IsCommand }
     {
         let line = words;
-        match Edit::of(line, words.take()) {
-            Ok(edit) => Command::parse(alloc, edit, words),
-            Err(Mistake::Command(word)) => Err(Mistake::Request(word)),
-            Err(mistake) => Err(mistake),
+        let word = words.take();
+        match Edit::of(word) {
+            Some(edit) => {
+                edit.has_form(line)?;
+                Command::parse(alloc, edit, words)
+            }
+            None if word.is_empty() => Err(Mistake::Spaces),
+            None => Err(Mistake::Request(Quote::of(word))),
         }
     }
 
-    /// Reads the words after the command's first one, from left to right.
+    /// Reads the words after the command's first one, from left to right, and that no more are left.
     pub(crate) fn parse(
         alloc: Global,
         edit: Edit,
@@ -71,21 +76,29 @@ impl<'a> Command<'a> {
         ensures { IfOk result IsCommand }
     {
         let path = words.take_spelled()?;
-        match edit {
-            Edit::MakeDir => Ok(Command::MakeDir(path)),
-            Edit::Create => Ok(Command::Create(path)),
-            Edit::Remove => Ok(Command::Remove(path)),
-            Edit::Write => Command::parse_write(alloc, path, words),
-            Edit::Fill => Command::parse_fill(path, words),
-            Edit::Truncate => Command::parse_truncate(path, words),
-            Edit::Rename => Command::parse_rename(path, words),
-        }
+        let command = match edit {
+            Edit::MakeDir => Command::MakeDir(path),
+            Edit::Create => Command::Create(path),
+            Edit::Remove => Command::Remove(path),
+            Edit::Write => Command::parse_write(alloc, path, &mut words)?,
+            Edit::Fill => Command::parse_fill(path, &mut words)?,
+            Edit::Truncate => {
+                let size = words.take_number(0, u32::MAX)?;
+                Command::Truncate { path, size }
+            }
+            Edit::Rename => {
+                let to = words.take_spelled()?;
+                Command::Rename { from: path, to }
+            }
+        };
+        words.end()?;
+        Ok(command)
     }
 
     fn parse_write(
         alloc: Global,
         path: SpelledPath<'a>,
-        mut words: Words<'a>,
+        words: &mut Words<'a>,
     ) -> Result<Command<'a>, Mistake>
         ensures { IfOk result IsCommand }
     {
@@ -98,7 +111,7 @@ impl<'a> Command<'a> {
         })
     }
 
-    fn parse_fill(path: SpelledPath<'a>, mut words: Words<'a>) -> Result<Command<'a>, Mistake>
+    fn parse_fill(path: SpelledPath<'a>, words: &mut Words<'a>) -> Result<Command<'a>, Mistake>
         ensures { IfOk result IsCommand }
     {
         let offset = words.take_number(0, u32::MAX)?;
@@ -110,20 +123,6 @@ impl<'a> Command<'a> {
             count,
             byte,
         })
-    }
-
-    fn parse_truncate(path: SpelledPath<'a>, mut words: Words<'a>) -> Result<Command<'a>, Mistake>
-        ensures { IfOk result IsCommand }
-    {
-        let size = words.take_number(0, u32::MAX)?;
-        Ok(Command::Truncate { path, size })
-    }
-
-    fn parse_rename(from: SpelledPath<'a>, mut words: Words<'a>) -> Result<Command<'a>, Mistake>
-        ensures { IfOk result IsCommand }
-    {
-        let to = words.take_spelled()?;
-        Ok(Command::Rename { from, to })
     }
 
     /// The wish of a command. The command stays: the wish has a path of its own, and shares the

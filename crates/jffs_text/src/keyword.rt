@@ -26,23 +26,36 @@ pub(crate) enum Edit {
 }
 
 impl Edit {
-    /// The command of a line whose first word is this.
-    pub(crate) fn of(line: Words<'_>, word: &str) -> Result<Edit, Mistake> {
+    /// The command whose first word this is, if it is one's.
+    pub(crate) fn of(word: &str) -> Option<Edit> {
         match word {
-            "mkdir" => line.as_many(2, "mkdir PATH", Edit::MakeDir),
-            "create" => line.as_many(2, "create PATH", Edit::Create),
-            "write" => line.as_many(4, "write PATH OFFSET HEX", Edit::Write),
-            "fill" => line.as_many(5, "fill PATH OFFSET COUNT HH", Edit::Fill),
-            "truncate" => line.as_many(3, "truncate PATH SIZE", Edit::Truncate),
-            "rename" => line.as_many(3, "rename PATH PATH", Edit::Rename),
-            "remove" => line.as_many(2, "remove PATH", Edit::Remove),
-            "" => Err(Mistake::Spaces),
-            _ => Err(Mistake::Command(Quote::of(word))),
+            "create" => Some(Edit::Create),
+            "fill" => Some(Edit::Fill),
+            "write" => Some(Edit::Write),
+            "mkdir" => Some(Edit::MakeDir),
+            "truncate" => Some(Edit::Truncate),
+            "rename" => Some(Edit::Rename),
+            "remove" => Some(Edit::Remove),
+            _ => None,
+        }
+    }
+
+    /// `Few`, `Extra` or `Spaces` where the words of a line are not as many as the command has.
+    #[cold]
+    pub(crate) fn has_form(self, line: Words<'_>) -> Result<(), Mistake> {
+        match self {
+            Edit::MakeDir => line.as_many(2, "mkdir PATH", ()),
+            Edit::Create => line.as_many(2, "create PATH", ()),
+            Edit::Write => line.as_many(4, "write PATH OFFSET HEX", ()),
+            Edit::Fill => line.as_many(5, "fill PATH OFFSET COUNT HH", ()),
+            Edit::Truncate => line.as_many(3, "truncate PATH SIZE", ()),
+            Edit::Rename => line.as_many(3, "rename PATH PATH", ()),
+            Edit::Remove => line.as_many(2, "remove PATH", ()),
         }
     }
 }
 
-/// What a statement begins with.
+/// What a statement begins with that is no command.
 #[derive(Clone, Copy, Debug, PartialEq, Eq)]
 pub(crate) enum Keyword {
     Volume,
@@ -50,7 +63,6 @@ pub(crate) enum Keyword {
     Cleaner,
     Reader,
     Writer,
-    Edit(Edit),
 }
 
 impl Keyword {
@@ -68,7 +80,8 @@ impl Keyword {
             "cleaner" => line.as_many(2, "cleaner N", Keyword::Cleaner),
             "reader" => line.as_many(4, "reader W N PATH", Keyword::Reader),
             "writer" => line.as_many(1, "writer", Keyword::Writer),
-            other => Ok(Keyword::Edit(Edit::of(line, other)?)),
+            "" => Err(Mistake::Spaces),
+            word => Err(Mistake::Command(Quote::of(word))),
         }
     }
 }

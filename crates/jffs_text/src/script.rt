@@ -99,7 +99,8 @@ impl<'a> Script<'a> {
     {
         let mut draft = Draft::new(alloc);
         for (index, line) in text.split(|byte| *byte == b'\n').enumerate() {
-            if let Err(mistake) = draft.take_line(line) {
+            if let Err(found) = draft.take_line(line) {
+                let mistake = draft.first_mistake(line, found);
                 return Err(ScriptMistake {
                     fault: ScriptFault {
                         line: index + 1,
@@ -160,22 +161,49 @@ impl<'a> Draft<'a> {
         })
     }
 
+    /// Takes a line. Each word of its statement is tested, and has no byte that a line may not have,
+    /// so that a line which is taken is known to be printable.
     fn take_line(&mut self, line: &'a [u8]) -> Result<(), Mistake>
         requires draft { IsDraft self.old }
         ensures { OnOk result (IsDraft self.new) }
     {
-        let line = line_text(line)?;
-        if line.len() == 0 || line.starts_with('#') {
+        let text = utf8_text(line)?;
+        if text.is_empty() {
             return Ok(());
         }
-        let mut words = Words::of(line);
+        if text.starts_with('#') {
+            return all_printable(line);
+        }
+        let line = Words::of(text);
         if self.volume.is_none() {
-            self.volume = Some(volume_sizes(words)?);
+            self.volume = Some(volume_sizes(line)?);
             return Ok(());
         }
-        let keyword = Keyword::take(&mut words)?;
-        self.admit(keyword)?;
-        self.take_statement(keyword, words)
+        let mut words = line;
+        match Edit::of(words.take()) {
+            Some(edit) => self.take_command(edit, words),
+            None => self.take_statement(line),
+        }
+    }
+
+    /// The mistake of a line that is told, where this one was found: a byte that isn't allowed comes
+    /// before any other, and the number of a command's words before what they are.
+    #[cold]
+    fn first_mistake(&self, line: &[u8], found: Mistake) -> Mistake {
+        match self.has_form(line) {
+            Ok(()) => found,
+            Err(mistake) => mistake,
+        }
+    }
+
+    /// That a line is printable, and a command in it has as many words as it should.
+    fn has_form(&self, line: &[u8]) -> Result<(), Mistake> {
+        let line = Words::of(line_text(line)?);
+        let mut words = line;
+        match Edit::of(words.take()) {
+            Some(edit) if self.volume.is_some() => edit.has_form(line),
+            _ => Ok(()),
+        }
     }
 
     /// The kind of a line's mistake: `Volume` for any on the first statement, but `Text` as such.
@@ -201,20 +229,17 @@ impl<'a> Draft<'a> {
             Keyword::Reader if headed => Err(Mistake::Late("reader")),
             Keyword::Reader if self.readers.len() >= READERS_MAX => Err(Mistake::Readers),
             Keyword::Writer if self.writers.len() >= WRITERS_MAX => Err(Mistake::Writers),
-            Keyword::Edit(_) => match self.writers.last() {
-                None => Err(Mistake::Outside),
-                Some(writer) if writer.commands.len() >= COMMANDS_MAX => Err(Mistake::Commands),
-                Some(_) => Ok(()),
-            },
             _ => Ok(()),
         }
     }
 
-    fn take_statement(&mut self, keyword: Keyword, mut words: Words<'a>) -> Result<(), Mistake>
+    /// Takes a statement that is no command.
+    fn take_statement(&mut self, mut words: Words<'_>) -> Result<(), Mistake>
         requires draft { IsDraft self.old }
-        requires room { Admits self.old keyword }
         ensures { OnOk result (IsDraft self.new) }
     {
+        let keyword = Keyword::take(&mut words)?;
+        self.admit(keyword)?;
         match keyword {
             Keyword::Volume => {}
             Keyword::Line(form) => {
@@ -224,7 +249,6 @@ impl<'a> Draft<'a> {
             Keyword::Cleaner => self.cleaner = Some(words.take_number(1, ROUNDS_MAX)?),
             Keyword::Reader => self.take_reader(words)?,
             Keyword::Writer => self.begin_writer()?,
-            Keyword::Edit(edit) => self.take_command(edit, words)?,
         }
         Ok(())
     }
@@ -232,13 +256,17 @@ impl<'a> Draft<'a> {
     /// Takes a command of the last writer, where there is one.
     fn take_command(&mut self, edit: Edit, words: Words<'a>) -> Result<(), Mistake>
         requires draft { IsDraft self.old }
-        requires room { Admits self.old (keyword.Edit edit) }
         ensures { OnOk result (IsDraft self.new) }
     {
-        let command = Command::parse(self.alloc, edit, words)?;
-        if let Some(writer) = self.writers.last_mut() {
-            writer.commands.push(command)?;
+        let Some(writer) = self.writers.last_mut() else {
+            return Err(Mistake::Outside);
+        };
+        if writer.commands.len() >= COMMANDS_MAX {
+            return Err(Mistake::Commands);
         }
+        writer
+            .commands
+            .push(Command::parse(self.alloc, edit, words)?)?;
         Ok(())
     }
 
@@ -291,16 +319,30 @@ fn volume_sizes(mut words: Words<'_>) -> Result<(u32, u32), Mistake>
 /// A line as text. A mistake of the kind `Text` if it has a byte outside `20` to `7E`, or more than
 /// [`LINE_MAX`] bytes.
 pub fn line_text(line: &[u8]) -> Result<&str, Mistake> {
+    let text = utf8_text(line)?;
+    all_printable(line)?;
+    Ok(text)
+}
+
+/// A line as text, whose characters may be others than a line's. Else as [`line_text`].
+fn utf8_text(line: &[u8]) -> Result<&str, Mistake> {
     if line.len() > LINE_MAX {
         return Err(Mistake::Long);
-    }
-    if !is_printable(line) {
-        return Err(unprintable(line));
     }
     str::from_utf8(line).map_err(|_| unprintable(line))
 }
 
+/// That a line has no byte outside `20` to `7E`. A mistake of the kind `Text` if it has one.
+fn all_printable(line: &[u8]) -> Result<(), Mistake> {
+    if is_printable(line) {
+        Ok(())
+    } else {
+        Err(unprintable(line))
+    }
+}
+
 /// What is wrong with a line that has a byte outside `20` to `7E`.
+#[cold]
 fn unprintable(line: &[u8]) -> Mistake {
     for (before, byte) in line.iter().enumerate() {
         let at = before + 1;

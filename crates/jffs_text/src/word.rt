@@ -13,44 +13,46 @@ use std::alloc::Global;
 /// spaces have an empty word between them.
 #[derive(Clone, Copy)]
 pub struct Words<'a> {
-    /// How many words are left: where there are any, one more than `rest` has spaces.
-    count: usize,
-    rest: &'a str,
+    /// What is left of the line, where the last word isn't taken.
+    rest: Option<&'a str>,
 }
 
 impl<'a> Words<'a> {
     /// The words of a line, all of them still to come.
     pub fn of(line: &'a str) -> Words<'a> {
-        Words {
-            count: spaces_in(line.as_bytes()) + 1,
-            rest: line,
-        }
+        Words { rest: Some(line) }
     }
 
     /// How many words are left.
     pub fn count(&self) -> usize {
-        self.count
+        match self.rest {
+            Some(rest) => spaces_in(rest.as_bytes()) + 1,
+            None => 0,
+        }
     }
 
     /// Takes the next word; it is empty where none is left.
     pub fn take(&mut self) -> &'a str {
-        if self.count == 0 {
+        let Some(rest) = self.rest else {
             return "";
-        }
-        self.count -= 1;
-        // The last word may be long, and no space is left to look for.
-        if self.count == 0 {
-            return self.rest;
-        }
-        match self.rest.split_once(' ') {
-            Some((word, rest)) => {
-                self.rest = rest;
+        };
+        match rest.split_once(' ') {
+            Some((word, behind)) => {
+                self.rest = Some(behind);
                 word
             }
             None => {
-                self.count = 0;
-                self.rest
+                self.rest = None;
+                rest
             }
+        }
+    }
+
+    /// That no word is left. `Spaces` if one is.
+    pub(crate) fn end(self) -> Result<(), Mistake> {
+        match self.rest {
+            Some(_) => Err(Mistake::Spaces),
+            None => Ok(()),
         }
     }
 
@@ -62,9 +64,10 @@ impl<'a> Words<'a> {
         form: &'static str,
         statement: T,
     ) -> Result<T, Mistake> {
-        if self.count == wanted {
+        let count = self.count();
+        if count == wanted {
             Ok(statement)
-        } else if self.count < wanted {
+        } else if count < wanted {
             Err(Mistake::Few(form))
         } else {
             Err(self.too_many(wanted, form))
@@ -72,9 +75,10 @@ impl<'a> Words<'a> {
     }
 
     /// What is wrong where more words are left than these.
+    #[cold]
     fn too_many(mut self, wanted: usize, form: &'static str) -> Mistake {
         let mut extra = Quote::of("");
-        for index in 0..self.count {
+        for index in 0..self.count() {
             let word = self.take();
             if word.is_empty() {
                 return Mistake::Spaces;
@@ -135,6 +139,8 @@ impl<'a> Words<'a> {
 }
 
 /// What is wrong with a word that is no path.
+#[cold]
+#[inline(never)]
 fn no_path(word: &str, fault: PathFault) -> Mistake {
     match fault {
         PathFault::Memory => Mistake::Memory,
@@ -175,6 +181,7 @@ fn number(word: &str) -> Option<u32> {
 }
 
 /// Why a word is no number from `least` to `most`.
+#[cold]
 fn no_number(word: &str, least: u32, most: u32) -> Mistake {
     let quote = Quote::of(word);
     let digits = word.as_bytes();

@@ -10,6 +10,7 @@ mod command;
 mod dumping;
 mod fault;
 mod keyword;
+mod lines;
 mod mistake;
 mod quote;
 mod script;

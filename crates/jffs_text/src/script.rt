@@ -11,6 +11,7 @@ use crate::command::Command;
 use crate::fault::{ScriptFault, ScriptWhy};
 pub use crate::keyword::LineForm;
 use crate::keyword::{Edit, Keyword, VOLUME_FORM};
+use crate::lines::Lines;
 use crate::mistake::{Mistake, ScriptMistake};
 use crate::quote::Quote;
 use crate::word::Words;
@@ -98,7 +99,7 @@ impl<'a> Script<'a> {
         ensures bounds { IfOk result IsInBounds }
     {
         let mut draft = Draft::new(alloc);
-        for (index, line) in text.split(|byte| *byte == b'\n').enumerate() {
+        for (index, line) in Lines::of(text).enumerate() {
             if let Err(found) = draft.take_line(line) {
                 let mistake = draft.first_mistake(line, found);
                 return Err(ScriptMistake {

@@ -1,17 +1,16 @@
 -- The pieces of a text between its slashes, and the answer that they make.
-use Rattle.std.proofs.Common.{◌≡◌, ℕ, zero, suc, ◌+◌, ◌-◌, ◌<◌, ◌≤◌, Bool, true, false, cond, not, ◌&&◌, ◌||◌, eqb, leb, ltb, IsTrue, List, [], ◌∷◌, ◌++◌, length, take, drop, Option, Some, None, Ok, refl, sym, ap, ◌∙◌, ⊎_elim, append_assoc, arith, length-append, length-drop}
+use Rattle.std.proofs.Common.{◌≡◌, ℕ, zero, suc, ◌+◌, ◌-◌, ◌<◌, ◌≤◌, Bool, true, false, cond, not, ◌&&◌, eqb, leb, ltb, List, [], ◌∷◌, length, take, drop, get_or, Option, Some, None, refl, sym, ap, ◌∙◌, ⊎_elim, arith, length-drop}
 use Rattle.std.specs.List.{list_all, slice_split, position, position_or_len, onto_first}
-use Rattle.std.proofs.lemmas.Bool.{cases_Bool, and_from, le-leb, ltb-true, ltb-false, false_from_ne_true}
+use Rattle.std.proofs.lemmas.Bool.{cases_Bool, lt-ltb, ltb-true, ltb-false, false_from_ne_true}
 use Rattle.std.proofs.lemmas.Option.{none-some, cond_some}
-use Rattle.std.proofs.lemmas.List.{take_all}
+use Rattle.std.proofs.lemmas.List.{take_all, length-take-le}
+use Rattle.std.proofs.lemmas.List.Folds.{list_all_more}
+use Rattle.std.proofs.lemmas.List.Sums.{position_or_len_is, fails_before_first}
 use Rattle.std.proofs.lemmas.List.Splits.{slice_split_first, slice_split-cons_no}
 use Rattle.jffs_node.specs.declared.path.PathFault.{PathFault}
-use Rattle.jffs_node.specs.declared.path.PathFault.TheVariants.{NameEmpty, NameLong, NameByte, Deep}
-use Rattle.jffs_node.specs.Name.{is_name, is_name_byte}
-use Rattle.jffs_node.proofs.Each.{each_append}
-use Rattle.jffs_node.proofs.Rules.{ok_differs, ok_same}
-use Rattle.jffs_node.specs.declared.path.TheConstants.{PATH_DEPTH_MAX}
-use Rattle.jffs_node.specs.Path.{IsPath, name_fault, names_fault, or_else, unless_fault, answer_after, named, unless_bad}
+use Rattle.jffs_node.specs.declared.path.PathFault.TheVariants.{NameByte}
+use Rattle.jffs_node.specs.Name.{is_name_byte}
+use Rattle.jffs_node.specs.Path.{length_fault, name_fault, or_else}
 
 -- where a slash was looked for
 found_some : (k n e : ℕ) → cond (ltb k n) (Some k) None ≡ Some e → (k < n) × (k ≡ e)
@@ -41,43 +40,63 @@ piece_before xs end h =
     ∙ ap (λ k. take k xs ∷ slice_split (λ c. eqb c 47) (drop (k + 1) xs)) f.1
     ∙ ap (λ ys. take end xs ∷ slice_split (λ c. eqb c 47) ys) (sym (take_all (length xs - (end + 1)) (drop (end + 1) xs) (omega arith)))
 
--- The answer, one piece at a time.
-module _ (names : List (List ℕ)) (deep : Bool) (piece : List ℕ) (pieces : List (List ℕ)) where
-  -- a name is read
-  pub answer_name : name_fault piece ≡ None → answer_after names deep (piece ∷ pieces) ≡ answer_after (names ++ piece ∷ []) deep pieces
-  answer_name h =
-      let l : length names + length (piece ∷ pieces) ≡ length (names ++ piece ∷ []) + length pieces = omega (arith, length-append names (piece ∷ [])) in
-      ap (λ o. unless_fault (names ++ piece ∷ pieces) (or_else (or_else o (names_fault pieces)) (cond (deep || ltb PATH_DEPTH_MAX (length names + length (piece ∷ pieces))) (Some Deep) None))) h
-      ∙ (λ i. unless_fault (sym (append_assoc names (piece ∷ []) pieces) i) (or_else (names_fault pieces) (cond (deep || ltb PATH_DEPTH_MAX (l i)) (Some Deep) None)))
+-- Where a byte was looked for that no name has: what stands before it are a name's bytes, and where it is a slash, it is
+-- the first.
+abbrev pub no_name_byte : ℕ → Bool
+no_name_byte b = not (is_name_byte b)
 
--- What a name that was read says of its bytes.
-read_of : (bytes name : List ℕ) (o : Option PathFault) → Ok name ≡ unless_bad bytes o → (o ≡ None) × (name ≡ bytes)
-read_of bytes name None h = (refl, ok_same name bytes h)
-read_of bytes name (Some fault) h = absurd (ok_differs fault name h)
+is_of_not : (b : Bool) → not b ≡ false → b ≡ true
+is_of_not true h = refl
+is_of_not false h = cc
 
-pub named_read : (bytes name : List ℕ) → Ok name ≡ named bytes → (name_fault bytes ≡ None) × (name ≡ bytes)
-named_read bytes name h = read_of bytes name (name_fault bytes) h
+before_first : (xs : List ℕ) (k : ℕ) → k ≤ position_or_len no_name_byte xs → k ≤ length xs → list_all is_name_byte (take k xs) ≡ true
+before_first xs zero within inside = refl
+before_first xs (suc k) within inside =
+    let e : suc k ≡ k + 1 = omega arith in
+    ap (λ n. list_all is_name_byte (take n xs)) e
+    ∙ list_all_more is_name_byte xs k 0 (omega arith)
+    ∙ ap (λ b. b && is_name_byte (get_or xs k 0)) (before_first xs k (omega arith) (omega arith))
+    ∙ is_of_not (is_name_byte (get_or xs k 0)) (fails_before_first no_name_byte xs k 0 (omega arith))
 
--- Bytes without a fault are a name.
-no_fault : (empty long bytes : Bool) → cond empty (Some NameEmpty) (cond long (Some NameLong) (cond bytes None (Some NameByte))) ≡ None → (empty ≡ false) × (long ≡ false) × (bytes ≡ true)
-no_fault true long bytes h = cc
-no_fault false true bytes h = cc
-no_fault false false true h = (refl, refl, refl)
-no_fault false false false h = cc
+no_slash : (a b c : Bool) → not (a && b && not c) ≡ false → c ≡ false
+no_slash true true true h = cc
+no_slash true true false h = refl
+no_slash true false c h = cc
+no_slash false b c h = cc
 
-not_empty : (n : ℕ) → eqb n 0 ≡ false → 1 ≤ n
-not_empty zero h = cc
-not_empty (suc n) h = omega arith
+first_slash : (xs : List ℕ) (end : ℕ) → end ≤ position_or_len no_name_byte xs → end ≤ length xs
+    → (end < length xs → eqb (get_or xs end 0) 47 ≡ true) → position_or_len (λ c. eqb c 47) xs ≡ end
+first_slash xs end within inside here =
+    position_or_len_is (λ c. eqb c 47) xs end 0 inside
+    (λ k l.
+    let b = get_or xs k 0 in
+    no_slash (leb 33 b) (leb b 126) (eqb b 47) (fails_before_first no_name_byte xs k 0 (omega arith)))
+    here
 
-named_well : (name : List ℕ) → name_fault name ≡ None → is_name name ≡ true
-named_well name h =
-    let tests = no_fault (eqb (length name) 0) (ltb 20 (length name)) (list_all is_name_byte name) h in
-    and_from (leb 1 (length name) && leb (length name) 20) (list_all is_name_byte name)
-    (and_from (leb 1 (length name)) (leb (length name) 20) (le-leb 1 (length name) (not_empty (length name) tests.0)) (le-leb (length name) 20 (ltb-false 20 (length name) tests.1)))
-    tests.2
+or_none : (o : Option PathFault) → or_else o None ≡ o
+or_none None = refl
+or_none (Some fault) = refl
 
--- a path of one name more
-pub path_more : (names : List (List ℕ)) (name : List ℕ) → IsPath names → length names < PATH_DEPTH_MAX → name_fault name ≡ None → IsPath (names ++ name ∷ [])
-path_more names name is few h =
-    let l = length-append names (name ∷ []) in
-    record { short = omega arith; each = each_append (λ n. IsTrue (is_name n)) names (name ∷ []) is.each (named_well name h, tt) }
+fault_of_short : (bytes : List ℕ) → list_all is_name_byte bytes ≡ true → name_fault bytes ≡ length_fault (length bytes)
+fault_of_short bytes h = ap (λ b. or_else (length_fault (length bytes)) (cond b None (Some NameByte))) h ∙ or_none (length_fault (length bytes))
+
+-- a text without such a byte
+pub whole_name : (xs : List ℕ) → position no_name_byte xs ≡ None
+    → (slice_split (λ c. eqb c 47) xs ≡ xs ∷ []) × (name_fault xs ≡ length_fault (length xs))
+whole_name xs h =
+    let all = found_none _ (length xs) h in
+    let first = first_slash xs (length xs) all (omega arith) (λ l. absurd (omega arith)) in (
+      one_piece xs (omega arith),
+      fault_of_short xs (ap (list_all is_name_byte) (sym (take_all (length xs) xs (omega arith))) ∙ before_first xs (length xs) all (omega arith)),
+    )
+
+-- a text with a slash there
+pub name_to_slash : (xs : List ℕ) (end : ℕ) → position no_name_byte xs ≡ Some end → get_or xs end 0 ≡ 47
+    → (position (λ c. eqb c 47) xs ≡ Some end) × (name_fault (take end xs) ≡ length_fault end)
+name_to_slash xs end h slash =
+    let found = found_some (position_or_len no_name_byte xs) (length xs) end h in
+    let first = first_slash xs end (omega arith) (omega arith) (λ l. ap (λ b. eqb b 47) slash) in
+    let all = before_first xs end (omega arith) (omega arith) in (
+      ap (λ k. cond (ltb k (length xs)) (Some k) None) first ∙ ap (λ b. cond b (Some end) None) (lt-ltb end (length xs) (omega arith)),
+      fault_of_short (take end xs) all ∙ ap length_fault (length-take-le end xs (omega arith)),
+    )

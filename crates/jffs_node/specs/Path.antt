@@ -16,15 +16,17 @@ abbrev pub names_in : List ℕ → List (List ℕ)
 names_in [] = []
 names_in (b ∷ text) = slice_split (λ c. c == 47) (b ∷ text)
 
-abbrev pub name_fault : List ℕ → Option PathFault
-name_fault name =
-    if length name == 0 then Some NameEmpty else (
-    if nat_lt NAME_MAX (length name) then Some NameLong else (
-    if list_all is_name_byte name then None else Some NameByte))
-
 abbrev pub or_else : Option PathFault → Option PathFault → Option PathFault
 or_else (Some fault) later = Some fault
 or_else None later = later
+
+-- the fault of bytes that are too few or too many for a name
+abbrev pub length_fault : ℕ → Option PathFault
+length_fault n = if n == 0 then Some NameEmpty else (if nat_lt NAME_MAX n then Some NameLong else None)
+
+abbrev pub name_fault : List ℕ → Option PathFault
+name_fault name =
+    or_else (length_fault (length name)) (if list_all is_name_byte name then None else Some NameByte)
 
 -- the fault of the first bad name
 abbrev pub names_fault : List (List ℕ) → Option PathFault

@@ -109,7 +109,7 @@ pub(crate) fn are_name_bytes(bytes: &[u8]) -> bool
 }
 
 /// Printable, neither a blank nor the slash between names.
-fn is_name_byte(byte: u8) -> bool
+pub(crate) fn is_name_byte(byte: u8) -> bool
     ensures { result ≡ name_byte_test byte }
 {
     byte.is_ascii_graphic() && byte != b'/'

@@ -1,13 +1,14 @@
 //! Paths: the names from the root to an inode.
 
-ghost use Rattle.std.specs.Prelude.{◌≡◌, ◌≢◌, ◌<◌, ◌==◌, [], ◌∷◌, ◌++◌};
+ghost use Rattle.std.specs.Prelude.{◌≡◌, ◌≢◌, ◌<◌, ◌==◌, [], ◌∷◌, ◌++◌, not};
 ghost use Rattle.std.specs.Prelude.{OnOk, IfOk, Err, Some, position, length, ◌≤◌};
 ghost use Rattle.std.specs.Option.{option_copied};
 ghost use Rattle.std.specs.Result.{result_err};
 ghost use Rattle.jffs_node.specs.Path.{IsPath, path_of, path_after, named, name_fault, pieces_of};
-ghost use Rattle.jffs_node.specs.Path.{left_len};
+ghost use Rattle.jffs_node.specs.Path.{left_len, length_fault};
+ghost use Rattle.jffs_node.specs.Name.{is_name_byte as name_byte_test};
 
-use crate::name::{NAME_MAX, Name, are_name_bytes};
+use crate::name::{NAME_MAX, Name, are_name_bytes, is_name_byte};
 use smallvec::SmallVec;
 use std::alloc::{AllocError, Global};
 use std::marker::Model;
@@ -87,14 +88,14 @@ impl Path {
         let mut names = SmallVec::new(alloc);
         let mut deep = false;
         while let Some(text) = left {
-            let (first, behind) = split_first_name(text);
-            let name = name_of(first)?;
+            let first = first_name(text);
+            let name = first.name()?;
             if names.len() < PATH_DEPTH_MAX {
                 add(&mut names, name)?;
             } else {
                 deep = true;
             }
-            left = behind;
+            left = first.behind;
         }
         if deep {
             Err(PathFault::Deep)
@@ -111,12 +112,12 @@ impl Path {
         let mut left = after_slash(text.as_bytes())?;
         let mut count = 0;
         while let Some(text) = left {
-            let (first, behind) = split_first_name(text);
-            if let Some(fault) = fault_in(first) {
+            let first = first_name(text);
+            if let Some(fault) = first.fault {
                 return Err(fault);
             }
             count += 1;
-            left = behind;
+            left = first.behind;
         }
         if count > PATH_DEPTH_MAX {
             Err(PathFault::Deep)
@@ -168,13 +169,74 @@ fn after_slash(text: &[u8]) -> Result<Option<&[u8]>, PathFault>
     }
 }
 
-/// The name that bytes spell, or their fault.
-fn name_of(bytes: &[u8]) -> Result<Name, PathFault>
-    ensures { result ≡ named bytes.now }
+/// What stands before the first slash of a text, why that is no name if it isn't one, and what
+/// stands after the slash if there is one.
+#[derive(Clone, Copy)]
+struct FirstName<'a> {
+    bytes: &'a [u8],
+    fault: Option<PathFault>,
+    behind: Option<&'a [u8]>,
+}
+
+impl FirstName<'_> {
+    /// The name that the bytes spell, or their fault.
+    fn name(&self) -> Result<Name, PathFault>
+        requires { self.now.fault ≡ name_fault self.now.bytes.now }
+        ensures { result ≡ named self.now.bytes.now }
+    {
+        match self.fault {
+            None => Ok(Name::spelled(self.bytes)),
+            Some(fault) => Err(fault),
+        }
+    }
+}
+
+/// Takes a text's first name apart from the rest. It is read once, where no byte of it is wrong.
+fn first_name(text: &[u8]) -> FirstName<'_>
+    ensures pieces { pieces_of (Some text.now)
+        ≡ result.bytes.now ∷ pieces_of (option_copied result.behind) }
+    ensures fault { result.fault ≡ name_fault result.bytes.now }
+    ensures shorter { left_len (option_copied result.behind) < left_len (Some text.now) }
 {
-    match fault_in(bytes) {
-        None => Ok(Name::spelled(bytes)),
-        Some(fault) => Err(fault),
+    match end_of_name(text) {
+        None => FirstName {
+            bytes: text,
+            fault: fault_of_length(text.len()),
+            behind: None,
+        },
+        Some(end) if text[end] == SLASH => FirstName {
+            bytes: &text[..end],
+            fault: fault_of_length(end),
+            behind: Some(&text[end + 1..]),
+        },
+        Some(_) => {
+            let (bytes, behind) = split_first_name(text);
+            FirstName {
+                bytes,
+                fault: fault_in(bytes),
+                behind,
+            }
+        }
+    }
+}
+
+/// Where the first byte stands that no name has, if there is one.
+fn end_of_name(text: &[u8]) -> Option<usize>
+    ensures { result ≡ position (λ c. not (name_byte_test c)) text.now }
+{
+    text.iter().position(|byte| !is_name_byte(*byte))
+}
+
+/// Why so many bytes are no name, where they are too few or too many.
+fn fault_of_length(length: usize) -> Option<PathFault>
+    ensures { result ≡ length_fault length }
+{
+    if length == 0 {
+        Some(PathFault::NameEmpty)
+    } else if length > NAME_MAX {
+        Some(PathFault::NameLong)
+    } else {
+        None
     }
 }
 
@@ -182,14 +244,10 @@ fn name_of(bytes: &[u8]) -> Result<Name, PathFault>
 fn fault_in(bytes: &[u8]) -> Option<PathFault>
     ensures { result ≡ name_fault bytes.now }
 {
-    if bytes.is_empty() {
-        Some(PathFault::NameEmpty)
-    } else if bytes.len() > NAME_MAX {
-        Some(PathFault::NameLong)
-    } else if are_name_bytes(bytes) {
-        None
-    } else {
-        Some(PathFault::NameByte)
+    match fault_of_length(bytes.len()) {
+        Some(fault) => Some(fault),
+        None if are_name_bytes(bytes) => None,
+        None => Some(PathFault::NameByte),
     }
 }
 

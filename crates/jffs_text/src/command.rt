@@ -67,7 +67,8 @@ impl<'a> Command<'a> {
         }
     }
 
-    /// Reads the words after the command's first one, from left to right, and that no more are left.
+    /// Reads the words after the command's first one, from left to right, with none left over. What
+    /// is wrong with their number is for `Edit::has_form` to tell.
     pub(crate) fn parse(
         alloc: Global,
         edit: Edit,

@@ -162,8 +162,8 @@ impl<'a> Draft<'a> {
         })
     }
 
-    /// Takes a line. Each word of its statement is tested, and has no byte that a line may not have,
-    /// so that a line which is taken is known to be printable.
+    /// Takes a line. Each word of its statement is tested, and has no byte that a line may not
+    /// have, so that a line which is taken is known to be printable.
     fn take_line(&mut self, line: &'a [u8]) -> Result<(), Mistake>
         requires draft { IsDraft self.old }
         ensures { OnOk result (IsDraft self.new) }
@@ -187,8 +187,8 @@ impl<'a> Draft<'a> {
         }
     }
 
-    /// The mistake of a line that is told, where this one was found: a byte that isn't allowed comes
-    /// before any other, and the number of a command's words before what they are.
+    /// The mistake of a line that is told, where this one was found: a byte that isn't allowed
+    /// comes before any other, and the number of a command's words before what they are.
     #[cold]
     fn first_mistake(&self, line: &[u8], found: Mistake) -> Mistake {
         match self.has_form(line) {

@@ -124,6 +124,14 @@ fn bytes_that_are_not_allowed_are_told_of(rt: HostRuntime) -> Result<(), Fail> {
             b"volume 8\r 1024\n".as_slice(),
             "line 1: byte 9 has the value 13, and only printable ASCII is allowed, 32 to 126",
         ),
+        (
+            b"volume 8 1024\nwriter\ncreate f\x7f g".as_slice(),
+            "line 3: byte 9 has the value 127, and only printable ASCII is allowed, 32 to 126",
+        ),
+        (
+            b"volume 8 1024\nmkdir /\xff".as_slice(),
+            "line 2: byte 8 has the value 255, and only printable ASCII is allowed, 32 to 126",
+        ),
     ] {
         tells(&rt, alloc, script, ScriptWhy::Text, wanted)?;
     }
@@ -167,6 +175,7 @@ fn a_word_missing_or_too_many_is_told_of(rt: HostRuntime) -> Result<(), Fail> {
             ),
             ("mkdir /a /b /c", "unexpected word '/b': mkdir PATH"),
             ("truncate /f 1 2", "unexpected word '2': truncate PATH SIZE"),
+            ("truncate f x 2", "unexpected word '2': truncate PATH SIZE"),
             ("rename /f /g to", "unexpected word 'to': rename PATH PATH"),
         ],
     )

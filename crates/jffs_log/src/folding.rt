@@ -128,14 +128,14 @@ impl MadeTree {
     }
 }
 
-/// Whether the node may come next in a log of this tree, which has nodes of the second form or has
-/// none.
+/// Whether the lawful node may come next in a log of this tree, which has nodes of the second form
+/// or has none.
 fn fits(tree: &Tree, node: &Node, has_sizes: bool) -> bool
+    requires { IsTrue (is_lawful node.now) }
     ensures value { result ≡ (keeps_form_after has_sizes node.now && can_apply tree.now node.now) }
-    ensures lawful { result ≡ true → IsTrue (is_lawful node.now) }
     ensures offsets { result ≡ true → IsTrue (keeps_offsets_in tree.now node.now) }
 {
-    keeps_form(node, has_sizes) && tree.can_apply(node)
+    keeps_form(node, has_sizes) && tree.keeps_kind_and_offsets(node)
 }
 
 /// A file's node of the first form comes before all nodes of the second.

@@ -23,7 +23,10 @@ impl Tree {
         is_lawful(node) && self.keeps_kind_and_offsets(node)
     }
 
-    fn keeps_kind_and_offsets(&self, node: &Node) -> bool
+    /// What `can_apply` asks beside the node's own lawfulness: whether its inode has its kind where
+    /// it is present, and whether no byte after its range moves. For nodes that decoding has found
+    /// lawful. Takes no memory.
+    pub fn keeps_kind_and_offsets(&self, node: &Node) -> bool
         ensures { result ≡ (keeps_kind_in self.now node.now && keeps_offsets_in self.now node.now) }
     {
         match self.inode(node.inode) {

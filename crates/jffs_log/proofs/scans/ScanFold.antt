@@ -47,6 +47,9 @@ reverse_more nodes i n below is =
     ∙ reverse-append (take i nodes) (get_or nodes i n ∷ [])
     ∙ ap (λ (m : Node). m ∷ reverse (take i nodes)) (sym is)
 
+pub lawful_at : (nodes : List Node) (i : ℕ) (n : Node) → i < length nodes → n ≡ get_or nodes i n → AllByRecursion (λ n. is_lawful n ≡ true) nodes → is_lawful n ≡ true
+lawful_at nodes i n below is lawful = subst (λ (m : Node). is_lawful m ≡ true) (sym is) (each_at (λ n. is_lawful n ≡ true) nodes i n below lawful)
+
 module _ (past nodes : List Node) (i : ℕ) (n : Node) (below : i < length nodes) (is : n ≡ get_or nodes i n) where
   pub next_past : reverse (take (i + 1) nodes) ++ past ≡ n ∷ reverse (take i nodes) ++ past
   next_past = ap (λ (xs : List Node). xs ++ past) (reverse_more nodes i n below is)
@@ -62,8 +65,7 @@ module _ (past nodes : List Node) (i : ℕ) (n : Node) (below : i < length nodes
       ∙ append_assoc later (reverse (take (i + 1) nodes)) past
       ∙ ap (λ (xs : List Node). later ++ xs) next_past in
       let older = older_fit later (n ∷ reverse (take i nodes) ++ past) (sym (ap each_fits whole) ∙ yes) in
-      let here : is_lawful n ≡ true = subst (λ (m : Node). is_lawful m ≡ true) (sym is) (each_at (λ n. is_lawful n ≡ true) nodes i n below lawful) in
-      let fit = next_fits (reverse (take i nodes) ++ past) n here older in
+      let fit = next_fits (reverse (take i nodes) ++ past) n (lawful_at nodes i n below is lawful) older in
       cc)
       (λ (no : each_fits (reverse nodes ++ past) ≡ false). no)
       (cases_Bool (each_fits (reverse nodes ++ past)))

@@ -8,15 +8,20 @@ use Rattle.jffs_tree.specs.Check.{each_fits}
 use Rattle.jffs_tree.specs.After.{can_apply}
 use Rattle.jffs_tree.proofs.trees.Applied.{lawful_suits}
 use Rattle.jffs_tree.specs.Check.{keeps_form_after, has_second_form}
-use Rattle.jffs_log.proofs.scans.ScanFold.{refused_at, fits_next, next_past, fits_after}
+use Rattle.jffs_log.proofs.scans.ScanFold.{lawful_at, refused_at, fits_next, next_past, fits_after}
 use Rattle.jffs_log.proofs.folding.MadeTree.add.Goals as goal
 
 -- the test on the tree is the test on the nodes so far
 same_test : (old : Bool) (tree : _) (past : List Node) (n : Node) (answer : Bool) → tree ≡ tree_of past → old ≡ has_second_form past → answer ≡ (keeps_form_after old n && can_apply tree n) → fits_after past n ≡ answer
 same_test old tree past n answer is sizes h = sym (h ∙ (λ i. keeps_form_after (sizes i) n && can_apply (is i) n))
 
+pub fits-requires : goal.fits-requires
+fits-requires c = lawful_at c.args.nodes.now c.loop-node.node-index c.node-item.result c.loop-node-test.true c.node-item.is c.requires
+
 pub apply-requires : goal.apply-requires
-apply-requires c = lawful_suits c.loop-node.self.tree c.node-item.result (c.if-not-fits.ensures.lawful refl) (c.if-not-fits.ensures.offsets refl)
+apply-requires c =
+    let lawful = lawful_at c.args.nodes.now c.loop-node.node-index c.node-item.result c.loop-node-test.true c.node-item.is c.requires in
+    lawful_suits c.loop-node.self.tree c.node-item.result lawful (c.if-not-fits.ensures.offsets refl)
 
 pub loop-node-preserved : goal.loop-node-preserved
 loop-node-preserved c = λ past made.

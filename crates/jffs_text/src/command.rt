@@ -58,10 +58,10 @@ impl<'a> Command<'a> {
         let line = words;
         let word = words.take();
         match Edit::of(word) {
-            Some(edit) => {
-                edit.has_form(line)?;
-                Command::parse(alloc, edit, words)
-            }
+            Some(edit) => match Command::parse(alloc, edit, words) {
+                Err(found) => Err(edit.has_form(line).err().unwrap_or(found)),
+                command => command,
+            },
             None if word.is_empty() => Err(Mistake::Spaces),
             None => Err(Mistake::Request(Quote::of(word))),
         }

@@ -13,7 +13,8 @@ use Rattle.jffs_node.specs.declared.node.Node.{Node}
 use Rattle.jffs_inodes.specs.Held.{Held, held_after}
 use Rattle.jffs_inodes.specs.Inodes.{Tree, held_in, in_order, with_inode, without_inode, put_node, AreOrdered, WritesInode}
 use Rattle.jffs_marks.proofs.Maps.{t_true}
-use Rattle.jffs_inodes.proofs.Put.{find_put, find_without, find_rewritten, same_either_way}
+use Rattle.jffs_marks.proofs.Marking.{same_either_way}
+use Rattle.jffs_inodes.proofs.Put.{find_put, find_without, find_rewritten}
 
 pub found_in_order : (q : ℕ) (es : List (ℕ × Held)) → held_in (in_order es) q ≡ lookup (eqb q) es
 found_in_order q [] = refl

@@ -10,7 +10,7 @@ use Rattle.jffs_inodes.specs.Held.{Held, versions_held, held_after}
 use Rattle.jffs_inodes.specs.Inodes.{Tree, held_in, without_inode, WritesInode}
 use Rattle.jffs_marks.specs.Marks.{Counts, mark_of, HaveMore, SameMarks}
 use Rattle.jffs_inodes.specs.Marked.{bytes_by, bytes_by_in, MovesMarks, MovesMarksIn, HasByteMarks, LosesByteMarks, held_marks, AreMarksOf}
-use Rattle.jffs_marks.proofs.Marking.{turned, more_here, more_elsewhere}
+use Rattle.jffs_marks.proofs.Marking.{same_either_way, more_here, more_elsewhere}
 use Rattle.jffs_inodes.proofs.Put.{find_without}
 
 -- one for the newest of an inode that is present
@@ -27,7 +27,7 @@ in_parts tree v i = by_held (held_in tree i)
 one_newest : (v : ℕ) (o : Option ℕ) (k : ℕ) → o ≡ Some k → count_by (λ w. eqb w v) (option_to_list o) ≡ cond (eqb v k) 1 0
 one_newest v o k is =
     ap (λ x. count_by (λ w. eqb w v) (option_to_list x)) is
-    ∙ sum_by-cons (λ w. cond (eqb w v) 1 0) k [] ∙ by_test (eqb k v) ∙ ap (λ b. cond b 1 0) (turned k v)
+    ∙ sum_by-cons (λ w. cond (eqb w v) 1 0) k [] ∙ by_test (eqb k v) ∙ ap (λ b. cond b 1 0) (same_either_way k v)
   where
     by_test : (b : Bool) → cond b 1 0 + 0 ≡ cond b 1 0
     by_test true = refl
@@ -70,7 +70,7 @@ module _ (old : Tree) (n : Node) (m0 m1 : Counts) (marked : AreMarksOf old m0) (
 
     others : (v i : ℕ) → eqb i n.inode ≡ false → mark_of m2 v i ≡ held_marks new v i
     others v i other =
-        let same : held_in new i ≡ held_in old i = w.found i ∙ ap (λ b. cond b (Some (held_after n (held_in old i))) (held_in old i)) (turned n.inode i ∙ other) in
+        let same : held_in new i ≡ held_in old i = w.found i ∙ ap (λ b. cond b (Some (held_after n (held_in old i))) (held_in old i)) (same_either_way n.inode i ∙ other) in
         moved.elsewhere v i other ∙ elsewhere v i other ∙ sym (ap (λ (o : Option Held). option_map_or (λ h. count_by (λ w. eqb w v) (versions_held (i, h))) o 0) same)
 
     -- an inode with that newest version was there
@@ -129,7 +129,7 @@ module _ (old : Tree) (i : ℕ) (h : Held) (k : ℕ) (is : held_in old i ≡ Som
         let r : mark_of m2 v i ≡ held_marks (without_inode old i) v i = omega (arith, more_here m2 m1 k i 1 less v, lost_here v, g) in
         subst (λ x. mark_of m2 v x ≡ held_marks (without_inode old i) v x) (sym same) r)
         (λ other.
-        let kept : held_in (without_inode old i) j ≡ held_in old j = find_without i old j ∙ ap (λ b. cond b None (held_in old j)) (turned i j ∙ other) in
+        let kept : held_in (without_inode old i) j ≡ held_in old j = find_without i old j ∙ ap (λ b. cond b None (held_in old j)) (same_either_way i j ∙ other) in
         more_elsewhere m2 m1 k i 1 less v j other
         ∙ lost.elsewhere v j other
         ∙ marked v j

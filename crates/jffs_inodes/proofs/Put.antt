@@ -1,13 +1,10 @@
 -- What is found in a map after a key was put in, taken out or rewritten.
-use Rattle.std.proofs.Common.{◌≡◌, ℕ, Bool, true, false, cond, not, eqb, List, Option, Some, None, refl, sym, ap, ◌∙◌, nat_cmp, arith}
+use Rattle.std.proofs.Common.{◌≡◌, ℕ, Bool, true, false, cond, not, eqb, List, Option, Some, None, refl, sym, ap, ◌∙◌, nat_cmp}
 use Rattle.std.proofs.lemmas.Bool.{eqb-true}
-use Rattle.std.proofs.lemmas.Bool.Decides.{nat_tests}
 use Rattle.std.specs.Cmp.{nat_cmp_total, unsigned_tied}
 use Rattle.std.specs.FinMap.{nat_cmp-IsAntisymmetric}
 use Rattle.std.specs.FinMap.Entries as entries
-
-pub same_either_way : (a b : ℕ) → eqb a b ≡ eqb b a
-same_either_way a b = grind (arith, nat_tests)
+use Rattle.jffs_marks.proofs.Marking.{same_either_way}
 
 swapped : {A : Type 0} (b : Bool) (x y : A) → cond (not b) x y ≡ cond b y x
 swapped true x y = refl

@@ -3,22 +3,23 @@ use Rattle.std.proofs.Common.{◌≡◌, ℕ, zero, suc, ◌+◌, ◌<◌, ◌�
 use Rattle.std.specs.Option.{unwrap_or}
 use Rattle.std.specs.Ordering.{is_eq, is_gt, ordering_then}
 use Rattle.std.specs.declared.cmp.Ordering.TheVariants.{Less, Equal, Greater}
-use Rattle.std.specs.Cmp.{both_ways, tied_then, tied_itself, nat_cmp_total, unsigned_tied}
+use Rattle.std.specs.Cmp.{tied_then, tied_itself, nat_cmp_total, unsigned_tied}
 use Rattle.std.specs.Map.{lookup}
 use Rattle.std.specs.BTreeMap.{is_at}
 use Rattle.std.proofs.lemmas.Bool.{cases_Bool, cases_eq, and_parts, eqb-true, eq-eqb, lt-ltb}
+use Rattle.std.proofs.lemmas.Bool.Decides.{nat_tests}
 use Rattle.jffs_marks.specs.Marks.{MarkKey, Counts, mark_key, mark_cmp, mark_of, HaveMore, SameMarks}
 use Rattle.jffs_marks.proofs.Order.{then_low, nat_low, zero_low}
 
-pub turned : (a b : ℕ) → eqb a b ≡ eqb b a
-turned a b = both_ways (eqb a b) (eqb b a) (λ h. eq-eqb b a (sym (eqb-true a b h))) (λ h. eq-eqb a b (sym (eqb-true b a h)))
+pub same_either_way : (a b : ℕ) → eqb a b ≡ eqb b a
+same_either_way a b = grind (arith, nat_tests)
 
 -- two keys are one where their parts are
 pub mark_tied : (a b : MarkKey) → is_at (mark_cmp a) b ≡ (eqb b.0.0 a.0.0 && eqb b.1 a.1)
 mark_tied a b =
     sym (tied_then (nat_cmp b.0.0 a.0.0) (nat_cmp a.1 b.1))
     ∙ ap (λ t. t && is_eq (nat_cmp a.1 b.1)) (unsigned_tied b.0.0 a.0.0)
-    ∙ ap (λ t. eqb b.0.0 a.0.0 && t) (unsigned_tied a.1 b.1 ∙ turned a.1 b.1)
+    ∙ ap (λ t. eqb b.0.0 a.0.0 && t) (unsigned_tied a.1 b.1 ∙ same_either_way a.1 b.1)
 
 unwrapped : (b : Bool) (x y : Option ℕ) → unwrap_or (cond b x y) 0 ≡ cond b (unwrap_or x 0) (unwrap_or y 0)
 unwrapped true x y = refl

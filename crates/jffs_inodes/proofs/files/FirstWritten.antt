@@ -11,7 +11,7 @@ use Rattle.jffs_inodes.specs.Held.{Held, padded_with, sized_with, writers_after}
 use Rattle.jffs_inodes.specs.Inodes.{Tree, held_in}
 use Rattle.jffs_marks.specs.Marks.{Counts, mark_of, SameMarks}
 use Rattle.jffs_inodes.specs.Marked.{bytes_by, brought_by, MovesMarks, MovesMarksIn}
-use Rattle.jffs_marks.proofs.Marking.{turned}
+use Rattle.jffs_marks.proofs.Marking.{same_either_way}
 use Rattle.jffs_inodes.proofs.Marked.{moved_in}
 
 abbrev counted : ℕ → List (Option ℕ) → ℕ
@@ -58,7 +58,7 @@ data_counted v w zero = by_test (eqb v w)
 data_counted v w (suc d) =
     sum_by-cons (λ x. cond (eqb x v) 1 0) w (flat_map option_to_list (replicate d (Some w)))
     ∙ ap (λ n. cond (eqb w v) 1 0 + n) (data_counted v w d)
-    ∙ ap (λ b. cond b 1 0 + cond (eqb v w) d 0) (turned w v)
+    ∙ ap (λ b. cond b 1 0 + cond (eqb v w) d 0) (same_either_way w v)
     ∙ by_test (eqb v w)
   where
     by_test : (b : Bool) → cond b 1 0 + cond b d 0 ≡ cond b (suc d) 0

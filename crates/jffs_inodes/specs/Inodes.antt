@@ -7,6 +7,7 @@ use Rattle.jffs_node.specs.declared.node.Node.{Node}
 use Rattle.jffs_node.specs.Record.{dsize}
 use Rattle.jffs_inodes.specs.Held.{Held, held_after, IsSmall}
 
+-- the inodes that are present, in the order of their numbers
 abbrev pub Tree : Type 0
 Tree = List (ℕ × Held)
 

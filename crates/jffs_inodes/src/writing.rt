@@ -11,13 +11,11 @@ use jffs_marks::Marks;
 use jffs_node::{Name, Node};
 use std::alloc::{AllocError, Global};
 
-/// Writes a node over its inode, present or not, with the newest version that it has there, and
-/// keeps the marks. Precondition: the node has that name, makes no file too long and moves no byte
-/// after its range; and the marks are those of the inodes.
+/// Writes a node over its inode, present or not, and keeps the marks. Precondition: the node has
+/// that name, makes no file too long and moves no byte after its range; the marks are those of the
+/// inodes; and `newest` is the version of the inode's newest node, none where it isn't present.
 ///
 /// `AllocError` if allocation failed: the inodes are as before, and so are the marks.
-// The marks that the node brings are added first, so that lowering is all that is left after the
-// write.
 pub fn write_marked(
     alloc: Global,
     inodes: &mut Inodes,
@@ -34,6 +32,7 @@ pub fn write_marked(
     ensures err { OnErr result
         ((inodes.new ≡ inodes.old) × SameMarks marks.old marks.new) }
 {
+    // First the marks that the node brings, so that lowering is all that is left after the write.
     let brought = node.bytes.as_slice().len() as u32 + 1;
     marks.raise(node.version, node.inode, brought)?;
     if let Err(refused) = write_inode(alloc, inodes, marks, node, name, newest.is_some()) {

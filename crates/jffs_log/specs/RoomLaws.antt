@@ -98,7 +98,8 @@ abbrev pub PutsKeepSound : Type 0
 PutsKeepSound =
     (sectors sector_size : ℕ) (room : Room) (n : Node) (s : GcState) → IsSound sectors sector_size s
     → is_history (n ∷ s.past) ≡ true → suits_room room n ≡ true
-    → record_len n ≤ sector_size / RECORDS_PER_SECTOR → has_room room (record_len n) s.log.free s.log.erased ≡ true
+    → record_len n ≤ sector_size / RECORDS_PER_SECTOR
+    → has_room room (record_len n) s.log.free s.log.erased ≡ true
     → IsSound sectors sector_size (record { past = n ∷ s.past; log = put sector_size room n s.log })
 
 -- The oldest sector may go, where it isn't the tail.
@@ -175,7 +176,8 @@ MountsAreSound = (sector_size : ℕ) (image : List (List ℕ)) (scanned : Scanne
 abbrev pub CopiesKeepSound : Type 0
 CopiesKeepSound =
     (sectors sector_size : ℕ) (n : Node) (s : GcState) → IsSound sectors sector_size s
-    → Among n s.past → is_live s.past n.version ≡ true → record_len n ≤ sector_size / RECORDS_PER_SECTOR
+    → Among n s.past → is_live s.past n.version ≡ true
+    → record_len n ≤ sector_size / RECORDS_PER_SECTOR
     → has_room Copy (record_len (copied s.past n)) s.log.free s.log.erased ≡ true
     → IsSound sectors sector_size (with_copy sector_size n s)
 

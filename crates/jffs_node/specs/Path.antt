@@ -22,11 +22,13 @@ or_else None later = later
 
 -- the fault of bytes that are too few or too many for a name
 abbrev pub length_fault : ℕ → Option PathFault
-length_fault n = if n == 0 then Some NameEmpty else (if nat_lt NAME_MAX n then Some NameLong else None)
+length_fault n =
+    if n == 0 then Some NameEmpty else (if nat_lt NAME_MAX n then Some NameLong else None)
 
 abbrev pub name_fault : List ℕ → Option PathFault
 name_fault name =
-    or_else (length_fault (length name)) (if list_all is_name_byte name then None else Some NameByte)
+    or_else (length_fault (length name))
+    (if list_all is_name_byte name then None else Some NameByte)
 
 -- the fault of the first bad name
 abbrev pub names_fault : List (List ℕ) → Option PathFault

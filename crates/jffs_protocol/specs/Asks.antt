@@ -15,7 +15,8 @@ ask_line ask.Check = codes "check"
 ask_line (ask.Create path) = codes "create " ++ decimal path
 ask_line (ask.MakeDir path) = codes "mkdir " ++ decimal path
 ask_line (ask.Write path offset len) =
-    codes "write " ++ (decimal path ++ (codes " " ++ (decimal offset ++ (codes " " ++ decimal len))))
+    codes "write "
+    ++ (decimal path ++ (codes " " ++ (decimal offset ++ (codes " " ++ decimal len))))
 ask_line (ask.Truncate path size) =
     codes "truncate " ++ (decimal path ++ (codes " " ++ decimal size))
 ask_line (ask.Remove path) = codes "remove " ++ decimal path

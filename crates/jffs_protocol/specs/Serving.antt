@@ -49,8 +49,8 @@ Manner S = S → Ask → List ℕ → S → Said → List ℕ → Type 0
 
 module _ {S : Type 0} (manner : Manner S) where
   -- the server answered a request in its manner, and that answer was given
-  pub record Responds (ask : Ask) (body : List ℕ) (old new : S) (out_old out_new : Option (List ℕ)) :
-      Type 0 where
+  pub record Responds (ask : Ask) (body : List ℕ) (old new : S)
+      (out_old out_new : Option (List ℕ)) : Type 0 where
     pub said : Said
     pub written : List ℕ
     pub manner_is : manner old ask body new said written

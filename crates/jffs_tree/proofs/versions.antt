@@ -1,4 +1,4 @@
--- The marks of versions: where they stand, and what they tell of the tree.
+-- What the marks tell of the versions in a tree.
 pub mod Finding
 pub mod Ranged
 pub mod Totals

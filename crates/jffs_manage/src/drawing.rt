@@ -6,9 +6,9 @@ use std::io;
 use std::io::Write;
 
 /// How many places a sector's number takes in a line: as many as the greatest has digits.
-const NUMBER_WIDTH: usize = 2;
+const NUMBER_WIDTH: usize = if MAX_SECTORS <= 100 { 2 } else { 3 };
 
-const _: () = prove!(MAX_SECTORS <= 100);
+const _: () = prove!(MAX_SECTORS <= 1000);
 
 /// How wide and how high a cell of the picture is, in its units.
 const CELL_WIDTH: u32 = 8;

@@ -13,6 +13,7 @@ use Rattle.jffs_node.specs.Record.{spelling, record_len, dsize, is_lawful, is_un
 use Rattle.jffs_node.proofs.Found.{length_spelled}
 use Rattle.jffs_flash.specs.Image.{window, replaced}
 use Rattle.jffs_flash.specs.Sizes.{is_sector_size, is_geometry}
+use Rattle.jffs_flash.specs.declared.sizes.TheConstants.{MIN_SECTORS, MAX_SECTORS}
 use Rattle.jffs_log.specs.declared.log_index.RecordRef.{RecordRef}
 use Rattle.jffs_log.specs.Image.{Sector, Placed, sector_of, records_in, log_sectors, free_in, free_of_tail, ends_with_unmount, is_free, is_clean, is_clean_tail}
 use Rattle.jffs_log.specs.Cleaning.{in_last}
@@ -41,12 +42,12 @@ sector_small len h = by_any (eqb 1024 len) (eqb 2048 len) (eqb 4096 len) (eqb 81
     by_any false false false false true p q r s t h = let k = t refl in omega arith
     by_any false false false false false p q r s t h = cc
 
-pub sizes_small : (count len : ℕ) → is_geometry count len ≡ true → (count ≤ 64) × (len ≤ 16384)
+pub sizes_small : (count len : ℕ) → is_geometry count len ≡ true → (count ≤ MAX_SECTORS) × (len ≤ 16384)
 sizes_small count len h =
-    let parts = and_parts (leb 6 count && leb count 64) (is_sector_size len) h in
-    (leb-true count 64 (and_parts (leb 6 count) (leb count 64) parts.0).1, sector_small len parts.1)
+    let parts = and_parts (leb MIN_SECTORS count && leb count MAX_SECTORS) (is_sector_size len) h in
+    (leb-true count MAX_SECTORS (and_parts (leb MIN_SECTORS count) (leb count MAX_SECTORS) parts.0).1, sector_small len parts.1)
 
-pub image_small : (count len : ℕ) (image : List ℕ) → is_geometry count len ≡ true → length image ≡ count * len → length image ≤ 1048576
+pub image_small : (count len : ℕ) (image : List ℕ) → is_geometry count len ≡ true → length image ≡ count * len → length image ≤ MAX_SECTORS * 16384
 image_small count len image h whole =
     let small = sizes_small count len h in
     let a = mul-le-mul_right len small.0 in
@@ -159,7 +160,7 @@ Cut count len image new n k offset =
 pub record IsReady (count len : ℕ) (image : List ℕ) (k offset amount : ℕ) : Type 0 where
   pub inside : k * len + offset + amount ≤ length image
   pub erased : window (k * len + offset) amount image ≡ replicate amount 255
-  pub short : length image ≤ 1048576
+  pub short : length image ≤ MAX_SECTORS * 16384
 
 -- A record is written into a sector that is open.
 module _ (count len : ℕ) (image : List ℕ) (first many tail used free : ℕ) (records : List RecordRef) (h : Describes count len image first many tail used free records)
@@ -334,7 +335,7 @@ module _ (count len : ℕ) (image : List ℕ) (first many tail used free next : 
       (open_cut count len image first many tail used free records h x.sector.0 [] len opened n lawful fits (many + 1) _ next_opened
       (next_part first count len image h.held x.others x.sector h.whole x.ring x.some) new)
 
-pub described_inside : (count len : ℕ) (image : List ℕ) (first many tail used free : ℕ) (records : List RecordRef) → Describes count len image first many tail used free records → (first < count) × (count ≤ 64)
+pub described_inside : (count len : ℕ) (image : List ℕ) (first many tail used free : ℕ) (records : List RecordRef) → Describes count len image first many tail used free records → (first < count) × (count ≤ MAX_SECTORS)
 described_inside count len image first many tail used free records h =
     let f = length-sectors_in count len image in
     let i = h.ring.inside in

@@ -4,6 +4,7 @@ use Rattle.std.specs.List.{sum, enumerate_from, AllByRecursion}
 use Rattle.std.proofs.Math.Nat.{mul-le-mul_right}
 use Rattle.std.proofs.lemmas.List.{length-take, length-map}
 use Rattle.std.proofs.lemmas.List.Sums.{sum-map, sum_by-cons}
+use Rattle.jffs_flash.specs.declared.sizes.TheConstants.{MAX_SECTORS}
 use Rattle.jffs_node.specs.declared.node.Node.{Node}
 use Rattle.jffs_node.specs.declared.read.Read.{Read}
 use Rattle.jffs_node.specs.declared.read.Read.TheVariants.{Closed, Free, Torn, Bad}
@@ -97,7 +98,7 @@ module _ (count len : ℕ) (image : List ℕ) (first many tail used free : ℕ) 
       let few_held = few_records (len / 64) h.held held_few in
       let lengths = ring_lengths first (sectors_in count len image) h.held h.blank h.ring in
       let sectors = length-sectors_in count len image in
-      let short : length h.held ≤ 64 = let s = sizes.0 in omega arith in
+      let short : length h.held ≤ MAX_SECTORS = let s = sizes.0 in omega arith in
       let bound = mul-le-mul_right (len / 64) short in
       let long = ap (λ (xs : List RecordRef). length xs) h.listed ∙ length-map (flat_map records_in h.held) ref_of in
       let small = sizes.1 in

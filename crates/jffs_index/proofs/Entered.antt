@@ -1,5 +1,5 @@
 -- Outcomes that are entered and taken back.
-use Rattle.std.proofs.Common.{◌≡◌, ℕ, Bool, true, false, cond, ◌&&◌, eqb, [], ◌∷◌, Some, None, refl, sym, ap, subst, ◌∙◌, arith}
+use Rattle.std.proofs.Common.{◌≡◌, ℕ, Bool, true, false, cond, ◌&&◌, eqb, [], ◌∷◌, Some, None, refl, sym, ap, subst, ◌∙◌}
 use Rattle.std.specs.declared.cmp.Ordering.{Ordering}
 use Rattle.std.specs.declared.cmp.Ordering.TheVariants.{Less, Equal, Greater}
 use Rattle.std.specs.Ordering.{nat_cmp, is_eq, match_ordering}
@@ -7,7 +7,7 @@ use Rattle.std.specs.Cmp.{unsigned_ties, both_tied}
 use Rattle.std.specs.Map.{lookup, remove_entry}
 use Rattle.std.specs.BTreeMap.{insert_entry, is_at}
 use Rattle.std.proofs.lemmas.Bool.{eqb-true, eq-eqb, and_parts, true≢false, cond-true}
-use Rattle.std.proofs.lemmas.Bool.Decides.{nat_tests}
+use Rattle.jffs_marks.proofs.Marking.{same_either_way}
 use Rattle.jffs_tree.specs.declared.wish.Outcome.{Outcome}
 use Rattle.jffs_index.specs.Outcomes.{Outcomes, request_cmp, outcome_at, with_outcome}
 
@@ -59,9 +59,8 @@ module _ (k q : ℕ × ℕ) (v : Outcome) where
 pub found_entered : (outcomes : Outcomes) (writer seq w s : ℕ) (outcome : Outcome)
     → outcome_at (with_outcome outcomes writer seq outcome) w s ≡ cond (eqb writer w && eqb seq s) (Some outcome) (outcome_at outcomes w s)
 found_entered outcomes writer seq w s outcome =
-    let turn : (a b : ℕ) → eqb a b ≡ eqb b a = λ a b. grind (arith, nat_tests) in
     found_at (writer, seq) (w, s) outcome outcomes
-    ∙ ap (λ b. cond b (Some outcome) (outcome_at outcomes w s)) (same_request w s writer seq ∙ (λ i. turn w writer i && turn s seq i))
+    ∙ ap (λ b. cond b (Some outcome) (outcome_at outcomes w s)) (same_request w s writer seq ∙ (λ i. same_either_way w writer i && same_either_way s seq i))
 
 module _ (k : ℕ × ℕ) (v : Outcome) where
   back_step : (e : (ℕ × ℕ) × Outcome) (es more : Outcomes) → (lookup (is_at (request_cmp k)) es ≡ None → remove_entry (is_at (request_cmp k)) more ≡ es)

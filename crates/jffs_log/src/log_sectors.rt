@@ -30,8 +30,8 @@ pub(crate) fn read_sectors<F: Flash>(
     sectors: u32,
     sector_size: u32,
 ) -> Result<Vec<SectorRead>, ScanWhy>
-    requires small { sectors * sector_size < 2 ^ 32 }
-    requires whole { length (F.device flash.old).image ≡ sectors * sector_size }
+    requires { (sectors * sector_size < 2 ^ 32)
+        × (length (F.device flash.old).image ≡ sectors * sector_size) }
     ensures read { IfOk result
         (λ found. AreRead sectors sector_size (F.device flash.old).image found.items) }
     ensures same { IfOk result (λ _. Unchanged (F.device flash.old) (F.device flash.new)) }
@@ -57,13 +57,13 @@ fn read_one<F: Flash>(
     sector: u32,
     buffer: &mut [u8],
 ) -> Result<SectorRead, ScanWhy>
-    requires inside { (sector * length buffer.old + length buffer.old
+    requires { (sector * length buffer.old + length buffer.old
         ≤ length (F.device flash.old).image)
         × (sector * length buffer.old + length buffer.old < 2 ^ 32) }
     ensures read { IfOk result
-        (λ s. HasRead s sector
-        (sector_bytes (length buffer.old) sector (F.device flash.old).image)) }
-    ensures same { IfOk result (λ _. Unchanged (F.device flash.old) (F.device flash.new)) }
+        (λ s. (HasRead s sector
+        (sector_bytes (length buffer.old) sector (F.device flash.old).image))
+        × Unchanged (F.device flash.old) (F.device flash.new)) }
     ensures refused { IfErr result (λ why. IsUnread why (F.device flash.old) (F.device flash.new)
         (bad_in (
           sector,

@@ -155,9 +155,8 @@ fn settle_all<R: Wait, F: Flash + Drop, T: Settle, W: Wait + Drop>(
     ensures taken { WasSettled T.Of.sender T.Of.accepted (all_hands finished.hands)
         (T.taken finished.log.side.taker) }
     ensures left { IfOk result
-        (λ run. IsLeftBy finished.log.side.session.core (F.device run.flash)) }
-    ensures worn { IfOk result
-        (λ run. F.wear run.flash ≡ finished.log.side.session.core.wear) }
+        (λ run. IsLeftBy finished.log.side.session.core (F.device run.flash)
+        × (F.wear run.flash ≡ finished.log.side.session.core.wear)) }
 {
     let Finished {
         hands,

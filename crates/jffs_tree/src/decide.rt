@@ -50,12 +50,13 @@ impl Tree {
         matches!(self.kind(inode), Some(Kind::Directory))
     }
 
-    /// Whether the inode is a directory that has names. A list of nodes that keeps no rule of a
-    /// tree may name a file as a parent.
-    fn has_names(&self, inode: u32) -> bool
+    /// Whether what was found of the inode is a directory that has names. A list of nodes that
+    /// keeps no rule of a tree may name a file as a parent.
+    fn has_names(&self, inode: u32, found: &Inode) -> bool
+        requires { held_in self.now inode ≡ Some found.now }
         ensures { result ≡ has_names (state_in self.now) inode }
     {
-        self.is_directory(inode) && any_named(&self.children, inode)
+        (inode == ROOT || found.kind() == Kind::Directory) && any_named(&self.children, inode)
     }
 
     /// The inode of the names without the last.
@@ -271,13 +272,14 @@ impl Tree {
         let Some(inode) = self.resolve(path) else {
             return Err(Cause::NotFound);
         };
-        if self.has_names(inode) {
+        let found = self.present(inode);
+        if self.has_names(inode, found) {
             return Err(Cause::NotEmpty);
         }
         if limits.next_version.is_none() {
             return Err(Cause::VersionsSpent);
         }
-        let mut node = plain(self.present(inode), inode);
+        let mut node = plain(found, inode);
         node.deleted = true;
         node.size = None;
         Ok(node)

@@ -13,7 +13,7 @@ use Rattle.jffs_node.specs.Record.{spelling, record_len, dsize, is_lawful, is_un
 use Rattle.jffs_node.proofs.Found.{length_spelled}
 use Rattle.jffs_flash.specs.Image.{window, replaced}
 use Rattle.jffs_flash.specs.Sizes.{is_sector_size, is_geometry}
-use Rattle.jffs_flash.specs.declared.sizes.TheConstants.{MIN_SECTORS, MAX_SECTORS}
+use Rattle.jffs_flash.specs.declared.sizes.TheConstants.{MIN_SECTORS, MAX_SECTORS, VOLUME_MAX}
 use Rattle.jffs_log.specs.declared.log_index.RecordRef.{RecordRef}
 use Rattle.jffs_log.specs.Image.{Sector, Placed, sector_of, records_in, log_sectors, free_in, free_of_tail, ends_with_unmount, is_free, is_clean, is_clean_tail}
 use Rattle.jffs_log.specs.Cleaning.{in_last}
@@ -47,7 +47,7 @@ sizes_small count len h =
     let parts = and_parts (leb MIN_SECTORS count && leb count MAX_SECTORS) (is_sector_size len) h in
     (leb-true count MAX_SECTORS (and_parts (leb MIN_SECTORS count) (leb count MAX_SECTORS) parts.0).1, sector_small len parts.1)
 
-pub image_small : (count len : ℕ) (image : List ℕ) → is_geometry count len ≡ true → length image ≡ count * len → length image ≤ MAX_SECTORS * 16384
+pub image_small : (count len : ℕ) (image : List ℕ) → is_geometry count len ≡ true → length image ≡ count * len → length image ≤ VOLUME_MAX
 image_small count len image h whole =
     let small = sizes_small count len h in
     let a = mul-le-mul_right len small.0 in
@@ -160,7 +160,7 @@ Cut count len image new n k offset =
 pub record IsReady (count len : ℕ) (image : List ℕ) (k offset amount : ℕ) : Type 0 where
   pub inside : k * len + offset + amount ≤ length image
   pub erased : window (k * len + offset) amount image ≡ replicate amount 255
-  pub short : length image ≤ MAX_SECTORS * 16384
+  pub short : length image ≤ VOLUME_MAX
 
 -- A record is written into a sector that is open.
 module _ (count len : ℕ) (image : List ℕ) (first many tail used free : ℕ) (records : List RecordRef) (h : Describes count len image first many tail used free records)

@@ -1,7 +1,7 @@
 -- The index after the oldest sector was erased.
 use Rattle.std.proofs.Common.{◌≡◌, ℕ, [], ◌∷◌, None, refl, ◌+◌, ◌-◌, ◌*◌, ◌<◌, ◌≤◌, List, ◌++◌, length, flat_map, sym, ap, subst, ◌∙◌, arith}
 use Rattle.jffs_flash.specs.Image.{erased}
-use Rattle.jffs_flash.specs.declared.sizes.TheConstants.{MAX_SECTORS}
+use Rattle.jffs_flash.specs.declared.sizes.TheConstants.{VOLUME_MAX}
 use Rattle.jffs_log.specs.declared.log_index.RecordRef.{RecordRef}
 use Rattle.std.specs.List.{last_or}
 use Rattle.jffs_log.specs.Image.{records_in, records_in_first, log_sectors, is_clean, is_clean_tail}
@@ -67,7 +67,7 @@ index_erased count len old new first many tail used free next records rest h sev
 
 -- The oldest sector lies inside the image.
 pub oldest_inside : (count len : ℕ) (image : List ℕ) (first many tail used free : ℕ) (records : List RecordRef) → Describes count len image first many tail used free records
-    → (first * len + len ≤ length image) × (length image ≤ MAX_SECTORS * 16384)
+    → (first * len + len ≤ length image) × (length image ≤ VOLUME_MAX)
 oldest_inside count len image first many tail used free records h =
     let fits = sector_fits count len first (described_inside count len image first many tail used free records h).0 in
     let whole = h.whole in

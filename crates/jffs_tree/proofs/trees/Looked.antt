@@ -1,5 +1,5 @@
 -- What looks into a tree find.
-use Rattle.std.proofs.Common.{◌≡◌, ℕ, zero, suc, ◌-◌, ◌<◌, ◌≤◌, false, cond, ◌||◌, eqb, option_map, List, [], ◌∷◌, get_or, Option, Some, None, refl, sym, ap, ◌∙◌, arith, ⊎_elim, nat_cmp}
+use Rattle.std.proofs.Common.{◌≡◌, ℕ, zero, suc, ◌-◌, ◌<◌, ◌≤◌, Bool, true, false, cond, ◌||◌, eqb, option_map, List, [], ◌∷◌, get_or, Option, Some, None, refl, sym, ap, ◌∙◌, arith, ⊎_elim, nat_cmp}
 use Rattle.std.specs.Option.{unwrap_or, option_map_or}
 use Rattle.std.specs.Ordering.{eq_by_cmp}
 use Rattle.jffs_node.specs.declared.node.Kind.TheVariants.{Directory}
@@ -78,6 +78,17 @@ directory_in tree i = ⊎_elim
     by_held : (o : Option Held) → option_map_or is_directory (option_map (λ h. h.entry.kind) o) false ≡ (option_map_or (λ e. is_directory e.kind) (option_map (λ h. h.entry) o) false || false)
     by_held None = refl
     by_held (Some h) = sym (or-false (is_directory h.entry.kind))
+
+-- the same of an inode that was found
+pub directory_found : (tree : Tree) (i : ℕ) (h : Held) → held_in tree i ≡ Some h → is_directory_in (state_in tree) i ≡ (eqb i 1 || is_directory h.entry.kind)
+directory_found tree i h is =
+    sym (directory_in tree i)
+    ∙ ap (λ o. option_map_or is_directory (cond (eqb i 1) (Some Directory) (option_map (λ x. x.entry.kind) o)) false) is
+    ∙ by_root (eqb i 1)
+  where
+    by_root : (b : Bool) → option_map_or is_directory (cond b (Some Directory) (Some h.entry.kind)) false ≡ (b || is_directory h.entry.kind)
+    by_root true = refl
+    by_root false = refl
 
 -- one step up
 pub within_up : (k : ℕ) (s : State) (i : ℕ) → (k ≡ 0 → ⊥) → (i ≡ 1 → ⊥) → is_within k s i ≡ option_map_or (λ e. is_within (k - 1) s e.parent) (at s i) false

@@ -48,16 +48,16 @@ pub returns-in_err-read-clause-once : goal.returns-in_err-read-clause-once
 returns-in_err-read-clause-once g c some rose =
     let once = read_once g (goal.at.returns-in_err-read-clause-once g c).After-read_one in
     sector_spent c.args.sectors c.loop-sector.sector c.args.sector_size (g.F.Flash.device c.args.flash.now).image (g.F.Flash.reads_left c.args.flash.now) (g.F.Flash.reads_left c.loop-sector.flash)
-    c.requires.whole c.loop-sector-test.true c.loop-sector.invariant.left (once.fails rose some)
+    c.requires.1 c.loop-sector-test.true c.loop-sector.invariant.left (once.fails rose some)
 
 pub loop-sector-preserved : goal.loop-sector-preserved
 loop-sector-preserved g c =
     let here = (goal.at.loop-sector-preserved g c).After-read_one in
     let w = c.loop-sector.invariant in
     let k = c.loop-sector.sector in
-    let one = at_first g here (λ n d. HasRead c.in_ok-read.read k (sector_bytes n k d.image)) c.in_ok-read.ensures.read in
+    let one = at_first g here (λ n d. HasRead c.in_ok-read.read k (sector_bytes n k d.image)) c.in_ok-read.ensures.read.0 in
     let full : length c.read_one.new.buffer ≡ c.loop-sector.buffer.len = c.read_one.ensures.length ∙ c.deref_mut.ensures.len in
-    let same = c.in_ok-read.ensures.same in
+    let same = c.in_ok-read.ensures.read.1 in
     let once = read_once g here in
     record {
       read = one_read k c.args.sector_size (g.F.Flash.device c.args.flash.now).image c.loop-sector.found.items c.push.new.self.items c.in_ok-read.read w.read one.read one.sound one.spelled c.in_ok-push.ensures.items;

@@ -81,7 +81,7 @@ returns-clause-run g c =
     line.untaken (ap (λ (s : CoreState). s.answers) c.new.ensures.core ∙ c.requires.core.0)
     (ap₂ (λ (s : List Step) (k : Option PendingStep). s ++ unput k) (ap₂ (λ (h : History) (s : List Step). h.steps ++ s) opened.0 opened.1) c.new.ensures.unsent)
     (ran.served.opening ∙ (ap (λ (h : History). h.opening) opened.0 ∙ sym (ap (λ (s : CoreState). s.tree) c.new.ensures.core)))
-    more.1 settled.settled.each settled.settled.numbered settled.settled.others (ran.readers no_fault) settled.left settled.worn (stops g (goal.at.returns-clause-run g c).After-run_all-finished) in
+    more.1 settled.settled.each settled.settled.numbered settled.settled.others (ran.readers no_fault) settled.left.0 settled.left.1 (stops g (goal.at.returns-clause-run g c).After-run_all-finished) in
     rw (← c.new.ensures.core, c.of-accepted.ensures, settled.rest.0, settled.rest.1, settled.rest.2) run
 
 pub returns-in-Err-clause-fault : goal.returns-in-Err-clause-fault

@@ -3,6 +3,7 @@ use Rattle.std.proofs.Common.{◌≡◌, Bool, true, false, ◌||◌, ◌&&◌, 
 use Rattle.std.specs.Prelude.{is_some}
 use Rattle.std.proofs.Math.Bool.{or_comm}
 use Rattle.jffs_node.specs.declared.node.Node.{Node}
+use Rattle.jffs_node.specs.Record.{is_lawful}
 use Rattle.jffs_tree.specs.Origin.{tree_of}
 use Rattle.jffs_tree.specs.Check.{each_fits}
 use Rattle.jffs_tree.specs.After.{can_apply}
@@ -10,18 +11,21 @@ use Rattle.jffs_tree.proofs.trees.Applied.{lawful_suits}
 use Rattle.jffs_tree.specs.Check.{keeps_form_after, has_second_form}
 use Rattle.jffs_log.proofs.scans.ScanFold.{lawful_at, refused_at, fits_next, next_past, fits_after}
 use Rattle.jffs_log.proofs.folding.MadeTree.add.Goals as goal
+use Rattle.jffs_log.proofs.folding.MadeTree.add.Goals.{After-node-item}
 
 -- the test on the tree is the test on the nodes so far
 same_test : (old : Bool) (tree : _) (past : List Node) (n : Node) (answer : Bool) → tree ≡ tree_of past → old ≡ has_second_form past → answer ≡ (keeps_form_after old n && can_apply tree n) → fits_after past n ≡ answer
 same_test old tree past n answer is sizes h = sym (h ∙ (λ i. keeps_form_after (sizes i) n && can_apply (is i) n))
 
+-- the node at hand is lawful
+lawful : (c : After-node-item) → is_lawful c.node-item.result ≡ true
+lawful c = lawful_at c.args.nodes.now c.loop-node.node-index c.node-item.result c.loop-node-test.true c.node-item.is c.requires
+
 pub fits-requires : goal.fits-requires
-fits-requires c = lawful_at c.args.nodes.now c.loop-node.node-index c.node-item.result c.loop-node-test.true c.node-item.is c.requires
+fits-requires c = lawful (goal.at.fits-requires c).After-node-item
 
 pub apply-requires : goal.apply-requires
-apply-requires c =
-    let lawful = lawful_at c.args.nodes.now c.loop-node.node-index c.node-item.result c.loop-node-test.true c.node-item.is c.requires in
-    lawful_suits c.loop-node.self.tree c.node-item.result lawful (c.if-not-fits.ensures.offsets refl)
+apply-requires c = lawful_suits c.loop-node.self.tree c.node-item.result (lawful (goal.at.apply-requires c).After-node-item) (c.if-not-fits.ensures.offsets refl)
 
 pub loop-node-preserved : goal.loop-node-preserved
 loop-node-preserved c = λ past made.

@@ -12,11 +12,12 @@ use Rattle.std.proofs.lemmas.Bool.{cases_lt, cases_order, le-leb, lt-leb, lt-ltb
 use Rattle.jffs_node.proofs.Each.{each_append}
 use Rattle.jffs_node.specs.declared.node.Node.{Node}
 use Rattle.jffs_node.specs.Record.{dsize, file_max}
+use Rattle.jffs_marks.proofs.Marking.{same_either_way}
 use Rattle.jffs_inodes.specs.declared.fragment.Fragment.{Fragment}
 use Rattle.jffs_inodes.specs.Marked.{brought_by}
 use Rattle.jffs_inodes.specs.Fragments.{Fragments, end_of, AreLaid, AreShort, before, from, outside, with_node_data, part_by}
 use Rattle.jffs_inodes.proofs.files.Fragments.{laid_bound, none_before}
-use Rattle.jffs_inodes.proofs.files.Taking.{not_within, none_within, drop_within, same_test, short_found}
+use Rattle.jffs_inodes.proofs.files.Taking.{not_within, none_within, drop_within, short_found}
 use Rattle.jffs_inodes.proofs.files.Splitting.{found, laid_parts}
 
 pub short_from_laid : (at size : ℕ) (es : Fragments) → AreLaid at size es → size ≤ file_max → AreShort es
@@ -159,4 +160,4 @@ pub some_data : (end : ℕ) (n : Node) (es : Fragments) → eqb (dsize n) 0 ≡ 
 some_data end n es h = ap (λ b. before n.offset es ++ (cond b [] ((n.offset, record { bytes = n.bytes; writer = n.version }) ∷ []) ++ from end es)) h
 
 pub brought_part : (v : ℕ) (n : Node) → part_by v (record { bytes = n.bytes; writer = n.version }) ≡ brought_by v n
-brought_part v n = ap (λ t. cond t (length n.bytes) 0) (same_test n.version v)
+brought_part v n = ap (λ t. cond t (length n.bytes) 0) (same_either_way n.version v)

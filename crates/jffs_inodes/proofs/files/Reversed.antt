@@ -19,8 +19,8 @@ use Rattle.jffs_node.proofs.Each.{each_append}
 use Rattle.jffs_inodes.specs.declared.fragment.Fragment.{Fragment}
 use Rattle.jffs_inodes.specs.Fragments.{Fragments, FragmentMap, ascending, late_cmp, before, from}
 use Rattle.jffs_marks.proofs.Maps.{is_less}
+use Rattle.jffs_marks.proofs.Marking.{same_either_way}
 use Rattle.jffs_inodes.proofs.files.Splitting.{greater, less}
-use Rattle.jffs_inodes.proofs.files.Taking.{same_test}
 
 -- the entries of the map
 abbrev pub Late : Type 0
@@ -104,7 +104,7 @@ sorted_ascending (e ∷ ms) h = let l = late_first e ms h in sorted_end e.0.0 e.
 
 -- ---- what is read, taken out, changed and put in
 same_tie : (k : ℕ) (q : Reverse ℕ) → is_at (late_cmp (record { 0 = k })) q ≡ is_at (nat_cmp k) q.0
-same_tie k q = unsigned_tied q.0 k ∙ same_test q.0 k ∙ sym (unsigned_tied k q.0)
+same_tie k q = unsigned_tied q.0 k ∙ same_either_way q.0 k ∙ sym (unsigned_tied k q.0)
 
 module _ (k : ℕ) where
   abbrev late : Reverse ℕ → Bool

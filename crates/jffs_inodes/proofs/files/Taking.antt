@@ -7,7 +7,7 @@ use Rattle.std.specs.Cmp.{unsigned_tied}
 use Rattle.std.specs.Map.{lookup, remove_entry, keys_of}
 use Rattle.std.specs.BTreeMap.{is_at, insert_entry}
 use Rattle.std.specs.declared.cmp.Ordering.TheVariants.{Less}
-use Rattle.std.proofs.lemmas.Bool.{cases_Bool, cases_lt, eqb-true, le-leb, lt-leb, lt-ltb, le-ltb, eq-eqb, ne_eqb, cases_eq}
+use Rattle.std.proofs.lemmas.Bool.{cases_Bool, cases_lt, eqb-true, le-leb, lt-leb, lt-ltb, le-ltb, eq-eqb}
 use Rattle.std.proofs.lemmas.Cmp.{nat_cmp_total}
 use Rattle.std.proofs.lemmas.Map.Entries.{sum_by-insert_entry, sum_by-remove_entry}
 use Rattle.std.proofs.lemmas.Option.{none-some, same_Some}
@@ -16,6 +16,7 @@ use Rattle.jffs_inodes.specs.declared.fragment.Fragment.{Fragment}
 use Rattle.jffs_inodes.specs.Fragments.{Fragments, AreShort, before, outside, part_by, amount_by, HasAmounts, MovesAmounts}
 use Rattle.jffs_marks.specs.Marks.{Counts}
 use Rattle.jffs_marks.proofs.Maps.{is_less}
+use Rattle.jffs_marks.proofs.Marking.{same_either_way}
 
 -- ---- which ones a range of offsets has
 abbrev pub begins_from : ℕ → (ℕ × Fragment) → Bool
@@ -133,11 +134,8 @@ pub amount_inserted : (v k : ℕ) (f : Fragment) (es : Fragments) → IsStrictly
 amount_inserted v k f es s = sum_by-insert_entry (part_by v) nat_cmp_total es k f s
 
 -- ---- marks that are moved
-pub same_test : (a b : ℕ) → eqb a b ≡ eqb b a
-same_test a b = ⊎_elim (λ e. eq-eqb a b e ∙ sym (eq-eqb b a (sym e))) (λ n. ne_eqb a b n ∙ sym (ne_eqb b a (λ e. n (sym e)))) (cases_eq a b)
-
 pub part_marks : (v i inode : ℕ) (f : Fragment) → cond (eqb v f.writer && eqb i inode) (length f.bytes) 0 ≡ cond (eqb i inode) (part_by v f) 0
-part_marks v i inode f = ap (λ t. cond (t && eqb i inode) (length f.bytes) 0) (same_test v f.writer) ∙ by_tests (eqb f.writer v) (eqb i inode)
+part_marks v i inode f = ap (λ t. cond (t && eqb i inode) (length f.bytes) 0) (same_either_way v f.writer) ∙ by_tests (eqb f.writer v) (eqb i inode)
   where
     by_tests : (t u : Bool) → cond (t && u) (length f.bytes) 0 ≡ cond u (cond t (length f.bytes) 0) 0
     by_tests true true = refl

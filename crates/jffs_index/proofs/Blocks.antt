@@ -271,14 +271,3 @@ slot_put slots at k outcome filled whole = ⊎_elim here other (cases_eq k at)
     other : (k ≡ at → ⊥) → held (get_or (set slots.filled at true) k false) (get_or (set slots.outcomes at outcome) k Closed) ≡ cond (eqb k at) (Some outcome) (slot slots k)
     other differ =
         (λ i. held (get_or-set_other slots.filled at k true false differ i) (get_or-set_other slots.outcomes at k outcome Closed differ i)) ∙ sym (cond-false _ _ _ (ne_eqb k at differ))
-
--- a slot after one was emptied
-pub slot_cleared : (slots : Slots) (at k : ℕ) → at < length slots.filled
-    → held (get_or (set slots.filled at false) k false) (get_or slots.outcomes k Closed) ≡ cond (eqb k at) None (slot slots k)
-slot_cleared slots at k filled = ⊎_elim here other (cases_eq k at)
-  where
-    here : k ≡ at → held (get_or (set slots.filled at false) k false) (get_or slots.outcomes k Closed) ≡ cond (eqb k at) None (slot slots k)
-    here same = ap (λ b. held b (get_or slots.outcomes k Closed)) (set_here slots.filled at k false false filled same) ∙ sym (cond-true _ _ _ (eq-eqb k at same))
-
-    other : (k ≡ at → ⊥) → held (get_or (set slots.filled at false) k false) (get_or slots.outcomes k Closed) ≡ cond (eqb k at) None (slot slots k)
-    other differ = ap (λ b. held b (get_or slots.outcomes k Closed)) (get_or-set_other slots.filled at k false false differ) ∙ sym (cond-false _ _ _ (ne_eqb k at differ))

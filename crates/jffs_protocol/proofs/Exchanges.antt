@@ -1,8 +1,8 @@
 -- One exchange after others.
 use Rattle.std.proofs.Common.{◌≡◌, ◌∙◌, ◌≢◌, ℕ, List, [], ◌∷◌, ◌++◌, Option, refl, sym, subst, take, inl, inr}
 use Rattle.std.specs.Io.KnownBytes.{Consumes, Appends}
-use Rattle.std.proofs.KnownBytes.{Consumes-trans, Appends-trans, Consumes-nil}
-use Rattle.std.proofs.lemmas.List.{flat_map_more, append-nil}
+use Rattle.std.proofs.KnownBytes.{Consumes-trans, Appends-trans}
+use Rattle.std.proofs.lemmas.List.{flat_map_more}
 use Rattle.jffs_protocol.specs.Serving.{Manner, Exchange, IsExchange, AreExchanges, Serves}
 use Rattle.jffs_protocol.specs.Serving.{ServesOne, ServesNext, ServesAll, Responds, greeting, malformed_text, said_text}
 use Rattle.jffs_protocol.specs.Hearing.{Drops, Takes}
@@ -16,15 +16,6 @@ module _ {S : Type 0} (manner : Manner S) where
       → e.before ≡ mid → IsExchange manner e → AreExchanges manner old (es ++ e ∷ []) e.after
   are_more old [] mid e h p i = (p ∙ h, i, refl)
   are_more old (d ∷ es) mid e h p i = (h.0, h.1, are_more d.after es mid e h.2 p i)
-
-  -- nothing but the first line was given yet
-  pub served_none : (s : S) (a b c : Option (List ℕ)) → Appends b c greeting → Serves manner s s a a b c
-  served_none s a b c h = record {
-    exchanges = [];
-    are = refl;
-    taken = Consumes-nil a;
-    given = subst (λ l. Appends b c l) (sym (append-nil greeting)) h;
-  }
 
   pub served_more : (old mid new : S) (a b c d e f : Option (List ℕ))
       → Serves manner old mid a b d e → ServesOne manner mid new b c e f → Serves manner old new a c d f

@@ -48,16 +48,6 @@ seen_since before middle now (r ∷ rounds) more seen =
     let first = seen.0 in
     ((first.0, first.1, begins_trans now middle first.0 more first.2, first.3), seen_since before middle now rounds more seen.1)
 
--- nothing was done yet
-pub cleans_nothing : (jobs : JobEnd) (known : History) (accepted : List Request) → Cleans 0 jobs jobs known known accepted accepted
-cleans_nothing jobs known accepted = record {
-  rounds = [];
-  few = omega arith;
-  taken = sym (append-nil (received jobs.consumer));
-  seen = tt;
-  asked = ([], sym (append-nil accepted), tt);
-}
-
 -- more rounds are allowed
 pub cleans_within : (few many : ℕ) (old new : JobEnd) (before now : History) (accepted accepted' : List Request) → few ≤ many → Cleans few old new before now accepted accepted' → Cleans many old new before now accepted accepted'
 cleans_within few many old new before now accepted accepted' more did = record {

@@ -151,16 +151,6 @@ tells_node past old middle new q writer seq o node works known h kept =
           subst (λ (t : Tree). TakesNode t node new.tree) (sym known.tree_is) (subst (λ (t : Tree). TakesNode (tree_of past) node t) (sym (tree ∙ represents.tree_is)) took);
     }
 
--- A core that had failed answered.
-pub tells_none : (old new : CoreState) (writer seq : ℕ) (o : Outcome) → old.failed ≡ true → KeepsAnswer writer seq o old new → TellsNode old new None
-tells_none old new writer seq o fails kept =
-    let fails_still : new.failed ≡ true = ap (λ (c : CoreState). c.failed) kept ∙ fails in
-    record {
-      none = λ f. refl;
-      worked = λ w. absurd (both_ways new.failed w fails_still);
-      taken = λ w. absurd (both_ways new.failed w fails_still);
-    }
-
 -- Dead sectors were erased, as far as that went.
 pub tree_kept :
     (past : List Node) (old new : CoreState) (result : Result ℕ Cause) → old.failed ≡ false → RepresentsWorking past old

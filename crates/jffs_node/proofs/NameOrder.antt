@@ -9,12 +9,12 @@ use Rattle.std.specs.declared.cmp.Ordering.{Ordering}
 use Rattle.std.specs.declared.cmp.Ordering.TheVariants.{Less, Equal, Greater}
 use Rattle.std.specs.Cmp.Lexicographic.{slice_cmp, texts_ties}
 use Rattle.std.proofs.lemmas.Cmp.{ranked, nat_list_cmp_total, tied_itself}
-use Rattle.std.proofs.lemmas.List.{take-append-drop, length-append, length-replicate, length-take, length-drop, drop-drop}
+use Rattle.std.proofs.lemmas.List.{take-append-drop, length-take, length-drop, drop-drop}
 use Rattle.std.proofs.Math.Seq.{take-length}
 use Rattle.std.proofs.lemmas.Bool.{and_parts, leb-true}
 use Rattle.jffs_node.specs.Name.{is_name, is_name_byte, padded_name}
 use Rattle.jffs_node.specs.Reading.{number_at, name_numbers}
-use Rattle.jffs_node.proofs.Names.{long_enough}
+use Rattle.jffs_node.proofs.Names.{long_enough, length-padded}
 
 -- the number that bytes spell after `n`, the highest first
 abbrev spelt : ℕ → List ℕ → ℕ
@@ -183,9 +183,6 @@ order_numbers a b na nb =
   where
     plain_name : (n : List ℕ) → is_name n ≡ true → ArePlain n
     plain_name n h = plain n (and_parts (leb 1 (length n) && leb (length n) 20) (list_all is_name_byte n) h).1
-
-    length-padded : (n : List ℕ) → length n ≤ 20 → length (padded_name n) ≡ 20
-    length-padded n h = omega (arith, length-append n (replicate (20 - length n) 0), length-replicate {A = ℕ} (20 - length n) 0)
 
 -- and names are equal where these numbers are
 pub equal_numbers : (a b : List ℕ) → is_name a ≡ true → is_name b ≡ true

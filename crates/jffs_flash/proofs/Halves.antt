@@ -49,14 +49,14 @@ length-window at n image inside =
     length-take-le n (drop at image) room
 
 -- a window of which the first bytes are others is as long
-length-part : (at n : ℕ) (part image : List ℕ) → length part ≤ n → at + n ≤ length image
+pub length-part : (at n : ℕ) (part image : List ℕ) → length part ≤ n → at + n ≤ length image
     → length (part ++ drop (length part) (window at n image)) ≡ n
 length-part at n part image short inside =
     let long = length-window at n image inside in
     omega (arith, length-append part (drop (length part) (window at n image)), length-drop (length part) (window at n image))
 
 -- a change of the first bytes of a window is a change of the window
-replaced_within : (at n : ℕ) (part image : List ℕ) → length part ≤ n → at + n ≤ length image
+pub replaced_within : (at n : ℕ) (part image : List ℕ) → length part ≤ n → at + n ≤ length image
     → replaced at part image ≡ replaced at (part ++ drop (length part) (window at n image)) image
 replaced_within at n part image short inside =
     let front = take at image in

@@ -1,2 +1,4 @@
 pub mod Bits
+pub mod Dooms
 pub mod Halves
+pub mod Replaced

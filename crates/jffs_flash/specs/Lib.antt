@@ -1,4 +1,5 @@
 pub mod Device
+pub mod Dooming
 pub mod Fuse
 pub mod Image
 pub mod Limited

@@ -7,12 +7,14 @@
 //! [`is_geometry`] says which sizes a volume may have.
 #![tactic(auto)]
 
+mod dooming;
 mod flash;
 mod fuse;
 mod limited;
 mod memory;
 mod sizes;
 
+pub use dooming::{DOOM_LEN, DoomingFlash};
 pub use flash::{ERASED_BYTE, Flash, FlashFault};
 pub use fuse::{Fail, FuseFlash, Fused};
 pub use limited::LimitedFlash;

@@ -25,7 +25,7 @@ fn has_range<F: Flash>(flash: &F, at: u32, len: usize) -> bool
     len <= whole && at as usize <= whole - len
 }
 
-fn read<F: Flash>(
+pub(super) fn read<F: Flash>(
     rt: &impl Abort,
     flash: &mut F,
     at: u32,
@@ -35,7 +35,7 @@ fn read<F: Flash>(
     flash.read(at, buffer)
 }
 
-fn program<F: Flash>(
+pub(super) fn program<F: Flash>(
     rt: &impl Abort,
     flash: &mut F,
     at: u32,
@@ -45,7 +45,11 @@ fn program<F: Flash>(
     flash.program(at, bytes)
 }
 
-fn erase<F: Flash>(rt: &impl Abort, flash: &mut F, sector: u32) -> Result<(), FlashFault> {
+pub(super) fn erase<F: Flash>(
+    rt: &impl Abort,
+    flash: &mut F,
+    sector: u32,
+) -> Result<(), FlashFault> {
     assert!(rt; sector < flash.sectors());
     flash.erase(sector)
 }

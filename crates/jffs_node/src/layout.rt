@@ -21,7 +21,7 @@ pub const ERASED: u8 = 0xFF;
 pub(crate) const RECORD_ALIGN: u32 = 4;
 
 /// The first bytes of each record.
-pub(crate) const MAGIC: [u8; 4] = [0x4A, 0x46, 0x46, 0x31];
+pub const MAGIC: [u8; 4] = [0x4A, 0x46, 0x46, 0x31];
 
 pub(crate) const KIND_AT: usize = 4;
 

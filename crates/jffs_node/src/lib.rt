@@ -27,7 +27,7 @@ pub use bytes::Bytes;
 pub use data::{copied, shared};
 pub use decoding::{decode, is_erased};
 pub use lawful::is_lawful;
-pub use layout::{ERASED, GATE_AT, GATE_CLOSED, GATE_OPEN, HEADER_LEN};
+pub use layout::{ERASED, GATE_AT, GATE_CLOSED, GATE_OPEN, HEADER_LEN, MAGIC};
 pub use name::{NAME_MAX, Name};
 pub use node::{FILE_MAX, FIRST_INODE, Kind, Node, ROOT_INODE};
 pub use path::{PATH_DEPTH_MAX, Path, PathFault};

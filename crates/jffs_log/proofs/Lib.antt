@@ -2,6 +2,7 @@ pub mod ring
 pub mod scans
 pub mod append
 pub mod erase
+pub mod begun
 pub mod rooms
 pub mod Parts
 pub mod Results

@@ -22,8 +22,8 @@ pub told_seen : (inside seen : LogState) → inside ≡ seen → IsLog inside �
 told_seen inside seen same h works = subst (λ (v : LogState). IsLogIndex v.device.image v.index) same (told inside seen same h works)
 
 -- a log whose index tells of the image
-pub log_holds : (s : LogState) → HasSizes s.device.sectors s.device.sector_size s.index → IsLogIndex s.device.image s.index → IsLog s
-log_holds s sizes index =
+pub log_holds : (s : LogState) → HasSizes s.device.sectors s.device.sector_size s.index → IsLogIndex s.device.image s.index → (s.failed ≡ false → s.erase_failed ≡ false) → IsLog s
+log_holds s sizes index intact =
     let one = some_erased _ _ _ _ _ _ _ _ _ index in
     let inside = described_inside _ _ _ _ _ _ _ _ _ index in
     record {
@@ -33,6 +33,7 @@ log_holds s sizes index =
       sectors = inside.1;
       few = records_few _ _ _ _ _ _ _ _ _ index;
       told = λ works. index;
+      intact = intact;
     }
 
 -- a device of which only the bytes changed

@@ -8,3 +8,4 @@ pub mod ScanIndex
 pub mod ScanLog
 pub mod ScanNumbers
 pub mod ScanSectors
+pub mod Showing

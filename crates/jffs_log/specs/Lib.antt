@@ -1,5 +1,6 @@
 pub mod Image
 pub mod Sector
+pub mod Shown
 pub mod Volume
 pub mod Live
 pub mod LogState
@@ -20,3 +21,7 @@ pub mod ScanRead
 pub mod ScanFound
 pub mod Wear
 pub mod Salvage
+pub mod Erasable
+pub mod Begun
+pub mod Heal
+pub mod Healing

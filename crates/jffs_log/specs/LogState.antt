@@ -24,6 +24,7 @@ use Rattle.jffs_log.specs.History.{IsHistory, KeepsRules}
 use Rattle.jffs_log.specs.Image.{Placed, is_clean}
 use Rattle.jffs_log.specs.Place.{IsPlace}
 use Rattle.jffs_log.specs.Room.{has_room_in}
+use Rattle.jffs_log.specs.Erasable.{MayErase}
 use Rattle.jffs_log.specs.Volume.{sectors_in}
 use Rattle.jffs_log.specs.Wear.{sector_after}
 
@@ -48,7 +49,8 @@ log_layout s = layout_in s.device.image s.index
 abbrev pub HasHistory : List Node → LogState → Type 0
 HasHistory past s = IsHistory s.device.image s.index past
 
--- What always holds of a log: while the device works, the index describes its image.
+-- What always holds of a log: while the device works, the index describes its image, and no erase
+-- has failed.
 pub record IsLog (s : LogState) : Type 0 where
   pub sizes : HasSizes s.device.sectors s.device.sector_size s.index
   pub held : s.index.held ≤ s.index.sectors
@@ -56,6 +58,7 @@ pub record IsLog (s : LogState) : Type 0 where
   pub sectors : s.index.sectors ≤ MAX_SECTORS
   pub few : length s.index.records.items < 2 ^ 32
   pub told : s.failed ≡ false → IsLogIndex s.device.image s.index
+  pub intact : s.failed ≡ false → s.erase_failed ≡ false
 
 -- the node's record may be the next, where that room is
 pub record MayAppend (r : Room) (n : Node) (s : LogState) : Type 0 where
@@ -129,6 +132,7 @@ pub record AppendFailed (n : Node) (why : Cause) (old new : LogState) : Type 0 w
       new.device
   pub numbers : KeepsNumbers old.index new.index
   pub no_erase_failed : new.erase_failed ≡ old.erase_failed
+  pub intact : new.erase_failed ≡ false
   pub worn : WearsByRecord n old new
   pub history : (past : List Node) → HasHistory past old → KeepsRules (n ∷ past)
       → HasHistory past new ⊎ HasHistory (n ∷ past) new
@@ -149,8 +153,8 @@ pub record ErasedOldest (tree : Tree) (old new : LogState) : Type 0 where
   pub clean : is_clean_log new ≡ is_clean_log old
   pub history : (past : List Node) → tree ≡ tree_of past → HasHistory past old → HasHistory past new
 
--- The device failed: the oldest sector may hold any bytes.
-pub record EraseFailed (why : Cause) (old new : LogState) : Type 0 where
+-- The device failed: the oldest sector, which could be erased, may hold any bytes.
+pub record EraseFailed (tree : Tree) (why : Cause) (old new : LogState) : Type 0 where
   pub cause_is : why ≡ cause.Device
   pub failed : new.failed ≡ true
   pub device : EraseFails
@@ -158,7 +162,10 @@ pub record EraseFailed (why : Cause) (old new : LogState) : Type 0 where
       old.device.image) old.device new.device
   pub erase_failed : new.erase_failed ≡ true
   pub sizes : HasSizes old.index.sectors old.index.sector_size new.index
+  pub first : new.index.first ≡ old.index.first
   pub erases : new.index.erases ≡ one_erase_more old.index
+  pub may : (past : List Node) → tree ≡ tree_of past → HasHistory past old
+      → MayErase old.index.sectors old.index.sector_size old.device.image past old.index.first
 
 -- A read of the device failed: no byte has changed.
 pub record ReadFailed (old new : LogState) : Type 0 where
@@ -167,6 +174,7 @@ pub record ReadFailed (old new : LogState) : Type 0 where
   pub index : new.index ≡ old.index
   pub failed : new.failed ≡ true
   pub erase_failed : new.erase_failed ≡ old.erase_failed
+  pub intact : new.erase_failed ≡ false
 
 -- why nothing was read
 abbrev pub ReadStopped : Cause → LogState → LogState → Type 0

@@ -18,6 +18,8 @@ use Rattle.jffs_log.specs.LogState.{LogState}
 use Rattle.jffs_log.specs.Volume.{split, sectors_in}
 use Rattle.jffs_log.specs.LogIndex.{IsLogIndex, HasSizes, log_in}
 use Rattle.jffs_log.specs.Scan.{Scanned, scan}
+use Rattle.jffs_log.specs.declared.shown.Shown.{Shown}
+use Rattle.jffs_log.specs.Shown.{shown_device}
 
 -- the version of the last node, 0 where there is none
 abbrev pub last_version : List Node → ℕ
@@ -66,6 +68,12 @@ pub record IsMounted (device : FlashDevice) (log : LogState) (tree : Tree) (clea
   pub works : log.failed ≡ false
   pub no_erase_failed : log.erase_failed ≡ false
   pub found : IsFound device.sectors device.sector_size device.image log.index tree clean limits
+
+-- no log was found in what is shown, and nothing but the count of faults has changed
+pub record IsUnfound (shown : Shown) (device : FlashDevice) (why : ScanWhy) (after : FlashDevice) :
+    Type 0 where
+  pub cause : IsCause why device.faults after.faults (scan_of (shown_device shown device))
+  pub rest : after ≡ record device { faults = after.faults }
 
 -- no log was found, and nothing but the count of faults has changed
 pub record IsRefused (device : FlashDevice) (why : ScanWhy) (after : FlashDevice) : Type 0 where

@@ -18,13 +18,14 @@ impl<F: Flash> Log<F> {
     /// records lives in the tree of all nodes.
     ///
     /// `Device` if the erase failed: that sector may hold any bytes, each other holds what it held,
-    /// and the log is failed from then on.
+    /// and the log is failed from then on. A scan that [heals](crate::heal) finds the log where the
+    /// device dooms what it erases.
     pub fn erase_oldest(&mut self, tree: &Tree) -> Result<(), Cause>
         requires working { self.old.failed ≡ false }
         requires several { 2 ≤ self.old.index.held }
         requires dead { OldestIsDead tree.now self.old }
         ensures done { OnOk result (ErasedOldest tree.now self.old self.new) }
-        ensures failed { IfErr result (λ cause. EraseFailed cause self.old self.new) }
+        ensures failed { IfErr result (λ cause. EraseFailed tree.now cause self.old self.new) }
         ensures worn { WearsOldest self.old self.new }
     {
         let index = &mut self.index;

@@ -1,5 +1,7 @@
 //! Laws over the definitions. The functions do nothing: their contracts are the laws.
 
+ghost use Rattle.jffs_log.specs.Begun.{ErasesAreHealed, DoomsAreHealable, DoomsGoOn, ErasesGoOn};
+ghost use Rattle.jffs_log.specs.Begun.{LawfulStay};
 ghost use Rattle.jffs_log.specs.Laws.{ErasingKeepsWeight};
 ghost use Rattle.jffs_log.specs.RoomLaws.{CopiesTakeOver, UnmountNodesAreDead, CopiesKeepSound};
 ghost use Rattle.jffs_log.specs.RoomLaws.{HandledAreDead};
@@ -97,4 +99,17 @@ pub fn wear_is_even()
     ensures on { TurnsGoOn }
     ensures fixed { ImagesFixFirst }
     ensures sessions { ErasesAreEven }
+{}
+
+/// Where the erase of a sector was cut off, healing and the scan after it find the tree of before:
+/// while it is doomed whichever bits are cleared, and then whatever bytes the sector holds, but for
+/// a first record with a closed gate and the right magic that isn't as dead as it was, and for bytes
+/// that with that magic would hold a live one. So it is again where healing is cut off. A lawful log
+/// is left as it is.
+pub fn erases_are_healed()
+    ensures healed { ErasesAreHealed }
+    ensures doomed { DoomsAreHealable }
+    ensures doomed_again { DoomsGoOn }
+    ensures erased_again { ErasesGoOn }
+    ensures lawful { LawfulStay }
 {}

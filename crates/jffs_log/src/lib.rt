@@ -9,6 +9,7 @@ mod dead;
 mod erasing;
 mod examples;
 mod folding;
+mod healing;
 mod laws;
 mod log;
 mod log_index;
@@ -19,15 +20,18 @@ mod room;
 mod salvaging;
 mod scanning;
 mod sector;
+mod shown;
 mod weighing;
 mod writing;
 
 pub use examples::{
     example_is_cleaned, example_is_copied_again, example_is_erased_in_turn, examples_are_scanned,
 };
+pub use healing::{Healed, heal};
 pub use laws::{
-    cleaning_keeps_room, cleanings_copy_little, copies_take_over, full_logs_are_heavy,
-    histories_stay_lawful, mounts_are_sound, puts_keep_room, wear_is_even, weight_is_kept,
+    cleaning_keeps_room, cleanings_copy_little, copies_take_over, erases_are_healed,
+    full_logs_are_heavy, histories_stay_lawful, mounts_are_sound, puts_keep_room, wear_is_even,
+    weight_is_kept,
 };
 pub use log::{Log, sector_after};
 pub use log_index::{LogIndex, RecordRef};

@@ -14,29 +14,34 @@ ghost use Rattle.jffs_log.specs.LogIndex.{ref_of};
 ghost use Rattle.jffs_log.specs.ScanRead.{oldest_sector, AreRead, HasRead, IsUnread, bad_in};
 ghost use Rattle.jffs_log.specs.ScanRead.{number_of_tail, used_of_tail};
 ghost use Rattle.jffs_log.specs.ScanRead.{IsReadOnce};
+ghost use Rattle.jffs_log.specs.Shown.{IsAmong, shown_image, shown_bytes};
 
 use crate::log_index::RecordRef;
 use crate::scanning::ScanWhy;
 use crate::sector::{SectorRead, read_sector};
+use crate::shown::Shown;
 use jffs_flash::Flash;
 use jffs_node::{Node, Read};
 use std::alloc::{AllocError, Global};
 use std::collections::VecDeque;
 
-/// Reads each sector once, from the first one on, into one buffer.
+/// Reads each sector once, from the first one on, into one buffer, and sees it as is asked.
 pub(crate) fn read_sectors<F: Flash>(
     alloc: Global,
     flash: &mut F,
     sectors: u32,
     sector_size: u32,
+    shown: Shown,
 ) -> Result<Vec<SectorRead>, ScanWhy>
-    requires { (sectors * sector_size < 2 ^ 32)
+    requires sizes { (sectors * sector_size < 2 ^ 32) × (4 ≤ sector_size)
         × (length (F.device flash.old).image ≡ sectors * sector_size) }
-    ensures read { IfOk result
-        (λ found. AreRead sectors sector_size (F.device flash.old).image found.items) }
+    requires among { IsAmong shown sectors }
+    ensures read { IfOk result (λ found. AreRead sectors sector_size
+        (shown_image shown sector_size (F.device flash.old).image) found.items) }
     ensures same { IfOk result (λ _. Unchanged (F.device flash.old) (F.device flash.new)) }
     ensures refused { IfErr result (λ why. IsUnread why (F.device flash.old) (F.device flash.new)
-        (first_bad 0 (sectors_in sectors sector_size (F.device flash.old).image))) }
+        (first_bad 0 (sectors_in sectors sector_size
+        (shown_image shown sector_size (F.device flash.old).image)))) }
     ensures once { 1 ≤ sector_size
         → FailsWhereSpent (F.reads_left flash.old) (F.device flash.old) (F.device flash.new) }
     ensures unworn { F.wear flash.new ≡ F.wear flash.old }
@@ -44,31 +49,33 @@ pub(crate) fn read_sectors<F: Flash>(
     let mut found = Vec::new(alloc);
     let mut buffer = vec![in alloc; 0u8; sector_size as usize]?;
     for sector in 0..sectors {
-        let read = read_one(alloc, flash, sector, &mut buffer)?;
+        let read = read_one(alloc, flash, sector, &mut buffer, shown)?;
         found.push(read)?;
     }
     Ok(found)
 }
 
-/// Reads a sector as long as the buffer, once, and refuses a bad record.
+/// Reads a sector as long as the buffer, once, and refuses a bad record in what is shown of it.
 fn read_one<F: Flash>(
     alloc: Global,
     flash: &mut F,
     sector: u32,
     buffer: &mut [u8],
+    shown: Shown,
 ) -> Result<SectorRead, ScanWhy>
     requires { (sector * length buffer.old + length buffer.old
         ≤ length (F.device flash.old).image)
-        × (sector * length buffer.old + length buffer.old < 2 ^ 32) }
+        × (sector * length buffer.old + length buffer.old < 2 ^ 32)
+        × (4 ≤ length buffer.old) }
     ensures read { IfOk result
-        (λ s. (HasRead s sector
-        (sector_bytes (length buffer.old) sector (F.device flash.old).image))
+        (λ s. (HasRead s sector (shown_bytes shown sector
+        (sector_bytes (length buffer.old) sector (F.device flash.old).image)))
         × Unchanged (F.device flash.old) (F.device flash.new)) }
     ensures refused { IfErr result (λ why. IsUnread why (F.device flash.old) (F.device flash.new)
         (bad_in (
           sector,
-          sector_of
-              (sector_bytes (length buffer.old) sector (F.device flash.old).image),
+          sector_of (shown_bytes shown sector
+              (sector_bytes (length buffer.old) sector (F.device flash.old).image)),
         ))) }
     ensures length { length buffer.new ≡ length buffer.old }
     ensures once { IsReadOnce (sector * length buffer.old) (length buffer.old) (F.device flash.old)
@@ -77,6 +84,7 @@ fn read_one<F: Flash>(
 {
     let len = buffer.len() as u32;
     flash.read(sector * len, buffer)?;
+    shown.show(sector, buffer);
     let read = read_sector(alloc, sector, buffer)?;
     match bad_record(&read) {
         Some(why) => Err(why),

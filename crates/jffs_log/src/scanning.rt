@@ -3,12 +3,14 @@
 ghost use Rattle.std.specs.Prelude.{◌≡◌, IfOk, IfErr, MatchResult};
 ghost use Rattle.jffs_flash.specs.Device.{Unchanged};
 ghost use Rattle.jffs_flash.specs.ReadsLeft.{FailsWhereSpent};
-ghost use Rattle.jffs_log.specs.ScanFound.{IsFound, IsMounted, IsRefused};
+ghost use Rattle.jffs_log.specs.ScanFound.{IsFound, IsMounted, IsRefused, IsUnfound};
+ghost use Rattle.jffs_log.specs.Shown.{IsAmong, shown_image};
 
 use crate::folding::{GreatestNumbers, tree_of_log};
 use crate::log::Log;
 use crate::log_index::LogIndex;
 use crate::log_sectors::{Tail, is_clean, keep_log, list_records, oldest, read_sectors};
+use crate::shown::Shown;
 use jffs_flash::{Flash, FlashFault, is_geometry};
 use jffs_node::{NoMemory, Why};
 use jffs_tree::{Limits, Tree};
@@ -118,7 +120,7 @@ pub fn scan<F: Flash>(alloc: Global, mut flash: F) -> Result<Mounted<F>, ScanFau
     ensures unworn { MatchResult result (λ m. m.log.wear ≡ F.wear flash)
         (λ f. F.wear f.flash ≡ F.wear flash) }
 {
-    match find_log(alloc, &mut flash) {
+    match find_log(alloc, &mut flash, Shown::AsTheyAre) {
         Ok(found) => Ok(Mounted {
             log: Log {
                 flash,
@@ -136,22 +138,27 @@ pub fn scan<F: Flash>(alloc: Global, mut flash: F) -> Result<Mounted<F>, ScanFau
 
 /// What a scan finds, apart from the device.
 #[derive(Drop)]
-struct FoundLog {
-    index: LogIndex,
-    tree: Tree,
-    clean: bool,
-    limits: Limits,
+pub(crate) struct FoundLog {
+    pub(crate) index: LogIndex,
+    pub(crate) tree: Tree,
+    pub(crate) clean: bool,
+    pub(crate) limits: Limits,
 }
 
-/// The steps of a scan, in the order of its refusals.
-fn find_log<F: Flash>(alloc: Global, flash: &mut F) -> Result<FoundLog, ScanWhy>
+/// The steps of a scan of what is shown, in the order of its refusals.
+pub(crate) fn find_log<F: Flash>(
+    alloc: Global,
+    flash: &mut F,
+    shown: Shown,
+) -> Result<FoundLog, ScanWhy>
+    requires { IsAmong shown (F.device flash.old).sectors }
     ensures found { IfOk result
         (λ found. IsFound (F.device flash.old).sectors (F.device flash.old).sector_size
-        (F.device flash.old).image
+        (shown_image shown (F.device flash.old).sector_size (F.device flash.old).image)
         found.index found.tree found.clean found.limits) }
     ensures same { IfOk result (λ _. Unchanged (F.device flash.old) (F.device flash.new)) }
     ensures refused { IfErr result
-        (λ why. IsRefused (F.device flash.old) why (F.device flash.new)) }
+        (λ why. IsUnfound shown (F.device flash.old) why (F.device flash.new)) }
     ensures once { FailsWhereSpent (F.reads_left flash.old)
         (F.device flash.old) (F.device flash.new) }
     ensures unworn { F.wear flash.new ≡ F.wear flash.old }
@@ -161,7 +168,7 @@ fn find_log<F: Flash>(alloc: Global, flash: &mut F) -> Result<FoundLog, ScanWhy>
     if !is_geometry(sectors, sector_size) {
         return Err(ScanWhy::Geometry);
     }
-    let mut held = read_sectors(alloc, flash, sectors, sector_size)?;
+    let mut held = read_sectors(alloc, flash, sectors, sector_size, shown)?;
     let first = oldest(&held)?;
     keep_log(&mut held, first);
     let many = held.len() as u32;

@@ -75,7 +75,7 @@ fn length_of(entry: &RecordRef) -> u64
 }
 
 /// How many of the records stand in the sector and live in the tree.
-fn count_in(records: &VecDeque<RecordRef>, sector: u32, tree: &Tree) -> u32
+pub(crate) fn count_in(records: &VecDeque<RecordRef>, sector: u32, tree: &Tree) -> u32
     requires { length records.now.items < 2 ^ 32 }
     ensures { result ≡ length
         (filter (λ k. (k.sector == sector) && holds_version tree.now k.inode k.version)

@@ -66,7 +66,7 @@ fn oldest_image<F: Flash>(
 }
 
 /// Takes a node into the tree once it is tested.
-fn apply(rt: &impl Abort, tree: &mut Tree, node: &Node) -> Result<(), Cause> {
+pub(super) fn apply(rt: &impl Abort, tree: &mut Tree, node: &Node) -> Result<(), Cause> {
     assert!(rt; tree.can_apply(node));
     tree.apply(node)
 }
@@ -221,7 +221,7 @@ fn append_behind_half(
 }
 
 /// Erases the oldest sector once all conditions are tested.
-fn erase<F: Flash>(rt: &impl Abort, log: &mut Log<F>, tree: &Tree) -> Result<(), Cause> {
+pub(super) fn erase<F: Flash>(rt: &impl Abort, log: &mut Log<F>, tree: &Tree) -> Result<(), Cause> {
     assert!(rt; !log.failed() && log.oldest_dead(tree));
     log.erase_oldest(tree)
 }

@@ -29,7 +29,7 @@ blank_sector len =
     let r = reading_open (replicate len 255) [] (replicate len 255) holds (erased_open len) ∙ ap (λ b. record { nodes = []; ending = cond b Free Torn }) (all_same len 255) in
     λ i. record { erased = all_same len 255 i; reading = r i }
 
-split_erased : (count len k : ℕ) (image : List ℕ) → length image ≡ count * len → k < count → split count len (erased len k image) ≡ set (split count len image) k (replicate len 255)
+pub split_erased : (count len k : ℕ) (image : List ℕ) → length image ≡ count * len → k < count → split count len (erased len k image) ≡ set (split count len image) k (replicate len 255)
 split_erased count len k image whole below =
     let ones : length {A = ℕ} (replicate len 255) ≡ len = length-replicate len 255 in
     let bytes = sector_bytes len k image in

@@ -24,7 +24,7 @@ same_last first [] some = absurd (omega arith)
 same_last first (s ∷ later) some = refl
 
 -- how many sectors hold the log
-held_many : (count len : ℕ) (image : List ℕ) (first many tail used free : ℕ) (records : List RecordRef) → Describes count len image first many tail used free records → length (log_sectors (sectors_in count len image)) ≡ many
+pub held_many : (count len : ℕ) (image : List ℕ) (first many tail used free : ℕ) (records : List RecordRef) → Describes count len image first many tail used free records → length (log_sectors (sectors_in count len image)) ≡ many
 held_many count len image first many tail used free records h = ap (λ (xs : List Numbered). length xs) (ring_log first (sectors_in count len image) h.held h.blank h.ring).0 ∙ h.counted
 
 pub record IsIndexErased (count len : ℕ) (old new : List ℕ) (next left tail used free : ℕ) (rest : List RecordRef) : Type 0 where

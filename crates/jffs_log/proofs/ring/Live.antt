@@ -52,13 +52,13 @@ sound_set (x ∷ sectors) zero s h sound = (sound, h.1)
 sound_set (x ∷ sectors) (suc k) s h sound = (h.0, sound_set sectors k s h.1 sound)
 
 -- What a scan answers of a readable image.
-none_bad : (k at : ℕ) (r : Read) (later : Option ScanWhy) → IsGoodEnding r → bad_record k at r later ≡ later
+pub none_bad : (k at : ℕ) (r : Read) (later : Option ScanWhy) → IsGoodEnding r → bad_record k at r later ≡ later
 none_bad k at (Closed n len) later h = refl
 none_bad k at Free later h = refl
 none_bad k at Torn later h = refl
 none_bad k at (Bad why) later h = absurd h
 
-first_none : (k : ℕ) (sectors : List Sector) → AllByRecursion (λ s. IsGoodEnding s.reading.ending) sectors → first_bad k sectors ≡ None
+pub first_none : (k : ℕ) (sectors : List Sector) → AllByRecursion (λ s. IsGoodEnding s.reading.ending) sectors → first_bad k sectors ≡ None
 first_none k [] h = refl
 first_none k (s ∷ sectors) h = none_bad k (reading_len s.reading) s.reading.ending (first_bad (k + 1) sectors) h.0 ∙ first_none (k + 1) sectors h.1
 

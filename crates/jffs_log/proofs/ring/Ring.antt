@@ -76,7 +76,7 @@ used_starts : (k : ℕ) (xs : List Numbered) → AreUsed xs → starts_from fals
 used_starts k [] h = refl
 used_starts k (s ∷ xs) h = ap (λ e. starts_from e (k + 1) (sectors_of xs)) h.0 ∙ used_starts (k + 1) xs h.1
 
-abbrev start_of : List Numbered → ℕ → List ℕ
+abbrev pub start_of : List Numbered → ℕ → List ℕ
 start_of [] k = []
 start_of (s ∷ xs) k = k ∷ []
 
@@ -153,7 +153,7 @@ turned_lengths first sectors inside =
     let back = length-drop first n in
     (length-take-le first n (omega arith), omega arith)
 
-ring_starts : (first : ℕ) (sectors : List Sector) (held blank : List Numbered) → IsRing first sectors held blank → starts sectors ≡ start_of held first
+pub ring_starts : (first : ℕ) (sectors : List Sector) (held blank : List Numbered) → IsRing first sectors held blank → starts sectors ≡ start_of held first
 ring_starts first sectors held blank h =
     let n = enumerate_from 0 sectors in
     let d = drop first n in

@@ -255,6 +255,7 @@ pub record IsScan (z : ℕ) (image : List (List ℕ)) (scanned : Scanned) : Type
   pub rise : versions_rise (nodes_of (log_of (map sector_of image))) ≡ true
   pub tree : makes_tree (past_of (log_of (map sector_of image))) ≡ true
   pub log : log_of (map sector_of image) ≡ scanned.log
+  pub made : tree_of (past_of (log_of (map sector_of image))) ≡ scanned.tree
 
 pub scan_parts : (z : ℕ) (image : List (List ℕ)) (scanned : Scanned) → scan z image ≡ Ok scanned → IsScan z image scanned
 scan_parts z image scanned h =
@@ -278,6 +279,7 @@ scan_parts z image scanned h =
       rise = not-false (versions_rise (nodes_of (log_of sectors))) d.0;
       tree = not-false (makes_tree (past_of (log_of sectors))) e.0;
       log = ap (λ (s : Scanned). s.log) (ok_same result scanned e.1);
+      made = ap (λ (s : Scanned). s.tree) (ok_same result scanned e.1);
     }
 
 pub mounts_are_sound : MountsAreSound

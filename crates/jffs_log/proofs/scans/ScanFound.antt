@@ -16,8 +16,10 @@ use Rattle.jffs_log.specs.Image.{records_in, starts, oldest_of, is_one_run, turn
 use Rattle.jffs_log.specs.Volume.{split, sectors_in}
 use Rattle.jffs_log.specs.Scan.{Scanned, first_bad, versions_rise, or_refuse, unless, scan_sectors, scan}
 use Rattle.jffs_log.specs.ScanRead.{oldest_sector, AreRead, IsReadFault}
+use Rattle.jffs_log.specs.declared.shown.Shown.{Shown}
+use Rattle.jffs_log.specs.Shown.{shown_device}
 use Rattle.jffs_log.specs.Room.{following, greatest_inode, limits as limits_after}
-use Rattle.jffs_log.specs.ScanFound.{last_version, nodes_held, scan_of, IsCause, IsFound, IsRefused}
+use Rattle.jffs_log.specs.ScanFound.{last_version, nodes_held, scan_of, IsCause, IsFound, IsUnfound}
 use Rattle.jffs_log.proofs.ring.Ring.{Numbered, sectors_of, sectors_numbered, ring_lengths}
 use Rattle.jffs_log.proofs.ring.Volume.{length-split}
 use Rattle.jffs_log.proofs.ring.Live.{geometry_passed, bad_passed, rest_of_causes, answer_on, scan_reads}
@@ -135,8 +137,8 @@ pub cause_at : (why : ScanWhy) (before after count many len size : ℕ) (image :
 cause_at why before after count many len size image same_count same_len h = subst (λ k. IsCause why before after (answer many k image)) same_len (subst (λ k. IsCause why before after (answer k len image)) same_count h)
 
 -- No call has failed.
-pub unmoved : (why : ScanWhy) (device after : FlashDevice) → after ≡ device → IsCause why device.faults device.faults (scan_of device) → IsRefused device why after
-unmoved why device after same cause = subst (λ (d : FlashDevice). IsRefused device why d) (sym same) (record { cause = cause; rest = refl })
+pub unmoved : (shown : Shown) (why : ScanWhy) (device after : FlashDevice) → after ≡ device → IsCause why device.faults device.faults (scan_of (shown_device shown device)) → IsUnfound shown device why after
+unmoved shown why device after same cause = subst (λ (d : FlashDevice). IsUnfound shown device why d) (sym same) (record { cause = cause; rest = refl })
 
 pub found_at : (count many len size : ℕ) (image : List ℕ) (index : LogIndex) (tree : Tree) (clean : Bool) (limits : Limits) → count ≡ many → len ≡ size → IsFound count len image index tree clean limits → IsFound many size image index tree clean limits
 found_at count many len size image index tree clean limits same_count same_len h =

@@ -65,7 +65,7 @@ pub invariant_of-self : goal.invariant_of-self
 invariant_of-self g c =
     let here = goal.at.invariant_of-self g c in
     log_holds _ (same_sizes (g.F.Flash.device c.self.inside.flash) _ c.self.inside.index _ c.in-Ok.ensures.written c.self.invariant.sizes)
-    (indexed g here.After-push_back_reserved (made g here.After-record_len-len))
+    (indexed g here.After-push_back_reserved (made g here.After-record_len-len)) c.self.invariant.intact
 
 pub returns-in-Ok-clause-done : goal.returns-in-Ok-clause-done
 returns-in-Ok-clause-done g c =
@@ -113,6 +113,7 @@ returns-in-Err-clause-failed g c =
       device = record { left = record { sector = p.sector; offset = p.offset; cut = cut }; faults = fails.faults; rest = fails.rest };
       numbers = record { sizes = (refl, refl); first = refl; erases = refl };
       no_erase_failed = refl;
+      intact = c.self.invariant.intact (ap (λ (v : LogState). v.failed) c.self.view_is ∙ c.requires.working);
       worn = c.in-Err.ensures.worn;
       history = λ past known rules. index_cuts b b old.image new.image past (placed_at p.sector p.offset n) (refl, refl) known rules cut;
     })

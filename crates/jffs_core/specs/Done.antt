@@ -13,7 +13,7 @@ use Rattle.jffs_log.specs.Volume.{split}
 use Rattle.jffs_log.specs.Scan.{Scanned, scan}
 use Rattle.jffs_core.specs.CoreState.{CoreState}
 use Rattle.jffs_core.specs.History.{contents}
-use Rattle.jffs_core.specs.Past.{Represents}
+use Rattle.jffs_core.specs.Past.{Represents, IsOpened}
 use Rattle.jffs_core.specs.Answering.{Answers}
 
 -- The state after an answer: Appended says that what was asked for is done, and with any other
@@ -61,12 +61,11 @@ abbrev pub IsDoneOrNot : State → Wish → State → Type 0
 IsDoneOrNot before wish s = (s ≡ before)
     ⊎ ((inode : ℕ) × IsFreeFor wish before inode × (s ≡ done inode before wish))
 
--- After the answer Device, but for a failed erase, a scan finds the contents, or them with what was
--- asked for done.
+-- After the answer Device a scan finds the contents, or them with what was asked for done.
 abbrev pub DeviceIsDoneOrNot : Type 0
 DeviceIsDoneOrNot =
-    (mounted past : List Node) (old new : CoreState) (q : Request)
+    (mounted past : List Node) (old new : CoreState) (q : Request) (image : List ℕ)
     (before : Represents mounted past old)
-    → Answers mounted past old new q (Refused Device) → new.erase_failed ≡ false
+    → Answers mounted past old new q (Refused Device) → IsOpened new image
     → ScanFinds (IsDoneOrNot (contents mounted before.grown.added) q.wish) new.index.sectors
-    new.index.sector_size new.image
+    new.index.sector_size image

@@ -14,9 +14,11 @@ wants_cleaning s = not s.failed
     (s.index.sectors / 2))
 
 -- Why the oldest sector wasn't read: for want of memory or on a core that had failed, where nothing
--- is changed, or the device failed, and so has the core.
+-- is changed, or the device failed in a read, and so has the core.
 abbrev pub ReadRefused : Cause → CoreState → CoreState → Type 0
 ReadRefused Memory old new = (old.failed ≡ false) × (new ≡ old)
-ReadRefused Device old new = (old.failed ≡ false) × (new.failed ≡ true) × (old.faults < new.faults)
+ReadRefused Device old new =
+    (old.failed ≡ false) × (new.failed ≡ true) × (old.faults < new.faults)
+    × (new.erase_failed ≡ false)
 ReadRefused Failed old new = (old.failed ≡ true) × (new ≡ old)
 ReadRefused _ old new = ⊥

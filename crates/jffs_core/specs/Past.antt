@@ -1,5 +1,5 @@
 -- What a core represents: the log that was mounted, and the history since.
-use Rattle.std.specs.Prelude.{◌≡◌, ◌⊎◌, ℕ, ◌<◌, Bool, true, false, List, [], ◌∷◌, ◌++◌, Ok}
+use Rattle.std.specs.Prelude.{◌≡◌, ◌⊎◌, ℕ, ◌*◌, ◌<◌, Bool, true, false, List, [], ◌∷◌, ◌++◌, Ok}
 use Rattle.jffs_node.specs.declared.node.Node.{Node}
 use Rattle.jffs_inodes.specs.Inodes.{Tree}
 use Rattle.jffs_tree.specs.Origin.{state_in, tree_of}
@@ -9,11 +9,15 @@ use Rattle.jffs_log.specs.declared.room.Room.{Room}
 use Rattle.jffs_log.specs.Image.{is_clean, past_of}
 use Rattle.jffs_log.specs.Volume.{split, sectors_in}
 use Rattle.jffs_flash.specs.Device.{Device}
+use Rattle.jffs_flash.specs.Image.{IsHalfErased}
 use Rattle.jffs_log.specs.Scan.{Scanned, scan}
 use Rattle.jffs_log.specs.ScanFound.{scan_of}
 use Rattle.jffs_log.specs.Room.{limits as limits_of, has_room}
 use Rattle.jffs_log.specs.LogIndex.{IsLogIndex, HasSizes, layout_in}
 use Rattle.jffs_log.specs.History.{IsHistory}
+use Rattle.jffs_log.specs.Erasable.{MayErase}
+use Rattle.jffs_log.specs.Begun.{IsHealable, FindsTree}
+use Rattle.jffs_log.specs.Heal.{healed}
 use Rattle.jffs_log.specs.Cleaning.{GcState}
 use Rattle.jffs_log.specs.RoomLaws.{IsSound}
 use Rattle.jffs_core.specs.History.{MayFollow, Grows, contents}
@@ -60,12 +64,20 @@ has_room_for c room len =
 abbrev pub OrOneMore : (Node → Type 0) → List Node → (List Node → Type 0) → Type 0
 OrOneMore More past P = P past ⊎ ((n : Node) × More n × P (n ∷ past))
 
+-- The erase of the oldest sector failed, which may hold any bytes; before that the image held the
+-- newest part of this history.
+pub record WasErasing (past : List Node) (image : List ℕ) (b : LogIndex) : Type 0 where
+  pub was : List ℕ
+  pub may : MayErase b.sectors b.sector_size was past b.first
+  pub left : IsHalfErased (b.first * b.sector_size) b.sector_size was image
+
 -- What stands of a core whose device failed. Tree and image may each have one node more, of this
--- kind, and of an image nothing is known where that was an erase.
+-- kind; of an image whose erase failed the rest is known.
 pub record HasFailed (More : Node → Type 0) (past : List Node) (c : CoreState) : Type 0 where
   pub clean : c.clean ≡ true → newest_is_unmount past ≡ true
   pub tree : OrOneMore More past (λ found. c.tree ≡ tree_of found)
   pub left : c.erase_failed ≡ false → OrOneMore More past (λ found. IsHistory c.image c.index found)
+  pub erasing : c.erase_failed ≡ true → WasErasing past c.image c.index
 
 -- the core represents this history, whether or not its device failed
 pub record RepresentsPast (past : List Node) (c : CoreState) : Type 0 where
@@ -117,13 +129,24 @@ ScansFindContents =
     (mounted past : List Node) (c : CoreState) → Represents mounted past c → c.failed ≡ false
     → FindsContents mounted past c
 
--- After a failure, but for that of an erase, a scan finds the history, or it and one node more that
--- may follow.
+-- where an erase failed, what it left of its sector can be told from a log's
+abbrev pub IsSpared : CoreState → Type 0
+IsSpared c = c.erase_failed ≡ true
+    → IsHealable c.index.sectors c.index.sector_size c.image c.index.first
+
+-- the image in which a log is looked for after a failure: as it was left, unless an erase failed;
+-- or healed, unless what an erase left could be another log's
+abbrev pub IsOpened : CoreState → List ℕ → Type 0
+IsOpened c image = ((c.erase_failed ≡ false) × (image ≡ c.image))
+    ⊎ (IsSpared c × (image ≡ healed c.index.sectors c.index.sector_size c.image))
+
+-- a scan finds the tree of the history, or that of it and one node more of this kind
+abbrev pub FindsTreeOf : (Node → Type 0) → List Node → CoreState → List ℕ → Type 0
+FindsTreeOf More past c image = OrOneMore More past
+    (λ found. FindsTree (tree_of found) c.index.sectors c.index.sector_size image)
+
+-- After a failure a scan finds the history, or it and one node more that may follow.
 abbrev pub FailedScansFind : Type 0
 FailedScansFind =
-    (mounted past : List Node) (c : CoreState) → Represents mounted past c → c.failed ≡ true
-    → c.erase_failed ≡ false
-    → OrOneMore (MayFollow past) past
-    (λ found. (scanned : Scanned)
-    × (scan c.index.sector_size (split c.index.sectors c.index.sector_size c.image)
-    ≡ Ok scanned) × (scanned.tree ≡ tree_of found))
+    (mounted past : List Node) (c : CoreState) (image : List ℕ) → Represents mounted past c
+    → c.failed ≡ true → IsOpened c image → FindsTreeOf (MayFollow past) past c image

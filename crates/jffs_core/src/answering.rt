@@ -47,7 +47,7 @@ impl<F: Flash> Core<F> {
     /// for which room was to be made: then copies may stay that were made for it and sectors that
     /// were erased, and no file is changed. After Device the core is failed, and the image holds
     /// the history, or it and the node in hand: a copy that was to make room, or the node that was
-    /// decided for the request. Once an erase failed, nothing is known of the image.
+    /// decided for the request. Once an erase failed, the oldest sector may hold any bytes.
     pub fn answer(&mut self, request: Request) -> Outcome
         requires reserved { length self.old.answers < self.old.capacity }
         ensures kept { AddsAnswer request.writer request.seq result self.old self.new }

@@ -33,10 +33,11 @@ pub fn cleaning_is_lawful()
     ensures unmounts { UnmountsHaveRoom }
 {}
 
-/// A scan of a core's image finds what the fresh nodes since the mount made. After a failure, but
-/// for that of an erase, it finds that, or that with one node more; after the answer Device the
-/// state before the request, or that after it; and after a cleaning that stopped with Device the
-/// state before.
+/// A scan of a core's image finds what the fresh nodes since the mount made. After a failure it
+/// finds that, or that with one node more; after the answer Device the state before the request, or
+/// that after it; and after a cleaning that stopped with Device the state before. So it is of the
+/// image as it was left, where no erase failed, and of the image that [`heal`](jffs_log::heal)
+/// makes of it, unless what a failed erase left of its sector could be another log's.
 pub fn scans_find_contents()
     ensures works { ScansFindContents }
     ensures failed { FailedScansFind }
@@ -73,8 +74,8 @@ pub fn answers_copy_little()
 {}
 
 /// What is answered Appended is done, in words of files and directories, and no other answer
-/// changes any; a new entry never takes the place of another. After the answer Device, but for a
-/// failed erase, a scan finds what was asked for done, or nothing changed.
+/// changes any; a new entry never takes the place of another. After the answer Device a scan finds
+/// what was asked for done, or nothing changed, in the image as `scans_find_contents` has it.
 pub fn answers_are_done()
     ensures contents { AnswersAreDone }
     ensures free { AnswersAreFree }

@@ -16,6 +16,7 @@ mod cleaning;
 mod jobs;
 mod laws;
 mod mounted_core;
+mod opening;
 
 pub use answer::{Answer, Answered};
 pub use cleaning::Cleaned;
@@ -24,3 +25,4 @@ pub use laws::{
     mounts_read_each_byte_once, one_sector_is_erased, runs_go_on, scans_find_contents,
 };
 pub use mounted_core::Core;
+pub use opening::Opened;

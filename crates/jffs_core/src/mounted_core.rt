@@ -54,6 +54,8 @@ impl<F: Flash> Model for Core<F> {
 }
 
 impl<F: Flash> Core<F> {
+    ghost use Rattle.jffs_flash.specs.Device.{Device};
+    ghost use Rattle.jffs_log.specs.ScanFound.{IsMounted};
     ghost use Rattle.jffs_core.specs.Past.{IsFresh, IsLeftBy};
 
     /// Mounts a device: scans it, whatever it holds, and never writes to it. The core represents
@@ -71,13 +73,24 @@ impl<F: Flash> Core<F> {
         ensures unworn { MatchResult result (λ c. c.wear ≡ F.wear flash)
             (λ f. F.wear f.flash ≡ F.wear flash) }
     {
+        Ok(Core::of_log(alloc, scan(alloc, flash)?))
+    }
+
+    /// The core of a log that was found on a device, without answers.
+    pub(crate) fn of_log(alloc: Global, mounted: Mounted<F>) -> Core<F>
+        requires { (device : Device) × IsMounted device mounted.log mounted.tree mounted.clean
+            mounted.limits }
+        ensures fresh { (device : Device) → IsMounted device mounted.log mounted.tree mounted.clean
+            mounted.limits → IsFresh device result }
+        ensures wear { result.wear ≡ mounted.log.wear }
+    {
         let Mounted {
             log,
             tree,
             clean,
             limits,
-        } = scan(alloc, flash)?;
-        Ok(Core {
+        } = mounted;
+        Core {
             alloc,
             log,
             tree,
@@ -85,7 +98,7 @@ impl<F: Flash> Core<F> {
             clean,
             closed: false,
             answers: Vec::new(alloc),
-        })
+        }
     }
 
     /// The most bytes of data that a node may have, and the version and inode that come next, if

@@ -10,6 +10,7 @@ mod faults;
 mod images;
 mod looks;
 mod metered;
+mod opened;
 mod refusals;
 mod session;
 mod sweeps;

@@ -15,6 +15,7 @@ use Rattle.jffs_serve.specs.Replies.{Reply}
 use Rattle.jffs_run.specs.Account.{Account}
 use Rattle.jffs_run.specs.Headline.{IsRun}
 use Rattle.jffs_run.specs.Turns.{InRun}
+use Rattle.jffs_run.specs.Opened.{IsOpenedAs}
 
 -- The state after these requests, one after another: what was answered Appended is done, and
 -- nothing else.
@@ -70,14 +71,14 @@ pub record IsDoneToo (replies : List Reply) (before s : State) : Type 0 where
   pub free : IsFreeFor reply.request.wish before inode
   pub is : s ≡ done inode before reply.request.wish
 
--- Over a device that failed, but not in an erase, a scan finds the granted requests done, and at
--- most the one that was answered Device besides.
+-- Over a device that failed a scan finds, once it is opened, the granted requests done, and at most
+-- the one that was answered Device besides.
 abbrev pub FailedIsDoneOrNot : Type 0
 FailedIsDoneOrNot =
-    (before : Device) (start : CoreState) (account : Account) (fresh : IsFresh before start)
-    (run : IsRun start account) → run.core.failed ≡ true
-    → account.device.failed_erases ≡ before.failed_erases
+    (before : Device) (start : CoreState) (account : Account) (opened : Device)
+    (fresh : IsFresh before start) (run : IsRun start account) → run.core.failed ≡ true
+    → IsOpenedAs before account.device run.core opened
     → ScanFinds
     (λ s. (s ≡ granted_done fresh run.replies)
     ⊎ IsDoneToo run.replies (granted_done fresh run.replies) s)
-    account.device.sectors account.device.sector_size account.device.image
+    opened.sectors opened.sector_size opened.image

@@ -17,3 +17,4 @@ pub mod Seen
 pub mod Heavy
 pub mod Done
 pub mod Sessions
+pub mod Opened

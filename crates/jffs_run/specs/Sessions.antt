@@ -15,6 +15,7 @@ use Rattle.jffs_run.specs.Headline.{IsRun}
 use Rattle.jffs_run.specs.declared.fault.RunWhy.{RunWhy}
 use Rattle.jffs_run.specs.Faults.{AskedBy, IsGivenUp, LeftByTurns}
 use Rattle.jffs_run.specs.Done.{done_by_all, IsDoneToo}
+use Rattle.jffs_run.specs.Opened.{IsOpenedAs}
 
 -- The device was mounted, and is left as a core left it after some turns.
 pub record HadSession (given left : Device) : Type 0 where
@@ -35,29 +36,33 @@ pub record HoldSame (a b : Device) : Type 0 where
   pub sizes_are : b.sector_size ≡ a.sector_size
   pub images_are : b.image ≡ a.image
 
--- a device as a session was given it, and as it left it
+-- a device as a session was given it, as it left it, and as it was opened then
 pub record Stretch : Type 0 where
   pub given : Device
   pub left : Device
+  pub opened : Device
 
--- One session after another, each on what the one before it left, and in none an erase failed: the
--- device's count of those is after it what it was before.
+-- a session, and how its device was opened after it
+pub record HadStretch (s : Stretch) : Type 0 where
+  pub session : HadSession s.given s.left
+  pub opens : IsOpenedAs s.given s.left session.turns.core s.opened
+
+-- One session after another, each on the device as it was opened after the one before it.
 abbrev pub Sessions : Device → List Stretch → Type 0
 Sessions device [] = Unit {0}
-Sessions device (s ∷ later) = HoldSame device s.given × HadSession s.given s.left
-    × (s.left.failed_erases ≡ s.given.failed_erases) × Sessions s.left later
+Sessions device (s ∷ later) = HoldSame device s.given × HadStretch s × Sessions s.opened later
 
--- the device as the last of them left it
+-- the device as it was opened after the last of them
 abbrev pub left_last : Device → List Stretch → Device
 left_last device [] = device
-left_last device (s ∷ later) = left_last s.left later
+left_last device (s ∷ later) = left_last s.opened later
 
 -- what all of them make of a state, one after another
 abbrev pub MakeAll : (device : Device) (stretches : List Stretch) → Sessions device stretches
     → State → State → Type 0
 MakeAll device [] sessions s t = t ≡ s
 MakeAll device (stretch ∷ later) sessions s t = (between : State)
-    × Makes sessions.1 s between × MakeAll stretch.left later sessions.3 between t
+    × Makes sessions.1.session s between × MakeAll stretch.opened later sessions.2 between t
 
 -- After any number of sessions a scan finds what they made of the state that a scan found at first.
 abbrev pub SessionsAreDone : Type 0

@@ -44,16 +44,18 @@ abbrev pub ErasedInSessions : (count first : ℕ) (device : Device) (stretches :
     → Sessions device stretches → List ℕ → Type 0
 ErasedInSessions count first device [] sessions [] = Unit {0}
 ErasedInSessions count first device (stretch ∷ later) sessions (many ∷ more) =
-    ErasedInSession count first many sessions.1
-    × ErasedInSessions count (sector_after_each count first many) stretch.left later sessions.3 more
+    ErasedInSession count first many sessions.1.session
+    × ErasedInSessions count (sector_after_each count first many) stretch.opened later sessions.2
+    more
 ErasedInSessions count first device _ sessions _ = ⊥
 
 -- In none of these sessions the device failed, and each left a sector that holds the log.
 abbrev pub EndWorking : (device : Device) (stretches : List Stretch) → Sessions device stretches
     → Type 0
 EndWorking device [] sessions = Unit {0}
-EndWorking device (stretch ∷ later) sessions = (sessions.1.turns.core.failed ≡ false)
-    × (1 ≤ sessions.1.turns.core.index.held) × EndWorking stretch.left later sessions.3
+EndWorking device (stretch ∷ later) sessions = (sessions.1.session.turns.core.failed ≡ false)
+    × (1 ≤ sessions.1.session.turns.core.index.held)
+    × EndWorking stretch.opened later sessions.2
 
 -- Over sessions that follow one another the ring goes on where it was: of any two sectors the one
 -- was erased at most once more often than the other, in all of them together.
@@ -61,12 +63,12 @@ abbrev pub SessionsWearEvenly : Type 0
 SessionsWearEvenly =
     (device : Device) (stretch : Stretch) (later : List Stretch)
     (sessions : Sessions device (stretch ∷ later)) → EndWorking device (stretch ∷ later) sessions
-    → (erases : List ℕ)
-    × ErasedInSessions sessions.1.start.index.sectors sessions.1.start.index.first device
-    (stretch ∷ later) sessions erases
-    × ((j k : ℕ) → j < sessions.1.start.index.sectors → k < sessions.1.start.index.sectors
-    → erases_over sessions.1.start.index.sectors sessions.1.start.index.first erases j
-    ≤ erases_over sessions.1.start.index.sectors sessions.1.start.index.first erases k + 1)
+    → let start = sessions.1.session.start.index in
+    (erases : List ℕ)
+    × ErasedInSessions start.sectors start.first device (stretch ∷ later) sessions erases
+    × ((j k : ℕ) → j < start.sectors → k < start.sectors
+    → erases_over start.sectors start.first erases j
+    ≤ erases_over start.sectors start.first erases k + 1)
 
 pub record RunsWearEvenly : Type 0 where
   pub each : EachRunWearsEvenly

@@ -13,8 +13,9 @@ ghost use Rattle.jffs_run.specs.Work.{RunsWorkLittle};
 
 /// What the contract of `run_threads` says of the core, said of the device: the answers are lawful
 /// for their requests, and a scan finds what the fresh nodes appended since the mount made. Where
-/// the device failed, but not in an erase, a scan finds that, or what the node of the request that
-/// was answered Device makes of it.
+/// the device failed, a scan finds that, or what the node of the request that was answered Device
+/// makes of it: on the device as it was left, where no erase failed, and once it is healed, unless
+/// what a failed erase left of its sector could be another log's.
 pub fn runs_leave_contents()
     ensures works { RunsLeaveContents }
     ensures failed { FailedRunsLeaveHistory }
@@ -91,9 +92,9 @@ pub fn readers_see_answers()
 /// A scan after `run_threads` finds what a scan before it found, with the granted requests done, in
 /// the order of their answers and in words of files and directories, and nothing else; and so does
 /// a scan of the device as it is with any one answer that tells of no failure, of those up to
-/// there, whatever becomes of the device later. Where the device failed, but not in an erase, the
-/// request that was answered Device may be done besides. A new entry never takes the place of
-/// another.
+/// there, whatever becomes of the device later. Where the device failed, the request that was
+/// answered Device may be done besides, on the device as `runs_leave_contents` has it. A new entry
+/// never takes the place of another.
 pub fn granted_is_done()
     ensures works { GrantedIsDone }
     ensures each { EachIsDone }
@@ -102,10 +103,11 @@ pub fn granted_is_done()
 {}
 
 /// After any number of sessions on one device, each of which ended in order, for want of memory, or
-/// by a fault of the device that was no failed erase, a scan finds what the granted requests of all
-/// of them make of what a scan found at first; of each that a fault ended perhaps the request in
-/// hand besides. Each call of `run_threads` that mounted the device is a session, that of the
-/// answers that it gave.
+/// by a fault of the device, a scan finds what the granted requests of all of them make of what a
+/// scan found at first; of each that a fault ended perhaps the request in hand besides. Each session
+/// is given the device as the one before it left it, or healed, and after one in which an erase
+/// failed it is healed, unless what the erase left of its sector could be another log's. Each call
+/// of `run_threads` that mounted the device is a session, that of the answers that it gave.
 pub fn sessions_are_done()
     ensures done { SessionsAreDone }
     ensures runs { RunsAreSessions }

@@ -92,7 +92,7 @@ module _ {mounted past : List Node} {was now : CoreState} {r : Reply} (replied :
       let same : past ≡ after = sym (step.joined ∙ (ap (λ (own : List Node). own ++ step.copies ++ past) why.1 ∙ ap (λ (copies : List Node). copies ++ past) why.0.1)) in
       let h = failed_more (InHandOf volume replies past) (InHandOf volume (replies ++ r ∷ []) past) (more_replies volume replies r past) past was left in
       subst (λ (nodes : List Node). HasFailed (InHandOf volume (replies ++ r ∷ []) nodes) nodes now) same
-      (subst (HasFailed (InHandOf volume (replies ++ r ∷ []) past) past) (sym (replied.kept had)) (record { clean = h.clean; tree = h.tree; left = h.left }))
+      (subst (HasFailed (InHandOf volume (replies ++ r ∷ []) past) past) (sym (replied.kept had)) (record { clean = h.clean; tree = h.tree; left = h.left; erasing = h.erasing }))
 
   -- a core that fails with this answer
   fails_now : (volume : Volume) (replies : List Reply) → volume_of was ≡ volume → was.failed ≡ false → is_failure r.step.outcome ≡ true → HasFailed (InHandOf volume (replies ++ r ∷ []) after) after now

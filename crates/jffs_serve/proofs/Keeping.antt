@@ -28,7 +28,7 @@ keeps_worked old new keeps works = false_from_ne_true old.failed (λ had. both_w
 
 -- Of a core that failed, nothing that is said depends on the capacity.
 pub failed_but_capacity : (More : Node → Type 0) (past : List Node) (old new : CoreState) → IsSameButCapacity old new → HasFailed More past old → HasFailed More past new
-failed_but_capacity More past old new same h = subst (HasFailed More past) (sym same) (record { clean = h.clean; tree = h.tree; left = h.left })
+failed_but_capacity More past old new same h = subst (HasFailed More past) (sym same) (record { clean = h.clean; tree = h.tree; left = h.left; erasing = h.erasing })
 
 -- A call that changed nothing that a history says of a core.
 pub same_but_capacity : (old new : CoreState) → IsSameButCapacity old new → KeepsHistory old new
@@ -121,13 +121,14 @@ unchanged old new same = subst (KeepsHistory old) (sym same) (same_but_capacity 
 
 -- a read failed of a core that had worked
 read_failed :
-    (old new : CoreState) → old.failed ≡ false → new ≡ record old { failed = new.failed; faults = new.faults } → new.failed ≡ true → old.faults < new.faults
+    (old new : CoreState) → old.failed ≡ false → new ≡ record old { failed = new.failed; faults = new.faults } → new.failed ≡ true → old.faults < new.faults → new.erase_failed ≡ false
     → ((mounted past : List Node) → Represents mounted past old → Represents mounted past new) → KeepsHistory old new
-read_failed old new works same now risen stands =
+read_failed old new works same now risen intact stands =
     let left : (past : List Node) → RepresentsWorking past old → HasFailed (λ n. ⊥) past new = λ past k. subst (HasFailed (λ n. ⊥) past) (sym same) (record {
       clean = λ is. clean_ends past old.image old.index old.tree old.limits old.clean k is;
       tree = inl k.tree_is;
       left = λ e. inl k.history;
+      erasing = λ e. absurd (both_ways old.erase_failed (ap (λ (c : CoreState). c.erase_failed) (sym same) ∙ intact) e);
     }) in
     record {
       sizes = subst (λ (c : CoreState). HasSizes old.index.sectors old.index.sector_size c.index) (sym same) (refl, refl);
@@ -151,7 +152,7 @@ read_kept old new (Err cause) works same ok refused stands = by_cause cause refu
   where
     by_cause : (cause : Cause) → ReadRefused cause old new → KeepsHistory old new
     by_cause causes.Memory why = unchanged old new why.1
-    by_cause causes.Device why = read_failed old new works same why.1 why.2 stands
+    by_cause causes.Device why = read_failed old new works same why.1 why.2 why.3 stands
     by_cause causes.Failed why = unchanged old new why.1
     by_cause _ why = absurd why
 

@@ -109,9 +109,9 @@ trees_are_done mounted past old new q o before answer worked works =
     ∙ ap (λ x. done_by x q.wish o) (sym (state_known past old (before.stands.working worked)))
 
 pub device_is_done_or_not : DeviceIsDoneOrNot
-device_is_done_or_not mounted past old new q before answer intact =
+device_is_done_or_not mounted past old new q image before answer opened =
     let t = turn_of past old new in
-    let f = failed_found (IsNodeFor t q answer.after) answer.after new (answer.in_hand refl) intact in
+    let f = failed_found (IsNodeFor t q answer.after) answer.after new image (answer.in_hand refl) opened in
     let same = sym (contents_grown mounted past before.grown) in
     let kept = step_done t q (Refused Device) answer.after answer.step in
     record {

@@ -39,6 +39,7 @@ failed_more P Q f after c h = record {
   clean = h.clean;
   tree = more_kinds P Q f after (λ found. c.tree ≡ tree_of found) h.tree;
   left = λ intact. more_kinds P Q f after (λ found. IsHistory c.image c.index found) (h.left intact);
+  erasing = h.erasing;
 }
 
 -- What follows in each of the four cases follows for every cause.

@@ -379,7 +379,7 @@ failed_answer past c q fails h = record {
 kept_past : (writer seq : ℕ) (o : Outcome) (after : List Node) (middle new : CoreState) → KeepsAnswer writer seq o middle new → RepresentsPast after middle → RepresentsPast after new
 kept_past writer seq o after middle new kept h = subst (RepresentsPast after) (sym kept) (record {
   working = h.working;
-  broken = λ f. let b = h.broken f in record { clean = b.clean; tree = b.tree; left = b.left };
+  broken = λ f. let b = h.broken f in record { clean = b.clean; tree = b.tree; left = b.left; erasing = b.erasing };
 })
 
 pub answered : (writer seq : ℕ) (o : Outcome) (node : Option Node) (mounted past : List Node) (old middle new : CoreState) (q : Request) → Grows mounted past → HasAnswered past old middle q o node → KeepsAnswer writer seq o middle new → AnswersWith mounted past old new q o node
@@ -400,7 +400,7 @@ answered writer seq o node mounted past old middle new q grown h kept =
         in_hand = λ device.
             let b = h.in_hand device in
             subst (λ t. HasFailed (IsInHand t q h.after) h.after new) same
-            (subst (HasFailed (IsInHand (turn_of past old middle) q h.after) h.after) (sym kept) (record { clean = b.clean; tree = b.tree; left = b.left }));
+            (subst (HasFailed (IsInHand (turn_of past old middle) q h.after) h.after) (sym kept) (record { clean = b.clean; tree = b.tree; left = b.left; erasing = b.erasing }));
         programs = subst (λ t. ProgramsFor t q o past h.after old new) same
             (subst (λ (c : CoreState). ProgramsFor (turn_of past old middle) q o past h.after old c) (sym kept) h.programs);
         two = λ k e. subst (λ (c : CoreState). 2 ≤ (layout_in c.image c.index).erased) (sym kept) (h.two k e);

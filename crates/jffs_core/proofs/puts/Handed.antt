@@ -1,5 +1,5 @@
 -- What a call of the log leaves of the core that made it.
-use Rattle.std.proofs.Common.{◌≡◌, ◌<◌, ◌≤◌, ℕ, inl, Bool, false, List, length, sym, ap, subst, ◌∙◌, Result, Ok, Err, OnOk, IfErr}
+use Rattle.std.proofs.Common.{◌≡◌, ◌*◌, ◌<◌, ◌≤◌, ℕ, inl, Bool, false, List, length, sym, ap, subst, ◌∙◌, Result, Ok, Err, OnOk, IfErr}
 use Rattle.std.proofs.lemmas.Bool.{both_ways}
 use Rattle.jffs_node.specs.declared.node.Node.{Node}
 use Rattle.jffs_inodes.specs.Inodes.{Tree}
@@ -7,12 +7,14 @@ use Rattle.jffs_tree.specs.declared.wish.Limits.{Limits}
 use Rattle.jffs_tree.specs.declared.wish.Cause.{Cause}
 use Rattle.jffs_tree.specs.declared.wish.Cause.TheVariants as causes
 use Rattle.jffs_flash.specs.Device.{Device}
+use Rattle.jffs_flash.specs.Image.{IsHalfErased}
 use Rattle.jffs_log.specs.declared.log_index.LogIndex.{LogIndex}
-use Rattle.jffs_log.specs.LogIndex.{layout_in}
+use Rattle.jffs_log.specs.LogIndex.{layout_in, HasSizes}
+use Rattle.jffs_log.specs.Erasable.{MayErase}
 use Rattle.jffs_log.specs.LogState.{LogState, ErasedOldest, EraseFailed, ReadFailed, ReadStopped}
 use Rattle.jffs_core.specs.CoreState.{CoreState}
 use Rattle.jffs_core.specs.History.{IsOwnCopy}
-use Rattle.jffs_core.specs.Past.{IsPast, HasFailed, HasLogIndex}
+use Rattle.jffs_core.specs.Past.{IsPast, HasFailed, HasLogIndex, WasErasing}
 use Rattle.jffs_core.specs.Calls.{RefusedAt}
 use Rattle.jffs_core.proofs.scans.Mounting.{clean_ends}
 use Rattle.jffs_core.proofs.answers.Refusing.{same_programs}
@@ -24,24 +26,42 @@ pub erased_left : (past : List Node) (old new : LogState) (tree : Tree) (limits 
 erased_left past old new tree limits clean h several e =
     erased_past past old.device.image new.device.image old.index new.index tree limits clean h (e.history past h.tree_is h.history) e.works.told e.layout_is e.clean e.sizes several
 
--- What is left where the device failed in a call that appends nothing: an erase, of whose image
--- nothing is known, or a read.
-pub erase_left : (past : List Node) (old new : LogState) (core : CoreState) (why : Cause) → IsPast past old.device.image old.index core.tree core.limits core.clean → EraseFailed why old new
-    → core.erase_failed ≡ new.erase_failed → HasFailed (λ n. ⊥) past core
-erase_left past old new core why h f same = record {
+-- what an erase that failed left of the log
+erased_part : (past : List Node) (old new : LogState) (image : List ℕ) (b : LogIndex) → image ≡ new.device.image → b ≡ new.index → HasSizes old.index.sectors old.index.sector_size new.index → new.index.first ≡ old.index.first
+    → IsHalfErased (old.index.first * old.index.sector_size) old.index.sector_size old.device.image new.device.image → MayErase old.index.sectors old.index.sector_size old.device.image past old.index.first → WasErasing past image b
+erased_part past old new image b same_image same_index sizes first left may =
+    let count : old.index.sectors ≡ b.sectors = sizes.0 ∙ ap (λ (i : LogIndex). i.sectors) (sym same_index) in
+    let len : old.index.sector_size ≡ b.sector_size = sizes.1 ∙ ap (λ (i : LogIndex). i.sector_size) (sym same_index) in
+    let begins : old.index.first ≡ b.first = sym first ∙ ap (λ (i : LogIndex). i.first) (sym same_index) in
+    record {
+      was = old.device.image;
+      may = subst (λ k. MayErase b.sectors b.sector_size old.device.image past k) begins
+          (subst (λ z. MayErase b.sectors z old.device.image past old.index.first) len
+          (subst (λ n. MayErase n old.index.sector_size old.device.image past old.index.first) count may));
+      left = subst (λ xs. IsHalfErased (b.first * b.sector_size) b.sector_size old.device.image xs) (sym same_image)
+          (subst (λ k. IsHalfErased (k * b.sector_size) b.sector_size old.device.image new.device.image) begins
+          (subst (λ z. IsHalfErased (old.index.first * z) z old.device.image new.device.image) len left));
+    }
+
+-- What is left where the device failed in a call that appends nothing: an erase, or a read.
+pub erase_left : (past : List Node) (old new : LogState) (core : CoreState) (why : Cause) → IsPast past old.device.image old.index core.tree core.limits core.clean → EraseFailed core.tree why old new
+    → core.erase_failed ≡ new.erase_failed → core.image ≡ new.device.image → core.index ≡ new.index → HasFailed (λ n. ⊥) past core
+erase_left past old new core why h f same same_image same_index = record {
   clean = λ is. clean_ends past old.device.image old.index core.tree core.limits core.clean h is;
   tree = inl h.tree_is;
   left = λ intact. absurd (both_ways _ intact (same ∙ f.erase_failed));
+  erasing = λ failed. erased_part past old new core.image core.index same_image same_index f.sizes f.first f.device.left (f.may past h.tree_is h.history);
 }
 
 pub read_left : (past : List Node) (old new : LogState) (core : CoreState) → IsPast past old.device.image old.index core.tree core.limits core.clean → ReadFailed old new
-    → core.image ≡ new.device.image → core.index ≡ new.index → HasFailed (IsOwnCopy past) past core
-read_left past old new core h f same_image same_book =
+    → core.image ≡ new.device.image → core.index ≡ new.index → core.erase_failed ≡ new.erase_failed → HasFailed (IsOwnCopy past) past core
+read_left past old new core h f same_image same_book same_erase =
     let now = read_past past old.device.image core.image old.index core.index core.tree core.limits core.clean (same_image ∙ f.device.left) (same_book ∙ f.index) h in
     record {
       clean = λ is. clean_ends past old.device.image old.index core.tree core.limits core.clean h is;
       tree = inl h.tree_is;
       left = λ intact. inl now.history;
+      erasing = λ failed. absurd (both_ways _ (same_erase ∙ f.intact) failed);
     }
 
 -- A read is stopped for want of memory or by the device, and by nothing else.
@@ -65,8 +85,8 @@ read_refused F old new same failed causes.Failed h = absurd h
 
 -- What a core is left with where a read stopped.
 pub read_stops : (why : Cause) (past : List Node) (old new : LogState) (before after : CoreState) → ReadStopped why old new → old.failed ≡ false → IsPast past old.device.image old.index after.tree after.limits after.clean → before.faults ≡ old.device.faults
-    → before.wear ≡ old.wear → after.failed ≡ new.failed → after.faults ≡ new.device.faults → after.wear ≡ new.wear → after.image ≡ new.device.image → after.index ≡ new.index → RefusedAt why past past before after
-read_stops why past old new before after stopped works known begun unworn failed faults wear image index =
+    → before.wear ≡ old.wear → after.failed ≡ new.failed → after.faults ≡ new.device.faults → after.wear ≡ new.wear → after.image ≡ new.device.image → after.index ≡ new.index → after.erase_failed ≡ new.erase_failed → RefusedAt why past past before after
+read_stops why past old new before after stopped works known begun unworn failed faults wear image index erases =
     read_refused (λ c. RefusedAt c past past before after) old new
     (λ same. record {
       works = failed ∙ ap (λ (l : LogState). l.failed) same ∙ works;
@@ -78,7 +98,7 @@ read_stops why past old new before after stopped works known begun unworn failed
       fails = failed ∙ read.failed;
       faults = subst (λ (k : ℕ). before.faults < k) (sym faults) (subst (λ (k : ℕ). k < new.device.faults) (sym begun) read.device.faults);
       programs = inl (same_programs past before after (wear ∙ read.wear ∙ sym unworn));
-      left = read_left past old new after known read image index;
+      left = read_left past old new after known read image index erases;
     })
     why stopped
 

@@ -23,7 +23,8 @@ use Rattle.jffs_run.specs.Account.{Account}
 use Rattle.jffs_run.specs.Headline.{IsRun}
 use Rattle.jffs_run.specs.Faults.{LeftByTurns}
 use Rattle.jffs_run.specs.Done.{done_by_all, granted_done, AllFree, IsDoneToo, RunsAreFree, GrantedIsDone, EachIsDone, FailedIsDoneOrNot}
-use Rattle.jffs_run.proofs.ends.Scanning.{ends_so, no_erase_failed, same_scan}
+use Rattle.jffs_run.specs.Opened.{IsOpenedAs}
+use Rattle.jffs_run.proofs.ends.Scanning.{ends_so, same_scan, opens_core, as_left}
 use Rattle.jffs_run.proofs.promises.Turns.{turn_in}
 
 -- a turn does what its answer says
@@ -132,21 +133,29 @@ done_too start replies after n h s is =
       is = is ∙ ap (λ x. apply x n) same ∙ node_done h.turn h.reply.request after n h.node ∙ ap (λ x. done n.inode x h.reply.request.wish) (sym same);
     }
 
--- where the core failed, but not in an erase, they are done, and at most one that was answered
--- Device besides
+-- and once it is opened
+pub turned_opened :
+    (before after opened : Device) (start : CoreState) (fresh : IsFresh before start) (turns : LeftByTurns start after) → turns.core.failed ≡ false → IsOpenedAs before after turns.core opened
+    → ScanFinds (λ s. s ≡ granted_done fresh turns.replies) opened.sectors opened.sector_size opened.image
+turned_opened before after opened start fresh turns works opens =
+    let found = turned_done before after start fresh turns works in
+    let same = as_left before after opened turns.core found.scanned found.found opens in
+    subst (λ (d : Device). ScanFinds (λ s. s ≡ granted_done fresh turns.replies) d.sectors d.sector_size d.image) (sym same) found
+
+-- where the core failed they are done, and at most one that was answered Device besides
 pub turned_failed :
-    (before after : Device) (start : CoreState) (fresh : IsFresh before start) (turns : LeftByTurns start after)
-    → turns.core.failed ≡ true → after.failed_erases ≡ before.failed_erases
-    → ScanFinds (λ s. (s ≡ granted_done fresh turns.replies) ⊎ IsDoneToo turns.replies (granted_done fresh turns.replies) s) after.sectors after.sector_size after.image
-turned_failed before after start fresh turns fails intact =
+    (before after opened : Device) (start : CoreState) (fresh : IsFresh before start) (turns : LeftByTurns start after)
+    → turns.core.failed ≡ true → IsOpenedAs before after turns.core opened
+    → ScanFinds (λ s. (s ≡ granted_done fresh turns.replies) ⊎ IsDoneToo turns.replies (granted_done fresh turns.replies) s) opened.sectors opened.sector_size opened.image
+turned_failed before after opened start fresh turns fails opens =
     let ran = turns.lawful _ _ fresh.stands in
     let ends = ends_so fresh ran in
-    let f = failed_found (IsRequested (volume_of start) turns.replies ran.after) ran.after turns.core (ends.in_hand fresh.works fails)
-    (no_erase_failed before after start turns.core fresh turns.left ends.device intact) in
+    let o = opens_core before after opened start turns.core fresh turns.left ends.device opens in
+    let f = failed_found (IsRequested (volume_of start) turns.replies ran.after) ran.after turns.core opened.image (ends.in_hand fresh.works fails) o.image in
     let done_all = chain_done _ _ ran.after start turns.core turns.replies ran.chain ∙ ap (λ x. done_by_all x turns.replies) (state_mounted before start fresh) in
     record {
       scanned = f.0;
-      found = same_scan turns.core after turns.left ∙ f.1;
+      found = o.scan ∙ f.1;
       state_is = ⊎_elim
           (λ same. inl (same ∙ done_all))
           (λ more. inr (subst (λ (x : State). IsDoneToo turns.replies x (state_in f.0.tree)) done_all
@@ -155,4 +164,4 @@ turned_failed before after start fresh turns fails intact =
     }
 
 pub failed_is_done_or_not : FailedIsDoneOrNot
-failed_is_done_or_not before start account fresh run fails intact = turned_failed before account.device start fresh (turns_of start account run) fails intact
+failed_is_done_or_not before start account opened fresh run fails opens = turned_failed before account.device opened start fresh (turns_of start account run) fails opens

@@ -10,7 +10,8 @@ use Rattle.jffs_log.specs.Scan.{Scanned, scan}
 use Rattle.jffs_log.specs.ScanFound.{scan_of}
 use Rattle.jffs_core.specs.Done.{ScanFinds}
 use Rattle.jffs_run.specs.Sessions.{HadSession, Makes, HoldSame, SessionsAreDone, RunsAreSessions, FaultsEndSessions}
-use Rattle.jffs_run.proofs.promises.Done.{turns_of, turned_done, turned_failed}
+use Rattle.jffs_run.specs.Opened.{IsOpenedAs}
+use Rattle.jffs_run.proofs.promises.Done.{turns_of, turned_opened, turned_failed}
 
 -- devices that hold the same give the same scan
 scan_same : (a b : Device) → HoldSame a b → scan_of b ≡ scan_of a
@@ -18,30 +19,30 @@ scan_same a b same = λ i. scan (same.sizes_are i) (split (same.sectors_are i) (
 
 -- what a scan finds after one session
 one_made :
-    (given left : Device) (session : HadSession given left) → left.failed_erases ≡ given.failed_erases
-    → ScanFinds (Makes session (state_in session.fresh.scanned.tree)) left.sectors left.sector_size left.image
-one_made given left session intact = ⊎_elim failed worked (cases_Bool session.turns.core.failed)
+    (given left opened : Device) (session : HadSession given left) → IsOpenedAs given left session.turns.core opened
+    → ScanFinds (Makes session (state_in session.fresh.scanned.tree)) opened.sectors opened.sector_size opened.image
+one_made given left opened session opens = ⊎_elim failed worked (cases_Bool session.turns.core.failed)
   where
     Is : State → Type 0
     Is = Makes session (state_in session.fresh.scanned.tree)
 
-    failed : session.turns.core.failed ≡ true → ScanFinds Is left.sectors left.sector_size left.image
+    failed : session.turns.core.failed ≡ true → ScanFinds Is opened.sectors opened.sector_size opened.image
     failed fails =
-        let found = turned_failed given left session.start session.fresh session.turns fails intact in
+        let found = turned_failed given left opened session.start session.fresh session.turns fails opens in
         record { scanned = found.scanned; found = found.found; state_is = ⊎_elim inl (λ too. inr (fails, too)) found.state_is }
 
-    worked : session.turns.core.failed ≡ false → ScanFinds Is left.sectors left.sector_size left.image
+    worked : session.turns.core.failed ≡ false → ScanFinds Is opened.sectors opened.sector_size opened.image
     worked works =
-        let found = turned_done given left session.start session.fresh session.turns works in
+        let found = turned_opened given left opened session.start session.fresh session.turns works opens in
         record { scanned = found.scanned; found = found.found; state_is = inl found.state_is }
 
 pub sessions_are_done : SessionsAreDone
 sessions_are_done device [] sessions first is = record { scanned = first; found = is; state_is = refl }
 sessions_are_done device (stretch ∷ later) sessions first is =
-    let session = sessions.1 in
+    let session = sessions.1.session in
     let same : session.fresh.scanned ≡ first = ok_same session.fresh.scanned first (sym session.fresh.found ∙ scan_same device stretch.given sessions.0 ∙ is) in
-    let one = one_made stretch.given stretch.left session sessions.2 in
-    let rest = sessions_are_done stretch.left later sessions.3 one.scanned one.found in
+    let one = one_made stretch.given stretch.left stretch.opened session sessions.1.opens in
+    let rest = sessions_are_done stretch.opened later sessions.2 one.scanned one.found in
     record {
       scanned = rest.scanned;
       found = rest.found;

@@ -1,5 +1,5 @@
 -- The sectors wear evenly over the turns of a run, and over sessions.
-use Rattle.std.proofs.Common.{◌≡◌, ℕ, ◌<◌, ◌≤◌, false, List, [], ◌∷◌, refl, sym, ap, ◌∙◌}
+use Rattle.std.proofs.Common.{◌≡◌, ℕ, ◌<◌, ◌≤◌, false, List, [], ◌∷◌, refl, sym, ap, subst, ◌∙◌}
 use Rattle.jffs_flash.specs.Device.{Device}
 use Rattle.jffs_node.specs.declared.node.Node.{Node}
 use Rattle.jffs_log.specs.Wear.{sector_after_each}
@@ -12,7 +12,8 @@ use Rattle.jffs_core.proofs.room.Erasing.{mounts_go_on, uses_along}
 use Rattle.jffs_serve.proofs.ChainLaws.{worked_before}
 use Rattle.jffs_run.specs.Sessions.{Stretch, Sessions}
 use Rattle.jffs_run.specs.Wear.{IsWornEvenly, EachRunWearsEvenly, ErasedInSessions, EndWorking, SessionsWearEvenly, RunsWearEvenly}
-use Rattle.jffs_run.proofs.ends.Scanning.{ends_so}
+use Rattle.jffs_run.proofs.ends.Scanning.{ends_so, as_left}
+use Rattle.jffs_run.proofs.promises.Done.{turned_done}
 use Rattle.jffs_run.proofs.promises.Turns.{turn_in, so_far}
 
 worn : (start now : CoreState) → start.index.first < start.index.sectors → ErasesInTurn start now → IsWornEvenly start now
@@ -36,14 +37,14 @@ each_run_wears_evenly before start account fresh run =
 -- the first of these sessions begins with that sector
 abbrev BeginsAt : (count first : ℕ) (device : Device) (stretches : List Stretch) → Sessions device stretches → Type 0
 BeginsAt count first device [] sessions = Unit {0}
-BeginsAt count first device (stretch ∷ later) sessions = (sessions.1.start.index.sectors ≡ count) × (sessions.1.start.index.first ≡ first)
+BeginsAt count first device (stretch ∷ later) sessions = (sessions.1.session.start.index.sectors ≡ count) × (sessions.1.session.start.index.first ≡ first)
 
 next_begins : (count first : ℕ) (mounted past : List Node) (core : CoreState) (left : Device) (later : List Stretch) (sessions : Sessions left later) → Represents mounted past core → core.failed ≡ false → 1 ≤ core.index.held → IsLeftBy core left
     → core.index.sectors ≡ count → core.index.first ≡ first → BeginsAt count first left later sessions
 next_begins count first mounted past core left [] sessions stands works some by sectors at = tt
 next_begins count first mounted past core left (stretch ∷ later) sessions stands works some by sectors at =
     let same = sessions.0 in
-    let next = sessions.1 in
+    let next = sessions.1.session in
     let device = next.fresh.device_is in (
       sym device.sizes.0 ∙ same.sectors_are ∙ by.sizes.0 ∙ sectors,
       mounts_go_on mounted past core next.start stretch.given stands works some next.fresh (same.images_are ∙ by.image_is) (same.sectors_are ∙ by.sizes.0, same.sizes_are ∙ by.sizes.1) ∙ at,
@@ -53,7 +54,7 @@ each_erased : (count first : ℕ) (device : Device) (stretches : List Stretch) (
     → (erases : List ℕ) × ErasedInSessions count first device stretches sessions erases
 each_erased count first device [] sessions worked at = ([], tt)
 each_erased count first device (stretch ∷ later) sessions worked at =
-    let session = sessions.1 in
+    let session = sessions.1.session in
     let turns = session.turns in
     let start = session.start in
     let ran = turns.lawful _ _ session.fresh.stands in
@@ -64,13 +65,16 @@ each_erased count first device (stretch ∷ later) sessions worked at =
     turned.first
     ∙ ap (λ (c : ℕ). sector_after_each c start.index.first turned.many) at.0
     ∙ ap (λ (f : ℕ). sector_after_each count f turned.many) at.1 in
-    let begins = next_begins count (sector_after_each count first turned.many) _ ran.after turns.core stretch.left later sessions.3 so.stands worked.0 worked.1 turns.left (turned.sectors ∙ at.0) to in
-    let rest = each_erased count (sector_after_each count first turned.many) stretch.left later sessions.3 worked.2 begins in
+    let found = turned_done stretch.given stretch.left start session.fresh turns worked.0 in
+    let same = as_left stretch.given stretch.left stretch.opened turns.core found.scanned found.found sessions.1.opens in
+    let left = subst (IsLeftBy turns.core) (sym same) turns.left in
+    let begins = next_begins count (sector_after_each count first turned.many) _ ran.after turns.core stretch.opened later sessions.2 so.stands worked.0 worked.1 left (turned.sectors ∙ at.0) to in
+    let rest = each_erased count (sector_after_each count first turned.many) stretch.opened later sessions.2 worked.2 begins in
     (turned.many ∷ rest.0, (record { erases = erased; many_are = refl; sectors = at.0; begins = at.1 }, rest.1))
 
 over_sessions : SessionsWearEvenly
 over_sessions device stretch later sessions worked =
-    let session = sessions.1 in
+    let session = sessions.1.session in
     let count = session.start.index.sectors in
     let first = session.start.index.first in
     let made = each_erased count first device (stretch ∷ later) sessions worked (refl, refl) in

@@ -237,6 +237,44 @@ fn a_fault_of_a_stream_is_told_of(rt: HostRuntime) -> Result<(), Fail> {
     Ok(())
 }
 
+/// A stream that gives the same byte over and over, and fails after so many calls.
+#[derive(Drop)]
+struct Endless {
+    byte: u8,
+    calls: u32,
+}
+
+impl Read for Endless {
+    fn read(&mut self, buf: &mut [u8]) -> io::Result<usize> {
+        if self.calls == 0 {
+            return Err(io::Error::from(ErrorKind::BrokenPipe));
+        }
+        self.calls -= 1;
+        for place in buf.iter_mut() {
+            *place = self.byte;
+        }
+        Ok(buf.len())
+    }
+}
+
+#[test]
+fn input_without_an_end_is_refused(rt: HostRuntime) -> Result<(), Fail> {
+    for byte in [0u8, b'#', b'x'] {
+        let mut input = Endless { byte, calls: 1000 };
+        let mut out = Vec::new(rt.alloc());
+        let words = [String::from_str(rt.alloc(), "jffs")?];
+        let mut errors = Vec::new(rt.alloc());
+        assert_eq!(rt;
+            run_called(&rt, &words, &mut input, &mut out, &mut errors),
+            2
+        );
+        assert_eq!(rt; out.as_slice(), b"bad script, line 1: Text\n".as_slice());
+        let told = b"jffs: line 1: the line has more than 16384 bytes\n".as_slice();
+        assert_eq!(rt; errors.as_slice(), told);
+    }
+    Ok(())
+}
+
 #[test]
 fn a_program_goes_on_with_the_volume_in_its_file(rt: HostRuntime) -> Result<(), Fail> {
     let _ = fs::remove_file(&rt, "p.image");

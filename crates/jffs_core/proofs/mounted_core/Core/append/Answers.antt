@@ -1,4 +1,5 @@
 use Rattle.std.proofs.Common.{◌≡◌, ℕ, true, inl, inr, ◌<◌, List, ◌∷◌, refl, sym, ap, subst, ◌∙◌, arith}
+use Rattle.std.proofs.lemmas.Bool.{both_ways}
 use Rattle.jffs_node.specs.declared.node.Node.{Node}
 use Rattle.jffs_node.specs.Record.{record_len}
 use Rattle.jffs_flash.specs.Device.{Device, Fails}
@@ -89,6 +90,7 @@ returns-in_err-write_at-clause-refused g c =
       clean = λ is. clean_ends past old.device.image old.index c.self.inside.tree c.self.inside.limits c.self.inside.clean h is;
       tree = inr (n, refl, c.in_ok-apply.ensures.ok past h.tree_is);
       left = λ intact. elim (f.history past (mid_history past old mid same h.history) may.rules) [ inl as_it_was ↦ inl as_it_was | inr more ↦ inr (n, refl, more) ];
+      erasing = λ failed. absurd (both_ways _ f.intact failed);
     })
     (let more = f.worn.programmed in let reserved = ap (λ (w : Wear). w.bytes) same.wear in let seen = ap (λ (v : CoreState). v.wear.bytes) c.self.view_is in omega arith))
 

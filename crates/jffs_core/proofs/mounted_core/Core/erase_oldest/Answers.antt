@@ -35,7 +35,7 @@ invariant_of-self g c =
     let works = ap (λ (v : CoreState). v.failed) c.self.view_is ∙ c.requires.working in
     let stands = c.self.invariant.past works in
     let several = several_inside _ _ c.self.view_is c.requires.dead.several in
-    either_way c.erase_oldest.result (ErasedOldest c.self.inside.tree old new) (λ why. EraseFailed why old new) _
+    either_way c.erase_oldest.result (ErasedOldest c.self.inside.tree old new) (λ why. EraseFailed c.self.inside.tree why old new) _
     (λ e. record {
       sizes = log_sizes old new (ap (λ (d : Device). d.sectors) e.works.device) (ap (λ (d : Device). d.sector_size) e.works.device) c.self.invariant.sizes e.sizes;
       index = λ w. e.works.told;
@@ -76,7 +76,7 @@ returns-clause-stopped g c = IfErr-weaker c.erase_oldest.result _ _ (λ why f. r
         fails = f.failed;
         faults = subst (λ k. k < new.device.faults) (ap (λ (v : CoreState). v.faults) c.self.view_is) f.device.faults;
         programs = inl (let none = c.erase_oldest.ensures.worn.programmed in let was = ap (λ (v : CoreState). v.wear.bytes) c.self.view_is in omega arith);
-        left = erase_left past c.self.inside.log new _ why h f refl;
+        left = erase_left past c.self.inside.log new _ why h f refl refl refl;
       };
 })
     c.erase_oldest.ensures.failed
@@ -85,7 +85,7 @@ pub returns-clause-leaves : goal.returns-clause-leaves
 returns-clause-leaves g c =
     let old = c.self.inside.log in
     let new = c.erase_oldest.new.self in
-    either_way c.erase_oldest.result (ErasedOldest c.self.inside.tree old new) (λ why. EraseFailed why old new) _
+    either_way c.erase_oldest.result (ErasedOldest c.self.inside.tree old new) (λ why. EraseFailed c.self.inside.tree why old new) _
     (λ e.
     let sizes = e.sizes in
     leaves_one _ _ _ c.self.view_is (record { answers = refl; capacity = refl; closed = refl }) e.sizes (let counted = e.erases in omega arith) (uses_one _ _ (sym sizes.0) e.first e.erases (ap (λ (d : Device). d.failed_erases) e.works.device) e.works.no_erase_failed c.erase_oldest.ensures.worn.erased))
@@ -101,7 +101,7 @@ returns-clause-erases g c =
     let two = several_inside _ _ c.self.view_is c.requires.dead.several in
     let held = ap (λ (v : CoreState). v.index.held) c.self.view_is in
     let leaves = returns-clause-leaves g c in
-    either_way c.erase_oldest.result (ErasedOldest c.self.inside.tree old new) (λ why. EraseFailed why old new) _
+    either_way c.erase_oldest.result (ErasedOldest c.self.inside.tree old new) (λ why. EraseFailed c.self.inside.tree why old new) _
     (λ e.
     let fewer = one_fewer (layout_in old.device.image old.index).sectors two in
     let after = held_is new.device.image new.index e.works.told in

@@ -23,7 +23,7 @@ returns-clause-stands g c = λ mounted past s.
           c.oldest_image.ensures.same)
           (IfErr-weaker c.oldest_image.result _ _
           (λ why stopped. refused_past (IsOwnCopy past) past past (copies_follow past) why c.args.self.now _
-          (read_stops why past old c.oldest_image.new.self c.args.self.now _ stopped works h (ap (λ (v : CoreState). v.faults) (sym c.self.view_is)) (ap (λ (v : CoreState). v.wear) (sym c.self.view_is)) refl refl refl refl refl))
+          (read_stops why past old c.oldest_image.new.self c.args.self.now _ stopped works h (ap (λ (v : CoreState). v.faults) (sym c.self.view_is)) (ap (λ (v : CoreState). v.wear) (sym c.self.view_is)) refl refl refl refl refl refl))
           c.oldest_image.ensures.stopped);
     }
 

@@ -6,7 +6,7 @@
 
 static uint8_t flash[6 * 1024];
 
-// Carries out the calls that a change has left. On a chip these two loops are its erase and its program.
+// Carries out the calls that are left. On a chip this loop is its erase and its program.
 static void carry_out(pg_volume *volume) {
     pg_call call;
     uint8_t bytes[1024 / 4];
@@ -33,6 +33,7 @@ int main(void) {
     size_t count = 0;
     if (pg_open(flash, sizeof flash, 1024, &volume, &refusal) != PG_DONE)
         return 1;
+    carry_out(&volume); // an erase may have been cut off
     pg_read(&volume, "/greeting", 9, 0, text, sizeof text, &count);
     printf("%.*s\n", (int)count, (char *)text);
     pg_close(volume);

@@ -1,5 +1,6 @@
 // A volume in a file, as a chip would be driven: each call is carried out on the file, and a failure of the file is
-// one of the device.
+// one of the device. It is for files alone: a chip's device file (/dev/mtdN) has no length here, takes no fsync, and
+// isn't erased by writing ff.
 //     on_file IMAGE SECTOR_SIZE mkdir|create|remove PATH | write PATH TEXT | read PATH | ls PATH
 #include <fcntl.h>
 #include <stdio.h>
@@ -105,8 +106,11 @@ int main(int argc, char **argv) {
     pg_volume volume;
     if (told(open_file(file, (uint32_t)strtoul(argv[2], NULL, 10), &volume)))
         return 1;
-    int wrong = told(ask(&volume, argc - 3, argv + 3));
-    wrong |= told(carry_out(&volume, file));
+    int wrong = told(carry_out(&volume, file)); // an erase may have been cut off
+    if (!wrong) {
+        wrong = told(ask(&volume, argc - 3, argv + 3));
+        wrong |= told(carry_out(&volume, file));
+    }
     pg_close(volume);
     close(file);
     return wrong;

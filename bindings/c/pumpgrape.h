@@ -4,7 +4,9 @@
 // carries out, one after another, in their order: the program asks for the next with pg_next_call, carries it out,
 // and says so with pg_carried_out, or pg_call_failed. While calls are left each change is answered PG_CALLS_LEFT.
 // After a failure everything but pg_close is answered PG_FAILED. Wherever carrying out stops, also in the midst of a
-// call, the medium then opens with all changes whose calls were carried out whole, and perhaps the one in hand.
+// call, of an erase too, the medium then opens with all changes whose calls were carried out whole, and perhaps the
+// one in hand. An erase is two calls: a program that clears the first bytes of the sector, by which an erase that was
+// cut off is known, and the erase. docs/C.md says what a sector may hold after one.
 //
 // What a caller owes: each pointer leads to what its type says, also where a length is 0, and none is null; what one
 // function gets of memory that is written overlaps nothing else that it gets; a volume is used by one thread at a
@@ -102,6 +104,7 @@ typedef struct pg_usage {
 
 // Mounts a copy of the medium's bytes, which are whole sectors of this size: 6 to 64 of 1024, 2048, 4096, 8192 or
 // 16384 bytes. A medium of bytes 0xff is an empty volume. `volume` is written only where PG_DONE is answered.
+// Where an erase was cut off on it, the calls that end it are left, as after a change.
 // PG_GEOMETRY, PG_BAD_RECORD (`refusal` says where), PG_NO_ERASED, PG_SCATTERED, PG_BAD_ORDER, PG_BAD_TREE,
 // PG_MEMORY.
 uint32_t pg_open(const uint8_t *medium, size_t medium_len, uint32_t sector_size, pg_volume *volume,
@@ -111,7 +114,8 @@ uint32_t pg_open(const uint8_t *medium, size_t medium_len, uint32_t sector_size,
 void pg_close(pg_volume volume);
 
 // The changes. Each is answered PG_CALLS_LEFT while calls are left, PG_FAILED after a failure, and changes nothing
-// then; for a path that is none by one of PG_PATH_..; and by the causes of docs/SCRIPT.md.
+// then; for a path that is none by one of PG_PATH_..; and by the causes of docs/SCRIPT.md. Calls may be left after a
+// refusal too, as PG_NO_SPACE, which comes after cleaning: they are carried out as after PG_DONE.
 uint32_t pg_create(pg_volume *volume, const char *path, size_t path_len);
 uint32_t pg_mkdir(pg_volume *volume, const char *path, size_t path_len);
 uint32_t pg_remove(pg_volume *volume, const char *path, size_t path_len);

@@ -56,7 +56,8 @@ pub struct Volume<D: Device> {
 }
 
 impl<D: Device> Volume<D> {
-    /// Mounts a device of 6 to 64 sectors of 1024, 2048, 4096, 8192 or 16384 bytes. A refusal hands it back.
+    /// Mounts a device of 6 to 64 sectors of 1024, 2048, 4096, 8192 or 16384 bytes, and ends an erase that was cut
+    /// off on it. A refusal hands the device back.
     pub fn open(mut device: D, sectors: u32, sector_size: u32) -> Result<Volume<D>, (Error<D::Error>, D)> {
         let mut medium = vec![0; sectors as usize * sector_size as usize];
         if let Err(error) = device.read(0, &mut medium) {
@@ -66,9 +67,17 @@ impl<D: Device> Volume<D> {
         let mut why = Refusal::default();
         let code = unsafe { ffi::pg_open(medium.as_ptr(), medium.len(), sector_size, &mut handle, &mut why) };
         match Code::of(code) {
-            None => Ok(Volume { handle, device: Some(device), buffer: vec![0; sector_size as usize / 4] }),
+            None => Volume { handle, device: Some(device), buffer: vec![0; sector_size as usize / 4] }.ended(),
             Some(Code::BadRecord) => Err((Error::BadRecord(why), device)),
             Some(code) => Err((Error::Refused(code), device)),
+        }
+    }
+
+    /// Carries out what opening left, which ends an erase.
+    fn ended(mut self) -> Result<Volume<D>, (Error<D::Error>, D)> {
+        match self.carry_out() {
+            Ok(()) => Ok(self),
+            Err(error) => Err((error, self.device.take().expect("it is taken by `unmount` alone"))),
         }
     }
 

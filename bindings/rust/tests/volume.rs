@@ -1,7 +1,8 @@
 //! A volume on flash in memory that may fail, by the functions of this crate.
 use pumpgrape::{Code, Device, Error, Volume};
 
-/// Flash of which the call of number `fails_at`, from 1, does half of its work and fails.
+/// Flash of which the call of number `fails_at`, from 1, fails: a program does half of its work, an erase has cleared
+/// its sector, as many chips do before they erase it.
 struct Flash {
     bytes: Vec<u8>,
     calls: usize,
@@ -41,8 +42,8 @@ impl Device for Flash {
     }
 
     fn erase(&mut self, at: u32, len: u32) -> Result<(), Broken> {
-        let (len, done) = self.end(len as usize);
-        self.bytes[at as usize..][..len].fill(0xff);
+        let (_, done) = self.end(len as usize);
+        self.bytes[at as usize..][..len as usize].fill(if done.is_ok() { 0xff } else { 0 });
         done
     }
 }
@@ -89,6 +90,23 @@ fn after_each_failure_the_volume_opens_with_what_was_done_or_one_change_more() {
         assert_eq!(done, Err(Error::Refused(Code::Failed)));
         let names = open(flash.unwrap()).names("/").unwrap().len();
         assert!(names == made || names == made + 1, "{names} names after {made}");
+    }
+}
+
+#[test]
+fn an_erase_that_is_cut_off_is_ended_when_the_volume_is_opened() {
+    for fails_at in [11, 12] {
+        let mut volume = open(Flash::new(fails_at));
+        volume.create("/f").unwrap();
+        (0..4).for_each(|n| volume.write("/f", 0, &[n; 192]).unwrap());
+        assert_eq!(volume.clean(), Err(Error::Device(Broken)));
+        let mut flash = volume.unmount().0.unwrap();
+        assert_eq!(flash.calls, fails_at);
+        flash.fails_at += 2; // the call that ends it fails too
+        let Err((Error::Device(Broken), flash)) = Volume::open(flash, 6, 1024) else { panic!("no failure") };
+        let mut volume = open(flash);
+        assert_eq!(volume.read("/f", 0, 200).unwrap(), [3; 192]);
+        assert_eq!(volume.usage().unwrap().erased, 5);
     }
 }
 

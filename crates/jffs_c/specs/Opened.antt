@@ -1,27 +1,34 @@
 -- What opening a medium gives.
-use Rattle.std.specs.Prelude.{◌≡◌, ◌*◌, ◌⊎◌, ℕ, List, length, false}
+use Rattle.std.specs.Prelude.{◌≡◌, ◌*◌, ◌⊎◌, ℕ, List, length, false, Option, Some, None}
 use Rattle.jffs_flash.specs.Device.{Device, device_of}
 use Rattle.jffs_flash.specs.Sizes.{is_geometry}
 use Rattle.jffs_node.specs.declared.read.Why.{Why}
 use Rattle.jffs_node.specs.declared.read.Why.TheVariants as rule
 use Rattle.jffs_log.specs.declared.scanning.ScanWhy.{ScanWhy}
 use Rattle.jffs_log.specs.declared.scanning.ScanWhy.TheVariants as why
-use Rattle.jffs_log.specs.ScanFound.{IsRefused}
+use Rattle.jffs_log.specs.Heal.{begun_on, healed_device, IsUnhealed}
 use Rattle.jffs_core.specs.Past.{IsFresh}
 use Rattle.jffs_c.specs.declared.code.Code.{Code}
 use Rattle.jffs_c.specs.declared.code.Code.TheVariants as code
 use Rattle.jffs_c.specs.declared.opening.Refusal.{Refusal}
 use Rattle.jffs_c.specs.declared.opening.Refused.{Refused}
-use Rattle.jffs_c.specs.declared.volume.Phase.TheVariants.{Ready}
+use Rattle.jffs_c.specs.declared.volume.Phase.{Phase}
+use Rattle.jffs_c.specs.declared.volume.Phase.TheVariants.{Ready, Carrying}
 use Rattle.jffs_c.specs.declared.volume.Volume.{Volume}
 use Rattle.jffs_c.specs.Codes.{number_of}
 
--- a core that is just mounted, on a medium of these bytes in whole sectors of this size
+-- the calls that end an erase are left, where there is one
+abbrev pub phase_after : Option ℕ → Phase
+phase_after None = Ready
+phase_after (Some sector) = Carrying
+
+-- a core that is just mounted, on a medium of these bytes in whole sectors of this size, on which
+-- the erase that was cut off is ended, where there is one
 pub record IsOpened (bytes : List ℕ) (sector_size : ℕ) (volume : Volume) : Type 0 where
   pub sectors : ℕ
   pub whole : length bytes ≡ sectors * sector_size
-  pub fresh : IsFresh (device_of sectors sector_size bytes) volume.core
-  pub ready : volume.phase ≡ Ready
+  pub fresh : IsFresh (healed_device (device_of sectors sector_size bytes)) volume.core
+  pub phase : volume.phase ≡ phase_after (begun_on (device_of sectors sector_size bytes))
 
 -- the number of a rule that a record breaks
 abbrev pub number_of_rule : Why → ℕ
@@ -42,18 +49,18 @@ told_plainly answer = record {
 }
 
 -- what is told of why no log was found: its code, and of a bad record where it stands and the rule
--- that it breaks
+-- that it breaks; the device fails only where memory is wanting for a call
 abbrev pub told_of : ScanWhy → Refused
 told_of (why.BadRecord sector place broken) = record {
   code = code.BadRecord;
   refusal = record { sector = sector; place = place; rule = number_of_rule broken };
 }
 told_of why.Geometry = told_plainly code.Geometry
-told_of why.Device = told_plainly code.Device
 told_of why.NoErased = told_plainly code.NoErased
 told_of why.Scattered = told_plainly code.Scattered
 told_of why.BadOrder = told_plainly code.BadOrder
 told_of why.BadTree = told_plainly code.BadTree
+told_of why.Device = told_plainly code.Memory
 told_of why.Memory = told_plainly code.Memory
 
 -- no log was found on a medium of these bytes in whole sectors of this size, for this reason
@@ -61,7 +68,7 @@ pub record HasNoLog (bytes : List ℕ) (sector_size : ℕ) (why : ScanWhy) : Typ
   pub sectors : ℕ
   pub left : Device
   pub whole : length bytes ≡ sectors * sector_size
-  pub refused : IsRefused (device_of sectors sector_size bytes) why left
+  pub refused : IsUnhealed (device_of sectors sector_size bytes) why left
 
 -- the bytes aren't those of a volume in sectors of this size, however many they are
 abbrev pub HasNoGeometry : List ℕ → ℕ → Type 0

@@ -32,7 +32,8 @@ pub(crate) struct Refused {
     pub refusal: Refusal,
 }
 
-/// Mounts a copy of these bytes, of sectors of this size.
+/// Opens a copy of these bytes, of sectors of this size. Where an erase was cut off on them, the
+/// calls that end it are left.
 ///
 /// `Geometry` where no volume has these sizes, then the causes of a scan; `Memory`.
 pub(crate) fn open(alloc: Global, bytes: &[u8], sector_size: u32) -> Result<Box<Volume>, Refused>
@@ -46,8 +47,8 @@ pub(crate) fn open(alloc: Global, bytes: &[u8], sector_size: u32) -> Result<Box<
         return Err(plain(Code::Memory));
     };
     let medium = MemoryFlash::from_bytes(sectors, sector_size, bytes);
-    match Core::mount(alloc, HandedFlash::new(alloc, medium)) {
-        Ok(core) => match Box::new(alloc, Volume::new(alloc, core)) {
+    match Core::open(alloc, HandedFlash::new(alloc, medium)) {
+        Ok(opened) => match Box::new(alloc, Volume::new(alloc, opened)) {
             Ok(volume) => Ok(volume),
             Err(_) => Err(plain(Code::Memory)),
         },
@@ -84,6 +85,7 @@ fn plain(code: Code) -> Refused
     }
 }
 
+/// What is told of a scan. This device fails only where memory is wanting for a call.
 fn refusal_of(why: ScanWhy) -> Refused
     ensures { result ≡ told_of why }
 {
@@ -97,12 +99,11 @@ fn refusal_of(why: ScanWhy) -> Refused
             },
         },
         ScanWhy::Geometry => plain(Code::Geometry),
-        ScanWhy::Device => plain(Code::Device),
         ScanWhy::NoErased => plain(Code::NoErased),
         ScanWhy::Scattered => plain(Code::Scattered),
         ScanWhy::BadOrder => plain(Code::BadOrder),
         ScanWhy::BadTree => plain(Code::BadTree),
-        ScanWhy::Memory => plain(Code::Memory),
+        ScanWhy::Device | ScanWhy::Memory => plain(Code::Memory),
     }
 }
 

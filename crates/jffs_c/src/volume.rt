@@ -2,9 +2,10 @@
 
 ghost use Rattle.std.specs.Prelude.{◌≡◌, IfErr, IfSome};
 ghost use Rattle.jffs_c.specs.Blocked.{blocked, looks_blocked};
+ghost use Rattle.jffs_c.specs.Opened.{phase_after};
 
 use crate::code::Code;
-use jffs_core::Core;
+use jffs_core::{Core, Opened};
 use jffs_queue::HandedFlash;
 use std::alloc::Global;
 
@@ -30,16 +31,19 @@ pub struct Volume {
 }
 
 impl Volume {
-    /// A volume that was just mounted.
-    pub(crate) fn new(alloc: Global, core: Core<HandedFlash>) -> Volume
-        ensures core { result.core ≡ core }
-        ensures ready { result.phase ≡ Phase.Ready }
+    /// A volume that was just opened. Calls are left where an erase was ended.
+    pub(crate) fn new(alloc: Global, opened: Opened<HandedFlash>) -> Volume
+        ensures core { result.core ≡ opened.core }
+        ensures phase { result.phase ≡ phase_after opened.sector }
     {
         Volume {
             alloc,
-            core,
+            core: opened.core,
             seq: 0,
-            phase: Phase::Ready,
+            phase: match opened.sector {
+                Some(_) => Phase::Carrying,
+                None => Phase::Ready,
+            },
         }
     }
 

@@ -1,5 +1,5 @@
 //! An example of the library in use: settings that outlast a crash. It sets some, stops without an
-//! unmount, mounts what the flash holds then, and prints them.
+//! unmount, opens what the flash holds then, and prints them.
 #![tactic(auto)]
 
 mod settings;

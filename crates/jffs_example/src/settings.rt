@@ -1,7 +1,7 @@
 //! Settings: numbers, each in a small file of a volume.
 
 use jffs_core::Core;
-use jffs_flash::{FlashNew, MemoryFlash};
+use jffs_flash::{DoomingFlash, FlashNew, MemoryFlash};
 use jffs_line::Request;
 use jffs_log::{ScanFault, ScanWhy};
 use jffs_node::{Path, PathFault, copied};
@@ -31,16 +31,17 @@ pub enum SettingFault {
 #[derive(Drop)]
 pub struct Settings {
     alloc: Global,
-    core: Core<MemoryFlash>,
+    core: Core<DoomingFlash<MemoryFlash>>,
     seq: u32,
 }
 
 impl Settings {
-    /// Mounts the volume on this flash; erased flash is an empty one.
+    /// Opens the volume on this flash, and ends an erase that was cut off; erased flash is an empty
+    /// one.
     pub fn open(alloc: Global, flash: MemoryFlash) -> Result<Settings, SettingFault> {
         Ok(Settings {
             alloc,
-            core: Core::mount(alloc, flash)?,
+            core: Core::open(alloc, DoomingFlash::new(flash))?.core,
             seq: 0,
         })
     }
@@ -91,12 +92,12 @@ impl Settings {
 
     /// The flash as it is now, without an unmount: as if the power had failed.
     pub fn crash(self) -> MemoryFlash {
-        self.core.into_flash()
+        self.core.into_flash().into_inner()
     }
 }
 
-impl From<ScanFault<MemoryFlash>> for SettingFault {
-    fn from(fault: ScanFault<MemoryFlash>) -> SettingFault {
+impl From<ScanFault<DoomingFlash<MemoryFlash>>> for SettingFault {
+    fn from(fault: ScanFault<DoomingFlash<MemoryFlash>>) -> SettingFault {
         SettingFault::NoVolume(fault.why)
     }
 }

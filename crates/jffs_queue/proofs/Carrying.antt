@@ -1,17 +1,21 @@
 -- What calls that are carried out leave of an image.
-use Rattle.std.proofs.Common.{◌≡◌, ℕ, ◌+◌, ◌*◌, ◌<◌, ◌≤◌, List, [], ◌∷◌, length, replicate, Ok, Err, refl, sym, ap, subst, ◌∙◌, arith}
+use Rattle.std.proofs.lemmas.Bool.{and_parts, leb-true}
+use Rattle.std.proofs.Common.{◌≡◌, inl, inr, leb, ltb, ◌^◌, ℕ, ◌+◌, ◌*◌, ◌<◌, ◌≤◌, List, [], ◌∷◌, length, replicate, Ok, Err, refl, sym, ap, subst, ◌∙◌, arith}
 use Rattle.std.specs.Prelude.{Result}
 use Rattle.std.specs.List.{AllByRecursion}
 use Rattle.std.proofs.lemmas.List.{length-replicate}
+use Rattle.std.proofs.lemmas.List.Sums.{fold-append}
 use Rattle.std.proofs.Math.Nat.{mul-le-mul_right}
 use Rattle.jffs_flash.specs.Device.{Device, with_image, Programs, Fails, EraseFails}
-use Rattle.jffs_flash.specs.Image.{window, erased_byte, programmed, IsHalfProgrammed, IsHalfErased}
+use Rattle.jffs_flash.specs.Dooming.{IsDoomAt}
+use Rattle.jffs_flash.proofs.Dooms.{all_over}
+use Rattle.jffs_flash.specs.Image.{window, erased, erased_byte, programmed, IsHalfProgrammed, IsHalfErased}
 use Rattle.jffs_flash.specs.declared.fuse.Fail.TheVariants.{Nothing}
 use Rattle.jffs_flash.proofs.Bits.{length-programmed}
 use Rattle.jffs_flash.proofs.Halves.{half_programmed, half_erased, length-window}
 use Rattle.jffs_queue.specs.declared.call.Call.{Call}
 use Rattle.jffs_queue.specs.declared.call.Call.TheVariants.{Erase, Program}
-use Rattle.jffs_queue.specs.Queue.{Queued, after_call, carried_out, with_call, seen_device, IsInside, IsLaidOver, IsQueue}
+use Rattle.jffs_queue.specs.Queue.{Queued, after_call, carried_out, with_call, seen_device, IsInside, IsLaidOver, IsQueue, IsDoom, AddsErase}
 use Rattle.jffs_queue.proofs.Overlays.{length-replaced}
 
 -- a call leaves as many bytes as there were
@@ -78,6 +82,25 @@ erase_fails sector old new known whole same =
     let fits = mul-le-mul_right old.sector_size known in
     let P : Queued → Type 0 = λ q. EraseFails (IsHalfErased (sector * old.sector_size) old.sector_size (seen_device old).image) (seen_device old) (seen_device (record q { faults = q.faults + 1; failed_erases = q.failed_erases + 1 })) in
     subst P (sym same) (record { left = half_erased Nothing old.sector_size sector (seen_device old).image (omega (arith, whole, fits)); faults = omega arith; rest = refl })
+
+-- what is erased after its doom is as what is only erased
+after_doom : (sector size : ℕ) (device : Device) (call : Call) → device.sector_size ≡ size → IsDoom sector size call → sector * size + size ≤ length device.image
+    → after_call size (after_call size device.image call) (Erase sector) ≡ erased size sector device.image
+after_doom sector size device (Erase other) same h inside = absurd h.is
+after_doom sector size device (Program at bytes) same h inside =
+    let room = leb-true 4 size (and_parts (leb 4 size) (ltb (sector * size) (2 ^ 32)) h.can).0 in
+    let here : IsDoomAt sector (record device { sector_size = size }) (sector * size) = record { begins = refl; room = room; inside = inside } in
+    (λ i. erased size sector (programmed (h.is.0 i) (h.is.1 i) device.image)) ∙ all_over sector (record device { sector_size = size }) (sector * size) here
+
+-- an erase that waits is seen as one that was carried out
+pub erase_seen : (sector : ℕ) (old new : Queued) → sector < old.sectors → length (seen_device old).image ≡ old.sectors * old.sector_size → AddsErase sector old new
+    → seen_device new ≡ with_image (seen_device old) (erased old.sector_size sector (seen_device old).image)
+erase_seen sector old new known whole (inl h) =
+    let fits = mul-le-mul_right old.sector_size known in
+    ap seen_device h.2
+    ∙ ap (with_image (seen_device old)) (fold-append (after_call old.sector_size) old.medium old.calls (h.0 ∷ Erase sector ∷ []) ∙ after_doom sector old.sector_size (seen_device old) h.0 refl h.1 (omega (arith, whole, fits)))
+erase_seen sector old new known whole (inr h) =
+    ap seen_device h.1 ∙ ap (with_image (seen_device old)) (fold-append (after_call old.sector_size) old.medium old.calls (Erase sector ∷ []))
 
 -- one call more was laid over it
 pub goes_on : (sectors size at n : ℕ) (old new : List ℕ) (call : Call) (later : List Call) (image : List ℕ) → at + n ≤ sectors * size

@@ -1,9 +1,12 @@
 -- A device whose calls somebody else carries out: what the medium holds, and the calls that are to
 -- come.
-use Rattle.std.specs.Prelude.{◌≡◌, ℕ, ◌+◌, ◌*◌, ◌<◌, ◌≤◌, List, ◌∷◌, [], ◌++◌, fold, length}
+use Rattle.std.specs.Prelude.{◌≡◌, ◌⊎◌, ℕ, ◌+◌, ◌*◌, ◌^◌, ◌<◌, ◌≤◌, Bool, true, false, ◌&&◌, nat_le, nat_lt}
+use Rattle.std.specs.Prelude.{List, ◌∷◌, [], ◌++◌, fold, length}
 use Rattle.std.specs.List.{AllByRecursion}
 use Rattle.jffs_flash.specs.Device.{Device}
 use Rattle.jffs_flash.specs.Image.{window, programmed, erased}
+use Rattle.jffs_flash.specs.declared.dooming.TheConstants.{DOOM_LEN}
+use Rattle.jffs_flash.specs.Dooming.{doom}
 use Rattle.jffs_queue.specs.declared.call.Call.{Call}
 use Rattle.jffs_queue.specs.declared.call.Call.TheVariants.{Erase, Program}
 
@@ -76,6 +79,22 @@ seen_device queued =
 -- one more call waits, and nothing else changed
 abbrev pub Adds : Call → Queued → Queued → Type 0
 Adds call old new = new ≡ record old { calls = old.calls ++ call ∷ [] }
+
+-- the first bytes of the sector can be cleared by a program of their own
+abbrev pub can_doom : ℕ → ℕ → Bool
+can_doom sector sector_size = nat_le DOOM_LEN sector_size && nat_lt (sector * sector_size) (2 ^ 32)
+
+-- that program
+pub record IsDoom (sector sector_size : ℕ) (call : Call) : Type 0 where
+  pub can : can_doom sector sector_size ≡ true
+  pub is : IsProgram (sector * sector_size) doom call
+
+-- one more erase waits, and before it, where it can be, the doom of its sector
+abbrev pub AddsErase : ℕ → Queued → Queued → Type 0
+AddsErase sector old new =
+    ((call : Call) × IsDoom sector old.sector_size call
+    × (new ≡ record old { calls = old.calls ++ call ∷ Erase sector ∷ [] }))
+    ⊎ ((can_doom sector old.sector_size ≡ false) × Adds (Erase sector) old new)
 
 -- the medium has one more call
 abbrev pub with_call : Queued → Call → Queued

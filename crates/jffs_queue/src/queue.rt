@@ -1,19 +1,18 @@
 //! The device.
 
-ghost use Rattle.std.specs.Prelude.{◌≡◌, ◌+◌, ◌*◌, ◌<◌, ◌≤◌, List, [], ◌∷◌, length};
-ghost use Rattle.std.specs.Prelude.{OnOk, OnErr, IsOk};
+ghost use Rattle.std.specs.Prelude.{◌≡◌, ◌+◌, ◌*◌, ◌<◌, ◌≤◌, false, List, [], ◌∷◌, ◌++◌, length};
+ghost use Rattle.std.specs.Prelude.{OnOk, OnErr, IfOk, IsOk, MatchOption};
 ghost use Rattle.jffs_flash.specs.Image.{window, programmed, erased};
 ghost use Rattle.jffs_flash.specs.Device.{Reads, Programs, Erases};
 ghost use Rattle.jffs_flash.specs.ReadsLeft.{TakesReads};
 ghost use Rattle.jffs_flash.specs.Wear.{Wears, uncounted, no_erase, one_erase};
 ghost use Rattle.jffs_queue.specs.declared.call.Call.{Call};
-ghost use Rattle.jffs_queue.specs.declared.call.Call.TheVariants.{Erase};
 ghost use Rattle.jffs_queue.specs.Queue.{queued_of, seen_device, with_call, IsInside};
-ghost use Rattle.jffs_queue.specs.Queue.{IsProgram, Adds};
+ghost use Rattle.jffs_queue.specs.Queue.{IsProgram, Adds, AddsErase, IsDoom, can_doom};
 
 use crate::call::Call;
 use crate::overlay::lay_over;
-use jffs_flash::{Flash, FlashFault, MemoryFlash};
+use jffs_flash::{DOOM_LEN, Flash, FlashFault, MemoryFlash};
 use std::alloc::{AllocError, Global};
 use std::collections::VecDeque;
 use std::marker::Model;
@@ -142,13 +141,51 @@ impl QueuedFlash {
         Ok(())
     }
 
-    /// Has one more erase wait.
+    /// Has one more erase wait, and before it, where it can be, the doom of its sector.
     fn add_erase(&mut self, sector: u32) -> Result<(), AllocError>
         requires { sector < self.old.sectors }
-        ensures added { OnOk result (Adds (Erase sector) self.old self.new) }
+        ensures added { OnOk result (AddsErase sector self.old self.new) }
         ensures refused { OnErr result (self.new ≡ self.old) }
     {
-        self.calls.push_back(Call::Erase { sector })?;
+        match self.doom_of(sector)? {
+            Some(doom) => self.add_both(doom, Call::Erase { sector }),
+            None => {
+                self.calls.push_back(Call::Erase { sector })?;
+                Ok(())
+            }
+        }
+    }
+
+    /// The program that clears the first bytes of a sector; `None` where it is shorter, or stands
+    /// where no `u32` tells.
+    fn doom_of(&self, sector: u32) -> Result<Option<Call>, AllocError>
+        requires { sector < self.now.sectors }
+        ensures { IfOk result (λ doom. MatchOption doom
+            (can_doom sector self.now.sector_size ≡ false)
+            (λ call. IsDoom sector self.now.sector_size call)) }
+    {
+        let size = self.medium.sector_size();
+        if (size as usize) < DOOM_LEN {
+            return Ok(None);
+        }
+        let Some(at) = sector.checked_mul(size) else {
+            return Ok(None);
+        };
+        let bytes = [0; DOOM_LEN].to_vec(self.alloc)?;
+        Ok(Some(Call::Program { at, bytes }))
+    }
+
+    /// Has two more calls wait, or none.
+    fn add_both(&mut self, first: Call, second: Call) -> Result<(), AllocError>
+        requires first { IsInside self.old.sectors self.old.sector_size first }
+        requires second { IsInside self.old.sectors self.old.sector_size second }
+        ensures added { OnOk result
+            (self.new ≡ record self.old { calls = self.old.calls ++ first ∷ second ∷ [] }) }
+        ensures refused { OnErr result (self.new ≡ self.old) }
+    {
+        self.calls.reserve(2)?;
+        self.calls.push_back_reserved(first);
+        self.calls.push_back_reserved(second);
         Ok(())
     }
 }
@@ -217,12 +254,13 @@ impl Flash for QueuedFlash {
         }
     }
 
-    /// One more erase waits; the medium is as it was. Fails where memory is wanting, and then
-    /// nothing waits for it.
+    /// One more erase waits, and before it a program that clears the first
+    /// [`DOOM_LEN`] bytes of its sector, if it has so many; the medium is as it was. Fails where
+    /// memory is wanting, and then nothing waits for it.
     fn erase(&mut self, sector: u32) -> Result<(), FlashFault>
         requires { sector < self.old.sectors }
         ensures waits { OnOk result (self.old.faults < u64.MAX
-            → Adds (Erase sector) self.old self.new) }
+            → AddsErase sector self.old self.new) }
         ensures refused { OnErr result
             (self.new ≡ record self.old {
               faults = self.old.faults + 1;

@@ -99,7 +99,7 @@ fn is_erase(call: Option<&Call>, which: u32) -> bool {
 }
 
 #[test]
-fn each_change_waits_as_one_call(rt: HostRuntime) -> Result<(), TestFail> {
+fn each_change_waits_and_an_erase_after_its_doom(rt: HostRuntime) -> Result<(), TestFail> {
     let alloc = rt.alloc();
     let mut flash = QueuedFlash::new(alloc, MemoryFlash::new(alloc, 6, 1024)?);
     let mut medium = MemoryFlash::new(alloc, 6, 1024)?;
@@ -109,12 +109,13 @@ fn each_change_waits_as_one_call(rt: HostRuntime) -> Result<(), TestFail> {
     let mut buffer = [0; 4];
     read(&rt, &mut flash, 1021, &mut buffer)?;
     assert_eq!(&rt; buffer, [0xff, 0x03, 0xf0, 0xff]);
-    assert_eq!(&rt; flash.calls().len(), 3);
+    assert_eq!(&rt; flash.calls().len(), 4);
     assert!(&rt; is_program(flash.calls().get(0), 1022, &[0x0f, 0xf0, 0x3c]));
     assert!(&rt; is_program(flash.calls().get(1), 1022, &[0xf3]));
-    assert!(&rt; is_erase(flash.calls().get(2), 1));
+    assert!(&rt; is_program(flash.calls().get(2), 1024, &[0; 4]));
+    assert!(&rt; is_erase(flash.calls().get(3), 1));
     carry_out_first(&rt, &mut flash, &mut medium)?;
-    assert_eq!(&rt; flash.calls().len(), 2);
+    assert_eq!(&rt; flash.calls().len(), 3);
     read(&rt, &mut medium, 1021, &mut buffer)?;
     assert_eq!(&rt; buffer, [0xff, 0x0f, 0xf0, 0x3c]);
     read(&rt, &mut flash, 1021, &mut buffer)?;
@@ -130,6 +131,8 @@ fn what_was_carried_out_is_handed_over_no_more(rt: HostRuntime) -> Result<(), Te
     program(&rt, &mut flash, 1022, &[0x0f, 0xf0])?;
     erase(&rt, &mut flash, 4)?;
     assert!(&rt; is_program(flash.next(), 1022, &[0x0f, 0xf0]));
+    carry_out_next(&rt, &flash, &mut medium)?;
+    assert!(&rt; is_program(flash.next(), 4096, &[0; 4]));
     carry_out_next(&rt, &flash, &mut medium)?;
     assert_eq!(&rt; flash.left(), 1);
     assert!(&rt; is_erase(flash.next(), 4));

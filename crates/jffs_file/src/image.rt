@@ -1,16 +1,18 @@
 //! A file of the operating system that holds the bytes of a device.
 
-ghost use Rattle.std.specs.Prelude.{◌≡◌, ◌≢◌, ◌*◌, ◌↔◌, false, vec_len, replicate, IsErr, IfOk};
+ghost use Rattle.std.specs.Prelude.{◌≡◌, ◌≢◌, ◌*◌, ◌↔◌, true, false, vec_len, replicate, IsErr, IfOk};
 ghost use Rattle.std.specs.Prelude.{OnOk, IsTrue, IsErrOf};
 ghost use Rattle.jffs_flash.specs.Image.{erased_byte};
 ghost use Rattle.jffs_flash.specs.Device.{device_of};
 ghost use Rattle.jffs_flash.specs.Sizes.{is_geometry as allows_geometry};
 
+use crate::directory::sync_directory_of;
 use crate::flash::FileFlash;
+use crate::making::make_file;
 use crate::store::FileStore;
 use jffs_flash::{ERASED_BYTE, MemoryFlash, VOLUME_MAX, is_geometry};
 use std::alloc::{AllocError, AllocFailed};
-use std::fs::{File, OpenFile, OpenOptions};
+use std::fs::{OpenFile, OpenOptions};
 use std::io::{ErrorKind, Read, Seek, Write};
 use std::rt::Files;
 use std::{fs, io};
@@ -28,6 +30,13 @@ pub enum FileFault {
     /// There is such a file already.
     #[error("there is such a file already")]
     Taken,
+    /// The directory that should hold a new file isn't there.
+    #[error("the directory that should hold the file isn't there")]
+    NoDirectory,
+    /// Each name is taken under which a new file could be made.
+    #[error("FILE.new is taken, and so is each name up to FILE.new99: rm one, a new file is made \
+    under it")]
+    Beside,
     /// The file is longer than any volume, or not as long as these sectors together.
     #[error("the file has another length than the sectors together")]
     Length,
@@ -37,6 +46,9 @@ pub enum FileFault {
     /// The file can't be written.
     #[error("the file can't be written")]
     Write,
+    /// What was made of a new file on the way to its name can't be removed.
+    #[error("the file can't be made in order, and what FILE.new has of it can't be removed: rm it")]
+    Left,
     /// Allocation failed.
     #[error("out of memory")]
     Memory,
@@ -63,11 +75,23 @@ impl FileFault {
             _ => other,
         }
     }
+
+    /// What an error ends a call with that makes a new file.
+    pub(crate) fn of_new(error: io::Error) -> FileFault {
+        match error.kind() {
+            ErrorKind::AlreadyExists => FileFault::Taken,
+            ErrorKind::NotADirectory => FileFault::NoDirectory,
+            _ => match FileFault::of(error, FileFault::Write) {
+                FileFault::Missing => FileFault::NoDirectory,
+                fault => fault,
+            },
+        }
+    }
 }
 
 /// An open file, and the bytes that it holds.
 #[derive(Drop)]
-pub struct FileImage<F: Write + Seek + Drop> {
+pub struct FileImage<F: Write + Seek + OpenFile + Drop> {
     bytes: Vec<u8>,
     file: F,
 }
@@ -96,11 +120,16 @@ pub fn open_image<R: Files + AllocGlobal>(
 
 /// Makes a file of erased bytes, as many as `sectors` sectors of `sector_size` bytes have.
 ///
-/// It is made under the name `PATH.new`, of which any file is overwritten, and renamed when it is
-/// whole: so there is a whole file under its name, or none.
+/// It is made under another name, of which there was no file, and has its own once it is whole: so
+/// there is a whole file under its name, or none, and no other file is changed. A host that gives no
+/// file two names has it under its own name from the start.
 ///
 /// `Geometry` where a volume may not have these sizes, which is tried first, `Taken` where there is
-/// such a file already, `Write` where it can't be made or written, `Memory`.
+/// such a file already, `NoDirectory` where the directory that should hold it isn't there, `Beside`
+/// where each of the other names is taken, `Write` where it can't be made or written, `Memory`: no
+/// file is left of these. `Left` where that can't be removed which was made of it, or its other
+/// name, though it is whole. `Write` also where its directory can't be synced, after which it is
+/// there, whole.
 pub fn create_image<R: Files + AllocGlobal>(
     rt: &R,
     path: &str,
@@ -120,30 +149,14 @@ pub fn create_image<R: Files + AllocGlobal>(
         return Err(FileFault::Taken);
     }
     let bytes = vec![in rt.alloc(); ERASED_BYTE; sectors as usize * sector_size as usize]?;
-    let made = format!(in rt.alloc(); "{path}.new")?;
-    match write_new(rt, made.as_str(), &bytes) {
-        Ok(file) => match fs::rename(rt, made.as_str(), path) {
-            Ok(()) => Ok(FileImage { bytes, file }),
-            Err(error) => Err(FileFault::of(error, FileFault::Write)),
-        },
+    let file = make_file(rt, path, &bytes)?;
+    match sync_directory_of(rt, path) {
+        Ok(()) => Ok(FileImage { bytes, file }),
         Err(error) => Err(FileFault::of(error, FileFault::Write)),
     }
 }
 
-/// A file with these bytes, instead of any of that name.
-fn write_new<R: Files>(rt: &R, path: &str, bytes: &[u8]) -> io::Result<R::File> {
-    let mut file = OpenOptions::new()
-        .read(true)
-        .write(true)
-        .create(true)
-        .truncate(true)
-        .open(rt, path)?;
-    file.write_all(bytes)?;
-    file.sync_all()?;
-    Ok(file)
-}
-
-impl<F: Write + Seek + Drop> FileImage<F> {
+impl<F: Write + Seek + OpenFile + Drop> FileImage<F> {
     /// The bytes of the file.
     pub fn bytes(&self) -> &[u8]
         ensures { result.now ≡ self.now.bytes.items }
@@ -162,12 +175,13 @@ impl<F: Write + Seek + Drop> FileImage<F> {
         ensures held { IfOk result
             (λ flash. flash.held ≡ device_of sectors sector_size self.bytes.items) }
         ensures sound { IfOk result (λ flash. flash.faults ≡ 0) }
+        ensures ordered { IfOk result (λ flash. flash.on_medium ≡ true) }
     {
         let FileImage { bytes, file } = self;
         if bytes.len() as u64 != u64::from(sectors) * u64::from(sector_size) {
             return Err(FileFault::Length);
         }
         let held = MemoryFlash::from_bytes(sectors, sector_size, bytes);
-        Ok(FileFlash::new(held, FileStore::new(file)))
+        Ok(FileFlash::on_medium(held, FileStore::new(file)))
     }
 }

@@ -1,6 +1,8 @@
 //! A device over a store that fails, and one in a file that is opened again.
 //! What a store has to hold is what was programmed, and after a fault the half of it.
 
+mod ordered;
+
 ghost use Rattle.std.specs.Prelude.{◌≡◌, ◌+◌, ◌≤◌, ◌↔◌, length, IsTrue};
 
 use jffs_file::{
@@ -8,8 +10,9 @@ use jffs_file::{
 };
 use jffs_flash::{Flash, FlashFault, MemoryFlash};
 use std::alloc::Global;
-use std::fs::OpenOptions;
+use std::fs::{OpenFile, OpenOptions};
 use std::io::{Seek, Write};
+use std::os::unix::fs::symlink;
 use std::process::Abort;
 use std::rt::Files;
 use std::test::Fail;
@@ -34,6 +37,10 @@ impl Store for Failing {
         self.bytes[from..from + count].copy_from_slice(&bytes[..count]);
         self.passes = self.passes.saturating_sub(1);
         if passes { Ok(()) } else { Err(StoreFault) }
+    }
+
+    fn sync(&mut self) -> Result<(), StoreFault> {
+        Ok(())
     }
 }
 
@@ -72,15 +79,15 @@ fn part(bytes: &[u8], from: usize, to: usize) -> &[u8] {
     bytes.get(from..to).unwrap_or(&[])
 }
 
-/// A device of erased bytes over a store that passes `passes` writes.
+/// A device of erased bytes over a store on a medium that passes `passes` writes.
 fn failing_after(alloc: Global, passes: u32) -> Result<FileFlash<Failing>, Fail> {
     let held = MemoryFlash::new(alloc, 6, 1024)?;
     let bytes = held.bytes().to_vec(alloc)?;
-    Ok(FileFlash::new(held, Failing { bytes, passes }))
+    Ok(FileFlash::on_medium(held, Failing { bytes, passes }))
 }
 
-/// Three writes: two over the end of the first sector, and the erase of the second.
-fn write_thrice<F: Flash>(rt: &impl Abort, flash: &mut F) -> Result<(), FlashFault> {
+/// Four writes: two over the end of the first sector, the doom of the second and its erase.
+fn change_two_sectors<F: Flash>(rt: &impl Abort, flash: &mut F) -> Result<(), FlashFault> {
     program(rt, flash, 1022, &[0x0f, 0xf0, 0x3c])?;
     program(rt, flash, 1022, &[0xf3, 0xff, 0x18])?;
     erase(rt, flash, 1)
@@ -118,8 +125,8 @@ fn two_bytes<F: Flash>(rt: &impl Abort, flash: &mut F) -> Result<[u8; 2], FlashF
 
 #[test]
 fn a_failed_write_stops_the_device_and_its_store(rt: HostRuntime) -> Result<(), Fail> {
-    let mut flash = failing_after(rt.alloc(), 3)?;
-    write_thrice(&rt, &mut flash)?;
+    let mut flash = failing_after(rt.alloc(), 4)?;
+    change_two_sectors(&rt, &mut flash)?;
     is_stored(&rt, &flash);
 
     assert!(rt; program(&rt, &mut flash, 700, &[0; 4]).is_err());
@@ -168,7 +175,7 @@ fn is_as_written(rt: &impl Abort, found: &[u8], shown: &[u8]) {
 }
 
 /// Why there is no flash of seven sectors in a file.
-fn fault_of_seven<F: Write + Seek + Drop>(image: FileImage<F>) -> Option<FileFault> {
+fn fault_of_seven<F: Write + Seek + OpenFile + Drop>(image: FileImage<F>) -> Option<FileFault> {
     image.into_flash(7, 1024).err()
 }
 
@@ -222,6 +229,45 @@ fn what_was_programmed_stands_in_the_file(rt: HostRuntime) -> Result<(), Fail> {
     Ok(())
 }
 
+/// Whether a new volume beside these files leaves what they hold.
+fn leaves_beside<R: Abort + Files + AllocGlobal>(rt: &R) -> Result<(), Fail> {
+    let _ = made(rt, "beside.image")?;
+    assert!(rt; fs::read(rt, "beside.image.new")?.as_slice() == b"mine".as_slice());
+    assert!(rt; fs::read(rt, "beside.target")?.as_slice() == b"mine too".as_slice());
+    assert!(rt; fs::symlink_metadata(rt, "beside.image.new2")?.is_symlink());
+    assert!(rt; fs::symlink_metadata(rt, "beside.image")?.is_file());
+    assert!(rt; fs::symlink_metadata(rt, "beside.image.new3").is_err());
+    Ok(())
+}
+
+#[test]
+fn a_new_file_harms_no_other(rt: HostRuntime) -> Result<(), Fail> {
+    for name in ["beside.image", "beside.image.new2"] {
+        let _ = fs::remove_file(&rt, name);
+    }
+    fs::write(&rt, "beside.image.new", "mine")?;
+    fs::write(&rt, "beside.target", "mine too")?;
+    symlink(&rt, "beside.target", "beside.image.new2")?;
+    leaves_beside(&rt)?;
+    assert_eq!(rt;
+        fault_of_making(&rt, "none/beside.image", 6),
+        Some(FileFault::NoDirectory)
+    );
+    assert_eq!(rt;
+        fault_of_making(&rt, "beside.target/x", 6),
+        Some(FileFault::NoDirectory)
+    );
+    for name in [
+        "beside.image",
+        "beside.image.new",
+        "beside.image.new2",
+        "beside.target",
+    ] {
+        fs::remove_file(&rt, name)?;
+    }
+    Ok(())
+}
+
 /// The file of Linux that is always full.
 fn full_file<R: Files>(rt: &R) -> io::Result<R::File> {
     OpenOptions::new()
@@ -234,7 +280,7 @@ fn full_file<R: Files>(rt: &R) -> io::Result<R::File> {
 fn in_a_full_file<R: Files + AllocGlobal>(rt: &R) -> Result<FileFlash<FileStore<R::File>>, Fail> {
     let full = full_file(rt)?;
     let held = MemoryFlash::new(rt.alloc(), 6, 1024)?;
-    Ok(FileFlash::new(held, FileStore::new(full)))
+    Ok(FileFlash::on_medium(held, FileStore::new(full)))
 }
 
 /// Linux has a device that is always full, and that nothing can be brought to a medium of.

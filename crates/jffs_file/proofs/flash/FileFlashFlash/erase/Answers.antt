@@ -7,9 +7,9 @@ use Rattle.jffs_flash.specs.Image.{erased_byte}
 use Rattle.jffs_flash.proofs.Halves.{half_erased}
 use Rattle.jffs_file.specs.Kept.{with_counts}
 use Rattle.jffs_file.proofs.Counting.{among_one_more}
-use Rattle.jffs_file.proofs.Written.{part_erased, sector_inside, kept_written, left_written}
+use Rattle.jffs_file.proofs.Written.{sector_inside, kept_rewritten, left_rewritten}
 use Rattle.jffs_file.proofs.flash.FileFlashFlash.erase.Goals as goal
-use Rattle.jffs_file.proofs.flash.FileFlashFlash.erase.Goals.{After-sector_size-size, After-write_through}
+use Rattle.jffs_file.proofs.flash.FileFlashFlash.erase.Goals.{After-sector_size-size, After-erase_store}
 
 -- the sector lies inside the image
 inside : (g : _) (c : After-sector_size-size g)
@@ -17,7 +17,7 @@ inside : (g : _) (c : After-sector_size-size g)
 inside g c = sector_inside c.args.sector _ _ c.args.self.now.held.image c.requires c.sector_size-size.ensures.whole
 
 -- what is written through begins where the sector begins
-offset : (g : _) (c : After-write_through g) → c.from.result * c.from-2.result ≡ c.args.sector * c.args.self.now.held.sector_size
+offset : (g : _) (c : After-erase_store g) → c.from.result * c.from-2.result ≡ c.args.sector * c.args.self.now.held.sector_size
 offset g c = ap₂ ◌*◌ c.from.ensures (c.from-2.ensures ∙ c.sector_size-size.ensures.size)
 
 pub returns-then-erases_have_stopped-clause-device : goal.returns-then-erases_have_stopped-clause-device
@@ -33,17 +33,15 @@ pub returns-in-Ok-clause-kept : goal.returns-in-Ok-clause-kept
 returns-in-Ok-clause-kept g c = λ kept.
     let size = c.args.self.now.held.sector_size in
     let here = goal.at.returns-in-Ok-clause-kept g c in
-    let same = kept_written _ _ c.sector_size-size.result size (replicate size erased_byte) _ c.erase.new.self.image _ _
-    (offset g here.After-write_through) c.sector_size-size.ensures.size (length-replicate size erased_byte) (inside g here.After-sector_size-size)
+    let same = kept_rewritten _ _ c.sector_size-size.result size (replicate size erased_byte) _ c.erase.new.self.image _ _
+    (offset g here.After-erase_store) c.sector_size-size.ensures.size (length-replicate size erased_byte) (inside g here.After-sector_size-size)
     (ap (λ (d : Device). d.image) c.in_ok-erase.ensures.device) (c.in-Ok.ensures.written kept.sound) kept.same in
-    rw c.write_through.ensures.rest (record { sound = kept.sound; same = same })
+    rw c.erase_store.ensures.rest (record { sound = kept.sound; same = same })
 
 pub returns-in-Err-clause-left : goal.returns-in-Err-clause-left
 returns-in-Err-clause-left g c = λ kept.
     let held = c.args.self.now.held in
     let size = held.sector_size in
     let here = goal.at.returns-in-Err-clause-left g c in
-    let some = left_written _ _ c.sector_size-size.result size (replicate size erased_byte) _ c.erase.new.self.image _ _
-    (offset g here.After-write_through) c.sector_size-size.ensures.size (length-replicate size erased_byte) (inside g here.After-sector_size-size)
-    (ap (λ (d : Device). d.image) c.in_ok-erase.ensures.device) (c.in-Err.ensures.written kept.sound) kept.same in
-    record { image = _; same = some.1; left = part_erased size c.args.sector some.0 held.image (inside g here.After-sector_size-size) }
+    left_rewritten _ _ c.sector_size-size.result size held.image _ _ (offset g here.After-erase_store)
+    c.sector_size-size.ensures.size (inside g here.After-sector_size-size) (c.in-Err.ensures.written kept.sound) kept.same

@@ -24,8 +24,8 @@ returns-in-Ok-clause-kept g c = λ kept.
     let bytes = c.args.bytes.now in
     let image = c.args.self.now.held.image in
     let now = ap (λ (d : Device). d.image) c.in_ok-program.ensures.device in
-    let same = kept_written _ at _ _ (both_bits (window at _ image) bytes) image c.program.new.self.image _ _ c.from.ensures refl (length-new at bytes image c.requires) c.requires now (c.in-Ok.ensures.written kept.sound) kept.same in
-    rw c.write_through.ensures.rest (record { sound = kept.sound; same = same })
+    let same = kept_written _ at _ _ (both_bits (window at _ image) bytes) image c.program.new.self.image _ _ refl refl (length-new at bytes image c.requires) c.requires now (c.in-Ok.ensures.written kept.sound) kept.same in
+    rw c.program_store.ensures.rest (record { sound = kept.sound; same = same })
 
 pub returns-in-Err-clause-left : goal.returns-in-Err-clause-left
 returns-in-Err-clause-left g c = λ kept.
@@ -33,7 +33,7 @@ returns-in-Err-clause-left g c = λ kept.
     let bytes = c.args.bytes.now in
     let image = c.args.self.now.held.image in
     let now = ap (λ (d : Device). d.image) c.in_ok-program.ensures.device in
-    let same = left_written _ at _ _ (both_bits (window at _ image) bytes) image c.program.new.self.image _ _ c.from.ensures refl (length-new at bytes image c.requires) c.requires now (c.in-Err.ensures.written kept.sound) kept.same in
+    let same = left_written _ at _ _ (both_bits (window at _ image) bytes) image c.program.new.self.image _ _ refl refl (length-new at bytes image c.requires) c.requires now (c.in-Err.ensures.written kept.sound) kept.same in
     record { image = _; same = same.1; left = part_programmed at same.0 bytes image c.requires }
 
 pub returns-in-Err-clause-device : goal.returns-in-Err-clause-device
@@ -41,7 +41,7 @@ returns-in-Err-clause-device g c =
     let bytes = c.args.bytes.now in
     let old = c.args.self.now in
     let now = c.program.new.self in
-    rw c.write_through.ensures.rest (record {
+    rw c.program_store.ensures.rest (record {
       left = rw (ap (λ (d : Device). d.image) c.in_ok-program.ensures.device) (all_programmed c.args.at bytes old.held.image c.requires);
       faults = omega arith;
       rest = ap (with_counts now (old.faults + 1)) (among_zero (old.faults + 1) ∙ sym (among_none old.faults old.failed_erases (c.in-Err.ensures.sound refl)))

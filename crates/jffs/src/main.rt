@@ -3,13 +3,18 @@
 #![tactic(auto)]
 
 use jffs_program::run_called;
-use std::io::{BufWriter, Printer, Write};
+use jffs_text::{see_streams, words_given};
+use std::io;
+use std::io::{BufWriter, Write};
 use std::process::ExitCode;
-use std::{env, io};
 
 fn main(rt: HostRuntime) -> ExitCode {
-    match begin(&rt) {
-        Ok((words, mut out)) => {
+    let words = match begin(&rt) {
+        Ok(words) => words,
+        Err(status) => return ExitCode::from(status),
+    };
+    match BufWriter::new(rt.alloc(), io::writer(&rt)) {
+        Ok(mut out) => {
             let mut input = rt.reader();
             let status = run_called(&rt, &words, &mut input, &mut out, &mut rt.stderr());
             ExitCode::from(status)
@@ -21,9 +26,8 @@ fn main(rt: HostRuntime) -> ExitCode {
     }
 }
 
-/// The words that it was called with, and where its lines go.
-fn begin(rt: &HostRuntime) -> io::Result<(Vec<String>, BufWriter<Printer<'_, HostRuntime>>)> {
-    let words = env::args(rt)?.collect(rt.alloc())?;
-    let out = BufWriter::new(rt.alloc(), io::writer(rt))?;
-    Ok((words, out))
+/// The words that it was called with; else the status that it ends with.
+fn begin(rt: &HostRuntime) -> Result<Vec<String>, u8> {
+    see_streams("jffs", &rt.stdin(), &rt.stdout(), &mut rt.stderr())?;
+    words_given(rt, "jffs", &mut rt.stderr())
 }

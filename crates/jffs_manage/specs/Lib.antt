@@ -4,3 +4,4 @@ pub mod Answers
 pub mod Changes
 pub mod Wanting
 pub mod Manner
+pub mod Left

@@ -4,10 +4,12 @@ use Rattle.jffs_tree.specs.declared.wish.Cause.{Cause}
 use Rattle.jffs_tree.specs.declared.wish.Outcome.{Outcome}
 use Rattle.jffs_tree.specs.declared.wish.Outcome.TheVariants.{Refused}
 use Rattle.jffs_tree.specs.declared.wish.Wish.{Wish}
+use Rattle.jffs_tree.specs.declared.wish.Wish.TheVariants as wish
 use Rattle.jffs_protocol.specs.declared.serving.Failure.TheVariants as failure
 use Rattle.jffs_protocol.specs.declared.serving.Said.{Said}
 use Rattle.jffs_protocol.specs.declared.serving.Said.TheVariants as said
 use Rattle.jffs_core.specs.CoreState.{CoreState}
+use Rattle.jffs_core.specs.Asking.{HasAsked}
 use Rattle.jffs_manage.specs.declared.wanting.Wanted.{Wanted}
 use Rattle.jffs_manage.specs.declared.wanting.Wanted.TheVariants as wanted
 use Rattle.jffs_manage.specs.Answers.{query_answer, refused_text}
@@ -30,19 +32,37 @@ pub record IsGranted (wish : Wish) (old new : CoreState) : Type 0 where
   pub granted : is_refused outcome ≡ false
   pub works : new.failed ≡ false
 
+-- The core refused the unmount.
+pub record StaysMounted (old new : CoreState) (written : List ℕ) : Type 0 where
+  pub cause : Cause
+  pub asked : HasAsked wish.Unmount (Refused cause) old new
+  pub is : written ≡ refused_text cause
+
+-- The core granted the unmount, or nothing was to be unmounted.
+abbrev pub IsUnmounted : CoreState → CoreState → Type 0
+IsUnmounted old new =
+    (new ≡ old)
+    ⊎ ((outcome : Outcome) × HasAsked wish.Unmount outcome old new × (is_refused outcome ≡ false))
+
 -- When these bytes are the answer: to a look, if the device works, those of the look; and to a
--- change that the core refused, its cause.
+-- change or an unmount that the core refused, its cause.
 abbrev pub AnswersWith : Wanted → CoreState → CoreState → List ℕ → Type 0
 AnswersWith (wanted.Query q) old new written =
     (new ≡ old) × (old.failed ≡ false → written ≡ query_answer old q)
 AnswersWith (wanted.Change wish) old new written = IsRefused wish old new written
-AnswersWith _ old new written = ⊥
+AnswersWith wanted.Unmount old new written = StaysMounted old new written
+AnswersWith wanted.Sync old new written = ⊥
 
 -- When `ok` is: once the core granted a change, or where nothing was to be changed.
 abbrev pub IsDone : Wanted → CoreState → CoreState → Type 0
 IsDone (wanted.Change wish) old new = IsGranted wish old new
 IsDone wanted.Sync old new = new ≡ old
 IsDone _ old new = ⊥
+
+-- When `ok` is, and no request follows.
+abbrev pub IsOver : Wanted → CoreState → CoreState → Type 0
+IsOver wanted.Unmount old new = IsUnmounted old new
+IsOver _ old new = ⊥
 
 -- When it is that memory was lacking: the tree is the same, or the core refused.
 abbrev pub LacksMemory : Wanted → CoreState → CoreState → Type 0
@@ -54,7 +74,7 @@ LacksMemory _ old new = new ≡ old
 abbrev pub IsManner : Wanted → CoreState → CoreState → Said → List ℕ → Type 0
 IsManner w old new said.Answered written = AnswersWith w old new written
 IsManner w old new said.Done written = IsDone w old new
-IsManner w old new said.Last written = w ≡ wanted.Unmount
+IsManner w old new said.Last written = IsOver w old new
 IsManner w old new said.Malformed written = new ≡ old
 IsManner w old new said.Memory written = LacksMemory w old new
 IsManner w old new (said.Failed why) written = ⊤
@@ -68,3 +88,9 @@ abbrev pub SaysRefused : Cause → Said → List ℕ → Type 0
 SaysRefused cause said.Answered written = written ≡ refused_text cause
 SaysRefused cause said.Memory written = ⊤
 SaysRefused cause _ written = ⊥
+
+-- the cause is the answer, or the server failed
+abbrev pub SaysRefusedOrFails : Cause → Said → List ℕ → Type 0
+SaysRefusedOrFails cause said.Answered written = written ≡ refused_text cause
+SaysRefusedOrFails cause (said.Failed why) written = ⊤
+SaysRefusedOrFails cause _ written = ⊥

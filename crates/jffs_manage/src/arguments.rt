@@ -1,6 +1,6 @@
 //! How the program is called.
 
-use jffs_text::Words;
+use jffs_text::{Shown, Words};
 use std::alloc::{AllocFailed, Global};
 use thiserror::Error;
 
@@ -110,6 +110,17 @@ pub(crate) struct VolumeWork<'a> {
     pub sector_size: Option<u32>,
 }
 
+impl<'a> VolumeWork<'a> {
+    /// The words that the line about a fault names, in order, of which some may be empty: the file,
+    /// and the paths after it.
+    pub fn names(self) -> [&'a str; 3] {
+        match self.task {
+            Task::Format { .. } => [self.file, "", ""],
+            _ => [self.file, self.first, self.second],
+        }
+    }
+}
+
 /// What is to be done with a volume.
 #[derive(Clone, Copy)]
 pub(crate) enum Task<'a> {
@@ -160,30 +171,30 @@ pub enum CallFault<'a> {
     load or serve; --help tells more")]
     NoCommand,
     /// The first word is no command.
-    #[error("unknown command '{0}'; commands are format, ls, cat, put, mkdir, mv, rm, df, check, \
-    map, save, load and serve")]
+    #[error("unknown command '{}'; commands are format, ls, cat, put, mkdir, mv, rm, df, check, \
+    map, save, load and serve", Shown::text(.0))]
     Command(&'a str),
     /// A word that begins with `-` is no option.
-    #[error("unknown option '{0}'; options are -l, -r, --svg, --from-damaged, --sector-size, \
-    --help and --version")]
+    #[error("unknown option '{}'; options are -l, -r, --svg, --from-damaged, --sector-size, \
+    --help and --version", Shown::text(.0))]
     Option(&'a str),
     /// An option that this command doesn't have, and the words that it has.
     #[error("unexpected option '{0}': {1}")]
     Foreign(&'static str, &'static str),
     /// A word after the last that the command has.
-    #[error("unexpected word '{0}'")]
+    #[error("unexpected word '{}'", Shown::text(.0))]
     Extra(&'a str),
     /// The command has more words, which are these.
     #[error("words are missing: {0}")]
     Few(&'static str),
     /// A word that should be a number isn't one.
-    #[error("a number is wanted, got '{0}'")]
+    #[error("a number is wanted, got '{}'", Shown::text(.0))]
     Number(&'a str),
     /// No word stands after `--sector-size`.
     #[error("--sector-size wants a number")]
     NoNumber,
     /// A word beside one that stands alone.
-    #[error("unexpected word '{word}' beside '{alone}', which stands alone")]
+    #[error("unexpected word '{}' beside '{alone}', which stands alone", Shown::text(word))]
     Beside { word: &'a str, alone: &'a str },
     /// A word without bytes.
     #[error("an empty word; --help tells which words there are")]

@@ -1,8 +1,13 @@
 //! What is changed on a volume.
 
+ghost use Rattle.std.specs.Prelude.{IfErr};
+ghost use Rattle.jffs_manage.specs.Left.{IsLeft};
+
 use crate::fault::VolumeFault;
+use crate::leftover::{Leftover, UNFINISHED, Unseen, left_in};
 use crate::looking::file_at;
 use crate::mounted_volume::MountedVolume;
+use crate::reached::Reached;
 use crate::rooming::{Needed, make_room};
 use crate::walking::below;
 use jffs_flash::Flash;
@@ -12,8 +17,34 @@ use std::alloc::Global;
 use std::io;
 use std::io::Read;
 
-/// The name of a file that a put hasn't finished.
-pub(crate) const UNFINISHED: &str = ".put.new";
+/// A new file on its way to its path.
+#[derive(Clone, Copy)]
+struct NewFile<'a> {
+    path: &'a Path,
+    /// Where it stands until it is whole.
+    unfinished: &'a Path,
+    /// How many bytes it has.
+    len: u32,
+    /// Whether a file stands at the path before.
+    replaces: bool,
+}
+
+/// What stopped a put, and what it has left, if anything.
+#[derive(Clone, Copy)]
+struct Stopped {
+    fault: VolumeFault,
+    left: Option<Leftover>,
+}
+
+impl Stopped {
+    /// What the put ends with.
+    fn into_fault(self) -> VolumeFault {
+        match (self.left, self.fault.cause()) {
+            (Some(left), Some(cause)) => VolumeFault::Unfinished { cause, left },
+            _ => self.fault,
+        }
+    }
+}
 
 /// Puts bytes into a file at a path, instead of one that stands there: into a new file beside it,
 /// then the old one is removed and the new one renamed.
@@ -21,9 +52,8 @@ pub(crate) const UNFINISHED: &str = ".put.new";
 /// `FileLong` where no file is so long, `Reserved` where the path is that of an unfinished file,
 /// `Left` where an unfinished file stands there already, `Directory` where a directory stands at
 /// the path, `NoSpace` where the log has no room for all of it, which is seen before it begins: no
-/// file is changed. `Refused` where a request was refused: the file at the path is as it was, and
-/// the new file is removed. Where that was refused too, `Part`: it stays with what was written.
-/// `Whole` where the old file was removed, and the rename refused: it stays with all its bytes.
+/// file is changed. Where a request was refused, the new file is removed, unless the old one is gone
+/// by then: that refusal, if nothing is left, and else `Unfinished` with what is left.
 pub(crate) fn put<F: Flash>(
     alloc: Global,
     volume: &mut MountedVolume<F>,
@@ -34,11 +64,7 @@ pub(crate) fn put<F: Flash>(
         return Err(VolumeFault::Refused(Cause::FileLong));
     }
     let path = Path::parse(alloc, text)?;
-    let beside = beside(alloc, text)?;
-    if text == beside.as_str() {
-        return Err(VolumeFault::Reserved);
-    }
-    let unfinished = Path::parse(alloc, beside.as_str())?;
+    let unfinished = unfinished_path(alloc, text)?;
     if volume.tree().resolve(&unfinished).is_some() {
         return Err(VolumeFault::Left);
     }
@@ -47,55 +73,96 @@ pub(crate) fn put<F: Flash>(
         Err(VolumeFault::Nothing) => false,
         Err(fault) => return Err(fault),
     };
-    let needed = Needed {
-        bytes: bytes.len() as u32,
-        piece: volume.write_max().max(1),
+    let len = bytes.len() as u32;
+    let piece = volume.write_max().max(1);
+    make_room(volume, Needed { bytes: len, piece })?;
+    let file = NewFile {
+        path: &path,
+        unfinished: &unfinished,
+        len,
+        replaces,
     };
-    make_room(volume, needed)?;
-    if let Err(fault) = write_file(alloc, volume, &unfinished, bytes) {
-        return Err(taken_away(volume, unfinished, fault));
+    match put_new(alloc, volume, file, bytes) {
+        Ok(()) => Ok(()),
+        Err(stopped) => Err(stopped.into_fault()),
     }
-    if replaces {
-        if let Err(fault) = volume.ask(Wish::Remove(path.clone()?)) {
-            return Err(taken_away(volume, unfinished, fault));
+}
+
+/// Writes a new file, removes the one that it replaces, and renames it.
+fn put_new<F: Flash>(
+    alloc: Global,
+    volume: &mut MountedVolume<F>,
+    file: NewFile<'_>,
+    bytes: &[u8],
+) -> Result<(), Stopped>
+    ensures left { IfErr result (λ stopped. IsLeft stopped.left volume.new.core.tree
+        file.entry.path.now file.entry.unfinished.now file.entry.len) }
+{
+    if let Err(fault) = write_file(alloc, volume, file.unfinished, bytes) {
+        return Err(stop(volume, file, false, fault));
+    }
+    if file.replaces {
+        if let Err(fault) = remove(volume, file.path) {
+            return Err(stop(volume, file, false, fault));
         }
     }
-    let renamed = volume.ask(Wish::Rename {
-        from: unfinished,
-        to: path,
-    });
-    match renamed {
-        Err(VolumeFault::NoSpace) if replaces => Err(VolumeFault::Whole(Cause::NoSpace)),
-        Err(VolumeFault::Refused(cause)) if replaces => Err(VolumeFault::Whole(cause)),
-        renamed => renamed,
+    match rename(volume, file.unfinished, file.path) {
+        Ok(()) => Ok(()),
+        Err(fault) => Err(stop(volume, file, true, fault)),
     }
 }
 
-/// Removes what a put has written, and gives what the put ends with: the fault that ended it, or
-/// `Part` where a part of the new file stays.
-fn taken_away<F: Flash>(
+/// Removes what there is of a new file, unless the one that it replaces is gone by then: what
+/// stopped it, and what it leaves. `renamed` says whether it was stopped while it was renamed.
+fn stop<F: Flash>(
     volume: &mut MountedVolume<F>,
-    unfinished: Path,
+    file: NewFile<'_>,
+    renamed: bool,
     fault: VolumeFault,
-) -> VolumeFault {
-    if volume.tree().resolve(&unfinished).is_none() {
-        return fault;
+) -> Stopped
+    ensures left { IsLeft result.left volume.new.core.tree file.entry.path.now
+        file.entry.unfinished.now file.entry.len }
+{
+    let stays = file.replaces && volume.tree().resolve(file.path).is_none();
+    if !stays && volume.tree().resolve(file.unfinished).is_some() {
+        let _ = remove(volume, file.unfinished);
     }
-    match (volume.ask(Wish::Remove(unfinished)), fault) {
-        (Ok(()), _) => fault,
-        (Err(_), VolumeFault::Refused(cause)) => VolumeFault::Part(cause),
-        (Err(_), VolumeFault::NoSpace | VolumeFault::Stuck) => VolumeFault::Part(Cause::NoSpace),
-        (Err(_), _) => fault,
-    }
+    let len = file.len;
+    let left = if volume.core().failed() {
+        Some(Leftover::Unseen(Unseen { len, renamed }))
+    } else {
+        left_in(volume.tree(), file.path, file.unfinished, len)
+    };
+    Stopped { fault, left }
 }
 
-/// The path of the unfinished file in the directory of a path.
-fn beside(alloc: Global, text: &str) -> Result<String, VolumeFault> {
+fn remove<F: Flash>(volume: &mut MountedVolume<F>, path: &Path) -> Result<(), VolumeFault> {
+    volume.ask(Wish::Remove(path.clone()?))
+}
+
+fn rename<F: Flash>(
+    volume: &mut MountedVolume<F>,
+    from: &Path,
+    to: &Path,
+) -> Result<(), VolumeFault> {
+    volume.ask(Wish::Rename {
+        from: from.clone()?,
+        to: to.clone()?,
+    })
+}
+
+/// The path of the unfinished file in the directory of a path. `Path` where the text is no path,
+/// `Reserved` where it is that path itself, `Memory`.
+pub(crate) fn unfinished_path(alloc: Global, text: &str) -> Result<Path, VolumeFault> {
     let directory = match text.rsplit_once('/') {
         Some((directory, _)) => directory,
         None => "",
     };
-    Ok(format!(in alloc; "{directory}/{UNFINISHED}")?)
+    let beside = format!(in alloc; "{directory}/{UNFINISHED}")?;
+    if text == beside.as_str() {
+        return Err(VolumeFault::Reserved);
+    }
+    Ok(Path::parse(alloc, beside.as_str())?)
 }
 
 /// Makes a file with these bytes, in as many writes as it takes.
@@ -128,7 +195,7 @@ pub(crate) fn remove_all<F: Flash>(
     alloc: Global,
     volume: &mut MountedVolume<F>,
     text: &str,
-    reached: &mut String,
+    reached: &mut Reached,
 ) -> Result<(), VolumeFault> {
     let path = Path::parse(alloc, text)?;
     if path.names().is_empty() {
@@ -139,8 +206,7 @@ pub(crate) fn remove_all<F: Flash>(
     };
     let all = below(alloc, volume.tree(), text, inode)?;
     for found in all.iter().rev() {
-        reached.clear();
-        reached.push_str(found.path.as_str())?;
+        reached.set(found.path.as_str())?;
         volume.ask(Wish::Remove(Path::parse(alloc, found.path.as_str())?))?;
     }
     reached.clear();

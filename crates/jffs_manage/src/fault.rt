@@ -2,6 +2,7 @@
 
 ghost use Rattle.std.specs.Prelude.{◌≡◌, ◌⊎◌};
 
+use crate::leftover::Leftover;
 use jffs_file::{FileFault, StoreFault};
 use jffs_flash::{MAX_SECTORS, MIN_SECTORS, VOLUME_MAX};
 use jffs_log::ScanWhy;
@@ -80,12 +81,12 @@ pub enum VolumeFault {
     #[error("a put wasn't finished, and left what it had in the file '.put.new' beside the \
     path: mv it or rm it")]
     Left,
-    /// A put was refused, for this cause, and so was the removal of what it had written.
-    #[error("{0}; a part of the new file is left as '.put.new' beside the path")]
-    Part(Cause),
-    /// A put was refused, for this cause, after the file at its path was removed.
-    #[error("{0}; the new file is left whole as '.put.new' beside the path: mv it")]
-    Whole(Cause),
+    /// A put was stopped, for this cause, and has left this.
+    #[error("{cause}; {left}")]
+    Unfinished { cause: Cause, left: Leftover },
+    /// Each change is done, and the unmount after them was refused, for this cause.
+    #[error("what was asked for is done, but the volume isn't unmounted: {0}")]
+    NotClosed(Cause),
     /// The log has no room.
     #[error("the log has no room: rm what can go, and ask again; df tells how full it is")]
     NoSpace,
@@ -141,9 +142,8 @@ impl VolumeFault {
     /// The status that the program ends with: 1 to 4, as `run_volume` says.
     pub fn status(self) -> u8 {
         match self {
-            VolumeFault::File(FileFault::Memory | FileFault::Write) | VolumeFault::HostWrite => {
-                BROKEN
-            }
+            VolumeFault::File(FileFault::Memory | FileFault::Write | FileFault::Left)
+            | VolumeFault::HostWrite => { BROKEN },
             VolumeFault::File(_)
             | VolumeFault::Unread
             | VolumeFault::Large
@@ -163,9 +163,9 @@ impl VolumeFault {
             | VolumeFault::Special
             | VolumeFault::Dots => { MISUSED },
             VolumeFault::NoSize | VolumeFault::NoLength(_) | VolumeFault::NoVolume(_) => NO_VOLUME,
-            VolumeFault::Refused(cause) | VolumeFault::Part(cause) | VolumeFault::Whole(cause) => {
-                status_of(cause)
-            }
+            VolumeFault::Refused(cause)
+            | VolumeFault::Unfinished { cause, .. }
+            | VolumeFault::NotClosed(cause) => status_of(cause),
             VolumeFault::Nothing
             | VolumeFault::Directory
             | VolumeFault::Left
@@ -176,6 +176,16 @@ impl VolumeFault {
             | VolumeFault::Write
             | VolumeFault::Errors
             | VolumeFault::Memory => { BROKEN },
+        }
+    }
+
+    /// The cause of a refusal, as the script's page has it.
+    pub(crate) fn cause(self) -> Option<Cause> {
+        match self {
+            VolumeFault::Refused(cause) | VolumeFault::Unfinished { cause, .. } => Some(cause),
+            VolumeFault::NoSpace | VolumeFault::Stuck => Some(Cause::NoSpace),
+            VolumeFault::Memory => Some(Cause::Memory),
+            _ => None,
         }
     }
 

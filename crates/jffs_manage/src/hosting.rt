@@ -1,18 +1,20 @@
 //! Directories of the host: all of a volume into one, and all of one into a volume.
 
-use crate::changing::{UNFINISHED, put, read_some};
+use crate::changing::{put, read_some};
 use crate::fault::VolumeFault;
+use crate::leftover::UNFINISHED;
 use crate::looking::show;
 use crate::mounted_volume::MountedVolume;
+use crate::reached::Reached;
 use crate::walking::{Entry, below};
 use jffs_flash::Flash;
 use jffs_node::{Path, ROOT_INODE};
 use jffs_tree::{Tree, Wish};
-use std::alloc::{AllocError, Global};
-use std::fs;
+use std::alloc::Global;
 use std::fs::{File, OpenOptions};
-use std::io::ErrorKind;
+use std::io::{BufRead, BufReader, ErrorKind};
 use std::rt::Files;
+use std::{fs, io};
 
 /// Writes all directories and files of a volume into a directory of the host, which is made where
 /// there is none. Directories that are there are used, and no file is written over.
@@ -25,7 +27,7 @@ pub(crate) fn save<Rt: Files + AllocGlobal>(
     rt: &Rt,
     tree: &Tree,
     directory: &str,
-    reached: &mut String,
+    reached: &mut Reached,
 ) -> Result<(), VolumeFault> {
     let all = below(rt.alloc(), tree, "", ROOT_INODE)?;
     save_all(rt, tree, &all, directory, reached)
@@ -37,17 +39,17 @@ pub(crate) fn save_all<Rt: Files + AllocGlobal>(
     tree: &Tree,
     all: &[Entry],
     directory: &str,
-    reached: &mut String,
+    reached: &mut Reached,
 ) -> Result<(), VolumeFault> {
     for found in all.iter() {
         if has_dots(found.path.as_str()) {
-            set(reached, found.path.as_str())?;
+            reached.set(found.path.as_str())?;
             return Err(VolumeFault::Dots);
         }
     }
     for found in all.iter() {
         let path = found.path.as_str();
-        set(reached, path)?;
+        reached.set(path)?;
         let target = format!(in rt.alloc(); "{directory}{path}")?;
         if tree.is_directory(found.inode) {
             make_directory(rt, target.as_str())?;
@@ -62,11 +64,6 @@ pub(crate) fn save_all<Rt: Files + AllocGlobal>(
 /// Whether a name of a path is one that each directory of the host has.
 pub(crate) fn has_dots(path: &str) -> bool {
     path.split('/').any(|name| name == "." || name == "..")
-}
-
-fn set(reached: &mut String, path: &str) -> Result<(), AllocError> {
-    reached.clear();
-    reached.push_str(path)
 }
 
 /// Makes a directory on the host, unless one stands there.
@@ -102,12 +99,12 @@ pub(crate) fn load<Rt: Files + AllocGlobal + Clone + Drop, F: Flash>(
     rt: &Rt,
     volume: &mut MountedVolume<F>,
     directory: &str,
-    reached: &mut String,
+    reached: &mut Reached,
 ) -> Result<(), VolumeFault> {
     let alloc = rt.alloc();
     for (path, is_directory) in host_paths(rt, directory, reached)?.iter() {
         let path = path.as_str();
-        set(reached, path)?;
+        reached.set(path)?;
         if *is_directory {
             keep_directory(alloc, volume, path)?;
         } else {
@@ -143,7 +140,7 @@ fn read_file<Rt: Files + AllocGlobal>(rt: &Rt, path: &str) -> Result<Vec<u8>, Vo
 fn host_paths<Rt: Files + AllocGlobal + Clone + Drop>(
     rt: &Rt,
     directory: &str,
-    reached: &mut String,
+    reached: &mut Reached,
 ) -> Result<Vec<(String, bool)>, VolumeFault> {
     let alloc = rt.alloc();
     let mut found = Vec::new(alloc);
@@ -154,11 +151,53 @@ fn host_paths<Rt: Files + AllocGlobal + Clone + Drop>(
             Some((_, false)) => continue,
             None => break,
         };
-        set(reached, path.as_str())?;
+        reached.set(path.as_str())?;
         add_paths(rt, directory, path.as_str(), &mut found, reached)?;
     }
     found.sort()?;
     Ok(found)
+}
+
+/// What a load ends with at an entry of a directory that can't be read. `reached` is left with the
+/// path of an entry whose name is no text.
+fn no_entry<Rt: Files + AllocGlobal>(
+    rt: &Rt,
+    from: &str,
+    inside: &str,
+    error: io::Error,
+    reached: &mut Reached,
+) -> VolumeFault {
+    if error.kind() != ErrorKind::InvalidFilename {
+        return VolumeFault::of_host_read(error);
+    }
+    let named = match odd_name(rt, from) {
+        Ok(name) => reached.set_in(inside, &name),
+        Err(error) => return VolumeFault::of_host_read(error),
+    };
+    match named {
+        Ok(()) => VolumeFault::of_host_read(error),
+        Err(_) => VolumeFault::Memory,
+    }
+}
+
+/// The first name in a directory of the host that is no text.
+fn odd_name<Rt: Files + AllocGlobal>(rt: &Rt, directory: &str) -> io::Result<Vec<u8>> {
+    let alloc = rt.alloc();
+    let path = format!(in alloc; "{directory}/")?;
+    let mut names = BufReader::new(alloc, rt.open_dir(path.as_str())?)?;
+    let mut name = Vec::new(alloc);
+    // A directory is read as its names, each with a zero after it.
+    for _ in 0..u64::MAX {
+        name.clear();
+        if names.read_until(0, &mut name)? == 0 {
+            break;
+        }
+        name.pop();
+        if str::from_utf8(&name).is_err() {
+            break;
+        }
+    }
+    Ok(name)
 }
 
 /// Adds the paths of what stands in one directory of the host.
@@ -167,16 +206,19 @@ fn add_paths<Rt: Files + AllocGlobal + Clone + Drop>(
     directory: &str,
     inside: &str,
     found: &mut Vec<(String, bool)>,
-    reached: &mut String,
+    reached: &mut Reached,
 ) -> Result<(), VolumeFault> {
     let alloc = rt.alloc();
     let from = format!(in alloc; "{directory}{inside}")?;
     let entries = fs::read_dir(rt, from.as_str()).map_err(VolumeFault::of_host_read)?;
     for entry in entries {
-        let entry = entry.map_err(VolumeFault::of_host_read)?;
+        let entry = match entry {
+            Ok(entry) => entry,
+            Err(error) => return Err(no_entry(rt, from.as_str(), inside, error, reached)),
+        };
         let name = entry.file_name();
         let path = format!(in alloc; "{inside}/{name}")?;
-        set(reached, path.as_str())?;
+        reached.set(path.as_str())?;
         Path::check(path.as_str())?;
         if name == UNFINISHED {
             return Err(VolumeFault::Reserved);

@@ -4,7 +4,8 @@
 //! It stands on `jffs_core` for the volume and on `jffs_file` for the file. [`run_volume`] is the
 //! program; `arguments` reads its words, `mounting` opens the file, `looking`, `mapping` and
 //! `drawing` write what is there, `changing` does what is asked of a `mounted_volume`, which ends
-//! with an unmount, `rooming` sees that a put has room before it begins, `hosting` carries whole
+//! with an unmount, `rooming` sees that a put has room before it begins, and `leftover` what one
+//! that was stopped has left, `hosting` carries whole
 //! trees from and to a directory of the host, `salvaging` saves what is left of a volume that is
 //! refused, and `serving` answers a client's requests, which `wanting` reads and `answering` looks
 //! up.
@@ -17,11 +18,13 @@ mod drawing;
 mod fault;
 mod help;
 mod hosting;
+mod leftover;
 mod looking;
 mod mapping;
 mod mounted_volume;
 mod mounting;
 mod program;
+mod reached;
 mod rooming;
 mod salvaging;
 mod serving;
@@ -30,4 +33,5 @@ mod wanting;
 
 pub use arguments::CallFault;
 pub use fault::VolumeFault;
+pub use leftover::{Leftover, Unseen};
 pub use program::run_volume;

@@ -236,9 +236,18 @@ fn write_lines<W: Write>(usage: SpaceUsage, out: &mut W) -> io::Result<()>
     )
 }
 
-/// Writes in a line whether a volume is clean, and how many records it has.
-pub(crate) fn check<F: Flash, W: Write>(core: &Core<F>, out: &mut W) -> io::Result<()> {
+/// Writes in a line whether a volume is clean, and how many records it has; and in one more which
+/// sector it was whose erase had been cut off, if one had.
+pub(crate) fn check<F: Flash, W: Write>(
+    core: &Core<F>,
+    begun: Option<u32>,
+    out: &mut W,
+) -> io::Result<()> {
     let clean = if core.clean() { "clean" } else { "unclean" };
     let records = core.log().records().len();
-    writeln!(out, "volume {clean}, {records} records")
+    writeln!(out, "volume {clean}, {records} records")?;
+    match begun {
+        Some(sector) => writeln!(out, "sector {sector} was being erased"),
+        None => Ok(()),
+    }
 }

@@ -1,6 +1,6 @@
 //! Requests to a mounted volume, one after another, up to its unmount.
 
-ghost use Rattle.std.specs.Prelude.{◌≡◌, IfOk, OnErr};
+ghost use Rattle.std.specs.Prelude.{◌≡◌, IfOk, OnErr, MatchOption};
 ghost use Rattle.jffs_core.specs.Asking.{HasAsked};
 ghost use Rattle.jffs_core.specs.Trees.{KeepsTree};
 ghost use Rattle.jffs_manage.specs.Changes.{IsCarriedOut};
@@ -114,26 +114,35 @@ impl<F: Flash> MountedVolume<F> {
         Ok(outcome)
     }
 
-    /// Has the control ask for the unmount.
-    fn unmount(&mut self) -> Result<(), VolumeFault> {
-        match self.answer(CONTROL, 1, Wish::Unmount)? {
-            Outcome::Refused(cause) => Err(VolumeFault::Refused(cause)),
+    /// Has the control ask for the unmount, and gives what the core answered; `None` where no node
+    /// was appended since the mount, and nothing was asked. `Memory`: nothing was asked.
+    pub fn unmount(&mut self) -> Result<Option<Outcome>, VolumeFault>
+        ensures asked { IfOk result (λ found. MatchOption found (self.new.core ≡ self.old.core)
+            (λ outcome. HasAsked Wish.Unmount outcome self.old.core self.new.core)) }
+    {
+        if self.core.limits() == self.begun {
+            return Ok(None);
+        }
+        match self.answer(CONTROL, 1, Wish::Unmount) {
+            Ok(outcome) => Ok(Some(outcome)),
+            Err(fault) => Err(fault),
+        }
+    }
+
+    /// Unmounts the volume, unless its device failed or no node was appended. `Refused` where that
+    /// was refused.
+    fn finish(&mut self) -> Result<(), VolumeFault> {
+        if self.core.failed() {
+            return Err(VolumeFault::Refused(Cause::Failed));
+        }
+        match self.unmount()? {
+            Some(Outcome::Refused(cause)) => Err(VolumeFault::Refused(cause)),
             _ => Ok(()),
         }
     }
 
-    /// Unmounts the volume, unless its device failed or no node was appended.
-    pub fn finish(&mut self) -> Result<(), VolumeFault> {
-        if self.core.failed() {
-            Err(VolumeFault::Refused(Cause::Failed))
-        } else if self.core.limits() == self.begun {
-            Ok(())
-        } else {
-            self.unmount()
-        }
-    }
-
-    /// Unmounts the volume, as [`finish`](MountedVolume::finish) does, and gives the device back.
+    /// Unmounts the volume, unless its device failed or no node was appended, and gives the device
+    /// back. `Refused` where that was refused.
     pub fn close(mut self) -> (F, Result<(), VolumeFault>) {
         let closed = self.finish();
         let MountedVolume {

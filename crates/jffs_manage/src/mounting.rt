@@ -3,10 +3,11 @@
 ghost use Rattle.std.specs.Prelude.{◌≡◌, ◌*◌, IfOk};
 
 use crate::fault::VolumeFault;
-use jffs_core::Core;
+use jffs_core::{Core, Opened};
 use jffs_file::{FileFlash, FileStore, open_image};
 use jffs_flash::{MemoryFlash, SECTOR_SIZES, VOLUME_MAX, is_geometry};
 use jffs_log::ScanWhy;
+use jffs_tree::Cause;
 use std::alloc::Global;
 use std::fs::{File, TryLockError};
 use std::io::Read;
@@ -16,11 +17,12 @@ use std::rt::Files;
 pub(crate) type FileCore<Rt> = Core<FileFlash<FileStore<<Rt as Files>::File>>>;
 
 /// Mounts the volume in a file, to change it, of sectors of this size, in bytes; where none is
-/// given, of the one size that makes a volume of the file.
+/// given, of the one size that makes a volume of the file. An erase that was cut off is ended.
 ///
 /// `File` or `Large` where the file can't be used, `SectorSize` or `Length` where sectors of this
 /// size can't be its own, `NoVolume` where there is none in it, `NoSize` or `NoLength` where there
 /// is none of any size, `Sizes` where there is one of several, `Memory`. The file stays as it is.
+/// `Refused` with Device where it can't be written, to end an erase.
 pub(crate) fn mount<Rt: Files + AllocGlobal>(
     rt: &Rt,
     file: &str,
@@ -32,8 +34,8 @@ pub(crate) fn mount<Rt: Files + AllocGlobal>(
         None => find_volume(rt.alloc(), image.bytes())?.0,
     };
     let sectors = sectors_of(image.bytes().len(), size)?;
-    match Core::mount(rt.alloc(), image.into_flash(sectors, size)?) {
-        Ok(core) => Ok(core),
+    match Core::open(rt.alloc(), image.into_flash(sectors, size)?) {
+        Ok(opened) => Ok(opened.core),
         Err(fault) => Err(refused(fault.why)),
     }
 }
@@ -52,13 +54,14 @@ pub(crate) fn lock<Rt: Files<File = File>>(rt: &Rt, file: &str) -> Result<File, 
     }
 }
 
-/// Mounts a copy of the volume in a file, to look at it, as [`mount`] does; the file need not be
-/// one that can be written. `Unread` where it can't be read.
+/// Mounts a copy of the volume in a file, to look at it, as [`mount`] does: an erase that was cut off
+/// is ended in the copy. The file need not be one that can be written. `Unread` where it can't be
+/// read.
 pub(crate) fn mount_copy<Rt: Files + AllocGlobal>(
     rt: &Rt,
     file: &str,
     sector_size: Option<u32>,
-) -> Result<Core<MemoryFlash>, VolumeFault> {
+) -> Result<Opened<MemoryFlash>, VolumeFault> {
     let bytes = read_image(rt, file)?;
     match sector_size {
         Some(size) => mount_bytes(rt.alloc(), bytes, size),
@@ -88,7 +91,7 @@ pub(crate) fn read_image<Rt: Files + AllocGlobal>(
 pub(crate) fn find_volume(
     alloc: Global,
     bytes: &[u8],
-) -> Result<(u32, Core<MemoryFlash>), VolumeFault> {
+) -> Result<(u32, Opened<MemoryFlash>), VolumeFault> {
     let mut found = None;
     let mut fits = false;
     for &size in SECTOR_SIZES.iter() {
@@ -98,7 +101,7 @@ pub(crate) fn find_volume(
         fits = true;
         match mount_bytes(alloc, bytes.to_vec(alloc)?, size) {
             Ok(_) if found.is_some() => return Err(VolumeFault::Sizes),
-            Ok(core) => found = Some((size, core)),
+            Ok(opened) => found = Some((size, opened)),
             Err(VolumeFault::NoVolume(_)) => {}
             Err(fault) => return Err(fault),
         }
@@ -109,15 +112,16 @@ pub(crate) fn find_volume(
     found.ok_or(VolumeFault::NoSize)
 }
 
-/// Mounts flash in memory that holds these bytes, of sectors of this size.
+/// Mounts flash in memory that holds these bytes, of sectors of this size; an erase that was cut off
+/// is ended there.
 pub(crate) fn mount_bytes(
     alloc: Global,
     bytes: Vec<u8>,
     size: u32,
-) -> Result<Core<MemoryFlash>, VolumeFault> {
+) -> Result<Opened<MemoryFlash>, VolumeFault> {
     let sectors = sectors_of(bytes.len(), size)?;
-    match Core::mount(alloc, MemoryFlash::from_bytes(sectors, size, bytes)) {
-        Ok(core) => Ok(core),
+    match Core::open(alloc, MemoryFlash::from_bytes(sectors, size, bytes)) {
+        Ok(opened) => Ok(opened),
         Err(fault) => Err(refused(fault.why)),
     }
 }
@@ -166,6 +170,7 @@ pub(crate) fn sectors_of(len: usize, size: u32) -> Result<u32, VolumeFault>
 fn refused(why: ScanWhy) -> VolumeFault {
     match why {
         ScanWhy::Memory => VolumeFault::Memory,
+        ScanWhy::Device => VolumeFault::Refused(Cause::Device),
         _ => VolumeFault::NoVolume(why),
     }
 }

@@ -4,23 +4,26 @@ use crate::answering::PATH_TEXT_MAX;
 use crate::arguments::{
     CallFault, Task, VolumeCall, VolumeChange, VolumeLook, VolumeWork, call_of,
 };
-use crate::changing::{put, read_all, remove_all};
+use crate::changing::{put, read_all, remove_all, unfinished_path};
 use crate::drawing::{draw, draw_svg};
 use crate::fault::{BROKEN, DONE, MISUSED, VolumeFault};
 use crate::help::{HELP, VERSION};
 use crate::hosting::{load, save};
+use crate::leftover::{Leftover, Unseen};
 use crate::looking::{check, file_at, list, show, write_usage};
 use crate::mapping::{Map, map_of};
 use crate::mounted_volume::MountedVolume;
 use crate::mounting::{lock, mount, mount_copy};
+use crate::reached::Reached;
 use crate::salvaging::save_damaged;
-use crate::serving::ServedVolume;
-use jffs_core::Core;
+use crate::serving::{ServeEnd, ServedVolume};
+use jffs_core::{Core, Opened};
 use jffs_file::create_image;
 use jffs_flash::{Flash, MAX_SECTORS, MIN_SECTORS, is_geometry};
 use jffs_node::Path;
 use jffs_protocol::{Room, serve};
-use jffs_tree::{Tree, Wish};
+use jffs_text::Shown;
+use jffs_tree::{Cause, Tree, Wish};
 use std::alloc::Global;
 use std::fs::File;
 use std::io;
@@ -33,7 +36,8 @@ use std::rt::Files;
 /// Gives the exit status: 0; 1 where memory, a stream or a file failed, 2 after a wrong call or
 /// where the file, or what is on the host, can't be used, 3 where the file is no volume, 4 where
 /// the file system refused. For all but the first one line goes to `errors`; so does a
-/// line for all that is missing where a damaged volume is saved.
+/// line for all that is missing where a damaged volume is saved, and one where the last version is
+/// used, so that the volume can't be unmounted.
 pub fn run_volume<Rt: Files<File = File> + AllocGlobal + Clone + Drop, R: Read, W: Write, E: Write>(
     rt: &Rt,
     words: &[String],
@@ -52,7 +56,7 @@ pub fn run_volume<Rt: Files<File = File> + AllocGlobal + Clone + Drop, R: Read, 
             };
         }
     };
-    let mut reached = String::new(rt.alloc());
+    let mut reached = Reached::new(rt.alloc());
     let done = match call {
         VolumeCall::Help => write_text(HELP, out),
         VolumeCall::Version => write_text(VERSION, out),
@@ -61,7 +65,7 @@ pub fn run_volume<Rt: Files<File = File> + AllocGlobal + Clone + Drop, R: Read, 
     match done {
         Ok(()) => DONE,
         Err(fault) => {
-            let _ = tell(call, reached.as_str(), fault, errors);
+            let _ = tell(call, &reached, fault, errors);
             fault.status()
         }
     }
@@ -71,16 +75,19 @@ pub fn run_volume<Rt: Files<File = File> + AllocGlobal + Clone + Drop, R: Read, 
 /// stopped.
 fn tell<E: Write>(
     call: VolumeCall<'_>,
-    reached: &str,
+    reached: &Reached,
     fault: VolumeFault,
     errors: &mut E,
 ) -> io::Result<()> {
     errors.write_all(b"jffs_volume: ")?;
     if let VolumeCall::Do(work) = call {
-        for word in [work.file, work.first, work.second, reached] {
+        for word in work.names() {
             if !word.is_empty() {
-                write!(errors, "{word}: ")?;
+                write!(errors, "{}: ", Shown::text(word))?;
             }
+        }
+        if !reached.is_empty() {
+            write!(errors, "{reached}: ")?;
         }
     }
     writeln!(errors, "{fault}")
@@ -100,7 +107,7 @@ fn carry_out<Rt: Files<File = File> + AllocGlobal + Clone + Drop, R: Read, W: Wr
     out: &mut W,
     errors: &mut E,
     coloured: bool,
-    reached: &mut String,
+    reached: &mut Reached,
 ) -> Result<(), VolumeFault> {
     match work.task {
         Task::Format {
@@ -111,8 +118,8 @@ fn carry_out<Rt: Files<File = File> + AllocGlobal + Clone + Drop, R: Read, W: Wr
             let _ = create_image(rt, work.file, sectors, sector_size)?;
         }
         Task::Look(asked) => look(rt, &work, asked, out, coloured)?,
-        Task::Change(asked) => change(rt, &work, asked, input, reached)?,
-        Task::Serve => serve_volume(rt, &work, input, out)?,
+        Task::Change(asked) => change(rt, &work, asked, input, errors, reached)?,
+        Task::Serve => serve_volume(rt, &work, input, out, errors)?,
         Task::Save {
             directory,
             damaged: true,
@@ -121,8 +128,8 @@ fn carry_out<Rt: Files<File = File> + AllocGlobal + Clone + Drop, R: Read, W: Wr
             directory,
             damaged: false,
         } => {
-            let core = mount_copy(rt, work.file, work.sector_size)?;
-            save(rt, core.tree(), directory, reached)?;
+            let opened = mount_copy(rt, work.file, work.sector_size)?;
+            save(rt, opened.core.tree(), directory, reached)?;
         }
     }
     out.flush()?;
@@ -148,13 +155,13 @@ fn look<Rt: Files + AllocGlobal, W: Write>(
     out: &mut W,
     coloured: bool,
 ) -> Result<(), VolumeFault> {
-    let core = mount_copy(rt, work.file, work.sector_size)?;
+    let Opened { core, sector } = mount_copy(rt, work.file, work.sector_size)?;
     let alloc = rt.alloc();
     match asked {
         VolumeLook::List { path, long } => list_at(alloc, &core, path, long, out),
         VolumeLook::Show(path) => show_at(alloc, core.tree(), path, out),
         VolumeLook::Usage => Ok(write_usage(&core, out)?),
-        VolumeLook::Check => Ok(check(&core, out)?),
+        VolumeLook::Check => Ok(check(&core, sector, out)?),
         VolumeLook::Map { svg } => {
             let map = map_of(alloc, &core)?;
             Ok(draw_as(&map, svg, coloured, out)?)
@@ -191,30 +198,101 @@ fn draw_as<W: Write>(map: &Map, svg: bool, coloured: bool, out: &mut W) -> io::R
 }
 
 /// Mounts the volume, changes it, unmounts it and brings the file to its medium.
-fn change<Rt: Files<File = File> + AllocGlobal + Clone + Drop, R: Read>(
+fn change<Rt: Files<File = File> + AllocGlobal + Clone + Drop, R: Read, E: Write>(
     rt: &Rt,
     work: &VolumeWork<'_>,
     asked: VolumeChange<'_>,
     input: &mut R,
-    reached: &mut String,
+    errors: &mut E,
+    reached: &mut Reached,
 ) -> Result<(), VolumeFault> {
     let _locked = lock(rt, work.file)?;
     let mut volume = MountedVolume::new(mount(rt, work.file, work.sector_size)?);
     let changed = change_in(rt, &mut volume, asked, input, reached);
     let (flash, closed) = volume.close();
-    changed?;
-    closed?;
+    if let Err(fault) = changed {
+        return Err(looked_after(rt, work, flash.sector_size(), reached, fault));
+    }
+    closed_or_spent(closed, work.file, errors)?;
     flash.sync()?;
     Ok(())
 }
 
+/// What a command comes to whose changes are done, by how the unmount after them ended. Where only
+/// a version for it was lacking, that is told of on `errors`, and the command is done.
+fn closed_or_spent<E: Write>(
+    closed: Result<(), VolumeFault>,
+    file: &str,
+    errors: &mut E,
+) -> Result<(), VolumeFault> {
+    let Err(fault) = closed else {
+        return Ok(());
+    };
+    match fault.cause() {
+        Some(Cause::VersionsSpent) => {
+            let (file, cause) = (Shown::text(file), Cause::VersionsSpent);
+            let _ = writeln!(
+                errors,
+                "jffs_volume: {file}: {cause}: the last change is done, and the volume can't be \
+                unmounted any more"
+            );
+            Ok(())
+        }
+        Some(cause) => Err(VolumeFault::NotClosed(cause)),
+        None => Err(fault),
+    }
+}
+
+/// What a put ends with that failed with the device: the volume is mounted once more, to look what
+/// is left.
+fn looked_after<Rt: Files + AllocGlobal>(
+    rt: &Rt,
+    work: &VolumeWork<'_>,
+    sector_size: u32,
+    reached: &Reached,
+    fault: VolumeFault,
+) -> VolumeFault {
+    let VolumeFault::Unfinished {
+        cause,
+        left: Leftover::Unseen(unseen),
+    } = fault
+    else {
+        return fault;
+    };
+    let path = if reached.is_empty() {
+        work.first
+    } else {
+        reached.text()
+    };
+    match left_on(rt, work.file, sector_size, path, unseen) {
+        Ok(Some(left)) => VolumeFault::Unfinished { cause, left },
+        Ok(None) => VolumeFault::Refused(cause),
+        Err(_) => fault,
+    }
+}
+
+/// What a put to this path has left on the volume in a file.
+fn left_on<Rt: Files + AllocGlobal>(
+    rt: &Rt,
+    file: &str,
+    sector_size: u32,
+    path: &str,
+    unseen: Unseen,
+) -> Result<Option<Leftover>, VolumeFault> {
+    let opened = mount_copy(rt, file, Some(sector_size))?;
+    let unfinished = unfinished_path(rt.alloc(), path)?;
+    let path = Path::parse(rt.alloc(), path)?;
+    Ok(unseen.left_on(opened.core.tree(), &path, &unfinished))
+}
+
 /// Mounts the volume and answers what the input asks, up to the unmount; where none is asked for,
-/// it is unmounted once the input or a stream ends. Then the file is brought to its medium.
-fn serve_volume<Rt: Files<File = File> + AllocGlobal, R: Read, W: Write>(
+/// it is unmounted once the input or a stream ends, and then the file is brought to its medium.
+fn serve_volume<Rt: Files<File = File> + AllocGlobal, R: Read, W: Write, E: Write>(
     rt: &Rt,
     work: &VolumeWork<'_>,
     input: &mut R,
     out: &mut W,
+    errors: &mut E,
 ) -> Result<(), VolumeFault> {
     let _locked = lock(rt, work.file)?;
     let volume = MountedVolume::new(mount(rt, work.file, work.sector_size)?);
@@ -222,11 +300,16 @@ fn serve_volume<Rt: Files<File = File> + AllocGlobal, R: Read, W: Write>(
     let mut served = ServedVolume::new(rt.alloc(), volume);
     let mut room = Room::new(rt.alloc(), PATH_TEXT_MAX, data_max)?;
     let streams = serve(&mut served, &mut room, input, out);
-    let (volume, failed) = served.into_parts();
+    let (volume, end) = served.into_parts();
+    if let ServeEnd::Unmounted = end {
+        return Ok(streams?);
+    }
     let (flash, closed) = volume.close();
-    failed?;
+    if let ServeEnd::Failed(fault) = end {
+        return Err(fault);
+    }
     streams?;
-    closed?;
+    closed_or_spent(closed, work.file, errors)?;
     flash.sync()?;
     Ok(())
 }
@@ -237,7 +320,7 @@ fn change_in<Rt: Files + AllocGlobal + Clone + Drop, F: Flash, R: Read>(
     volume: &mut MountedVolume<F>,
     asked: VolumeChange<'_>,
     input: &mut R,
-    reached: &mut String,
+    reached: &mut Reached,
 ) -> Result<(), VolumeFault> {
     let alloc = rt.alloc();
     match asked {

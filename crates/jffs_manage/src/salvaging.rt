@@ -4,6 +4,7 @@ use crate::arguments::VolumeWork;
 use crate::fault::VolumeFault;
 use crate::hosting::{has_dots, save, save_all};
 use crate::mounting::{find_volume, mount_bytes, only_size, read_image, sectors_of};
+use crate::reached::Reached;
 use crate::walking::{Entry, below, is_second, joined};
 use jffs_log::{Salvaged, ScanWhy, salvage};
 use jffs_node::{Name, ROOT_INODE};
@@ -28,7 +29,7 @@ pub(crate) fn save_damaged<Rt: Files + AllocGlobal, E: Write>(
     rt: &Rt,
     work: &VolumeWork<'_>,
     directory: &str,
-    reached: &mut String,
+    reached: &mut Reached,
     errors: &mut E,
 ) -> Result<(), VolumeFault> {
     let alloc = rt.alloc();
@@ -36,7 +37,7 @@ pub(crate) fn save_damaged<Rt: Files + AllocGlobal, E: Write>(
     let size = size_of(alloc, &bytes, work.sector_size)?;
     let sectors = sectors_of(bytes.len(), size)?;
     let why = match mount_bytes(alloc, bytes.to_vec(alloc)?, size) {
-        Ok(core) => return save(rt, core.tree(), directory, reached),
+        Ok(opened) => return save(rt, opened.core.tree(), directory, reached),
         Err(VolumeFault::NoVolume(why)) if why != ScanWhy::Geometry => why,
         Err(fault) => return Err(fault),
     };

@@ -1,9 +1,8 @@
 //! A mounted volume that answers the requests of a client.
 
-ghost use Rattle.std.specs.Prelude.{◌≡◌, ℕ, List, []};
-ghost use Rattle.jffs_core.specs.CoreState.{CoreState};
+ghost use Rattle.std.specs.Prelude.{◌≡◌, []};
 ghost use Rattle.jffs_manage.specs.Wanting.{wanted_of};
-ghost use Rattle.jffs_manage.specs.Manner.{IsManner, IsSynced, SaysRefused};
+ghost use Rattle.jffs_manage.specs.Manner.{IsManner, IsSynced, SaysRefused, SaysRefusedOrFails};
 
 use crate::answering::{answer_query, write_refusal};
 use crate::fault::VolumeFault;
@@ -34,8 +33,18 @@ impl<X: Write + Seek + OpenFile + Drop> SyncFlash for FileFlash<FileStore<X>> {
 pub(crate) struct ServedVolume<F: Flash> {
     alloc: Global,
     volume: MountedVolume<F>,
-    /// What ended it, if it failed.
-    fault: Option<VolumeFault>,
+    end: ServeEnd,
+}
+
+/// How a volume stands once no request follows.
+#[derive(Clone, Copy)]
+pub(crate) enum ServeEnd {
+    /// It is mounted.
+    Mounted,
+    /// It was unmounted, and its file stands on the medium.
+    Unmounted,
+    /// This ended it.
+    Failed(VolumeFault),
 }
 
 impl<F: Flash> ServedVolume<F> {
@@ -44,21 +53,18 @@ impl<F: Flash> ServedVolume<F> {
         ServedVolume {
             alloc,
             volume,
-            fault: None,
+            end: ServeEnd::Mounted,
         }
     }
 
-    /// The volume, and what ended it, if it failed.
-    pub fn into_parts(self) -> (MountedVolume<F>, Result<(), VolumeFault>) {
+    /// The volume, and how it stands.
+    pub fn into_parts(self) -> (MountedVolume<F>, ServeEnd) {
         let ServedVolume {
             alloc: _,
             volume,
-            fault,
+            end,
         } = self;
-        match fault {
-            Some(fault) => (volume, Err(fault)),
-            None => (volume, Ok(())),
-        }
+        (volume, end)
     }
 }
 
@@ -86,7 +92,7 @@ impl<F: Flash + SyncFlash> ServedVolume<F> {
             Wanted::Query(query) => self.look(&query, out),
             Wanted::Change(wish) => self.change(wish, out),
             Wanted::Sync => self.sync(Said::Done),
-            Wanted::Unmount => self.unmount(),
+            Wanted::Unmount => self.unmount(out),
         }
     }
 
@@ -132,15 +138,50 @@ impl<F: Flash + SyncFlash> ServedVolume<F> {
         }
     }
 
-    /// Unmounts the volume, and says that it is done once the file has it.
-    fn unmount(&mut self) -> Said
-        ensures { (old new : CoreState) (written : List ℕ) → IsManner Wanted.Unmount old new result
-            written }
+    /// Unmounts the volume, and says that it is done once the file has it. Where that is refused,
+    /// it stays mounted.
+    fn unmount(&mut self, out: &mut Vec<u8>) -> Said
+        requires empty { out.old.items ≡ [] }
+        ensures { IsManner Wanted.Unmount self.old.volume.core self.new.volume.core result
+            out.new.items }
     {
-        match self.volume.finish() {
-            Ok(()) => self.sync(Said::Last),
-            Err(fault) => self.fail(why_left(fault), fault),
+        let Ok(answered) = self.volume.unmount() else {
+            return self.fail(Failure::Memory, VolumeFault::Memory);
+        };
+        if self.volume.core().failed() {
+            return self.fail(Failure::Device, VolumeFault::Refused(Cause::Device));
         }
+        match answered {
+            Some(Outcome::Refused(Cause::Memory)) => {
+                self.fail(Failure::Memory, VolumeFault::Refused(Cause::Memory))
+            }
+            Some(Outcome::Refused(cause)) => self.stay(cause, out),
+            _ => self.leave(),
+        }
+    }
+
+    /// Says that the unmount was refused.
+    fn stay(&mut self, cause: Cause, out: &mut Vec<u8>) -> Said
+        requires empty { out.old.items ≡ [] }
+        ensures core { self.new.volume ≡ self.old.volume }
+        ensures said { SaysRefusedOrFails cause result out.new.items }
+    {
+        match refuse(cause, out) {
+            Said::Answered => Said::Answered,
+            _ => self.fail(Failure::Memory, VolumeFault::Memory),
+        }
+    }
+
+    /// Says that the volume is unmounted, once the file has it.
+    fn leave(&mut self) -> Said
+        ensures core { self.new.volume ≡ self.old.volume }
+        ensures said { IsSynced Said.Last result }
+    {
+        let said = self.sync(Said::Last);
+        if said == Said::Last {
+            self.end = ServeEnd::Unmounted;
+        }
+        said
     }
 
     /// Keeps what ends the serving, and says so.
@@ -148,16 +189,8 @@ impl<F: Flash + SyncFlash> ServedVolume<F> {
         ensures core { self.new.volume ≡ self.old.volume }
         ensures said { result ≡ Said.Failed why }
     {
-        self.fault = Some(fault);
+        self.end = ServeEnd::Failed(fault);
         Said::Failed(why)
-    }
-}
-
-/// Why an unmount that ended so left the log without its node.
-fn why_left(fault: VolumeFault) -> Failure {
-    match fault {
-        VolumeFault::Memory | VolumeFault::Refused(Cause::Memory) => Failure::Memory,
-        _ => Failure::Device,
     }
 }
 

@@ -1,6 +1,7 @@
 //! Calls of the program, each with its status and what it writes.
 //! Lines and statuses are those of docs/TOOLS.md.
 
+mod cut_erases;
 mod damaged;
 mod faults;
 mod filling;

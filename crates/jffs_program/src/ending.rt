@@ -6,7 +6,7 @@ use jffs_file::FileFault;
 use jffs_flash::FlashNew;
 use jffs_log::ScanWhy;
 use jffs_run::RunWhy;
-use jffs_text::{DumpFault, ScriptMistake};
+use jffs_text::{DumpFault, ScriptMistake, Shown};
 use std::io;
 use std::io::{ErrorKind, Write};
 use thiserror::Error;
@@ -25,26 +25,26 @@ pub(crate) enum Fault<'a> {
     #[error("{0}")]
     Script(ScriptMistake),
     /// The script's file can't be read: no line, status 2, or 1 for want of memory.
-    #[error("{path}: {why}")]
+    #[error("{}: {why}", Shown::text(path))]
     NoScript {
         path: &'a str,
         why: Unread,
     },
     /// There is no flash in the volume's file: no line, status 1.
-    #[error("{path}: {why}")]
+    #[error("{}: {why}", Shown::text(path))]
     NoFlash {
         path: &'a str,
         why: FileFault,
     },
     /// The volume's file isn't as long as the script's sectors together: no line, status 1.
-    #[error("{path}: the file has {found} bytes, and the script's sectors have {wanted} together")]
+    #[error("{}: the file has {found} bytes, and the script's sectors have {wanted} together", Shown::text(path))]
     OtherLength {
         path: &'a str,
         found: u64,
         wanted: u64,
     },
     /// There is no volume in the file: the line `fault: Mount`, status 1.
-    #[error("{path}: no volume, {name}: {why}")]
+    #[error("{}: no volume, {name}: {why}", Shown::text(path))]
     NoVolume {
         path: &'a str,
         name: &'static str,

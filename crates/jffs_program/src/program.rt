@@ -2,11 +2,11 @@
 
 use crate::ending::{Fault, ProgramWhy, status_of};
 use crate::printing::{print_answers, print_ending, print_readers};
-use crate::reading::{read_file, read_whole};
+use crate::reading::{read_file, read_script};
 use jffs_core::Answer;
 use jffs_file::{FileFault, FileFlash, FileStore, create_image, open_image};
 use jffs_flash::{Flash, MemoryFlash};
-use jffs_log::{Mounted, ScanFault, scan};
+use jffs_log::{Healed, Mounted, ScanFault, heal, scan};
 use jffs_run::{NoGate, ReaderEnd, Run, RunFault, RunWhy, run_threads};
 use jffs_text::{Script, Usage, dump};
 use jffs_tree::Tree;
@@ -107,7 +107,7 @@ fn run_new<'a, Rt: AllocGlobal + Threads + Wait + Sync, R: Read, W: Write>(
     input: &mut R,
     out: &mut W,
 ) -> Result<(), Fault<'a>> {
-    let text = read_whole(rt.alloc(), input)?;
+    let text = read_script(rt.alloc(), input)?;
     run_in_memory(rt, &script_of(rt.alloc(), &text)?, out)?;
     Ok(())
 }
@@ -133,7 +133,7 @@ fn run_input<'a, Rt: AllocGlobal + Files<File: Send> + Threads + Wait + Sync, R:
     input: &mut R,
     out: &mut W,
 ) -> Result<(), Fault<'a>> {
-    let text = read_whole(rt.alloc(), input)?;
+    let text = read_script(rt.alloc(), input)?;
     run_script(rt, volume, &script_of(rt.alloc(), &text)?, out)
 }
 
@@ -280,10 +280,7 @@ fn run_in<'s, E, Rt: AllocGlobal + Threads + Wait + Sync, F: Flash + Send + Drop
     flash: F,
 ) -> Result<Run<F>, ProgramWhy> {
     let started = scope.spawn(move || -> Result<Run<F>, ProgramWhy> {
-        match run_threads(rt, rt.alloc(), script, flash, &NoGate) {
-            Ok(run) => Ok(run),
-            Err(fault) => Err(run_fault(rt.alloc(), fault)),
-        }
+        run_opened(rt, script, flash)
     });
     match started {
         Ok(handle) => handle.join(rt),
@@ -305,17 +302,37 @@ fn script_of<'a, 't>(alloc: Global, text: &'t [u8]) -> Result<Script<'t>, Fault<
     }
 }
 
-/// Why a run was given up. A volume that can't be mounted is scanned once more, for the reason.
-fn run_fault<F: Flash + Drop>(alloc: Global, fault: RunFault<F>) -> ProgramWhy {
-    match fault {
+/// Runs a script on a device; where that doesn't mount since an erase was cut off on it, the erase
+/// is ended, and the script run then.
+fn run_opened<Rt: AllocGlobal + Threads + Wait + Sync, F: Flash + Send + Drop>(
+    rt: &Rt,
+    script: &Script<'_>,
+    flash: F,
+) -> Result<Run<F>, ProgramWhy> {
+    let fault = match run_threads(rt, rt.alloc(), script, flash, &NoGate) {
+        Ok(run) => return Ok(run),
+        Err(fault) => fault,
+    };
+    let flash = healed(rt.alloc(), fault)?;
+    match run_threads(rt, rt.alloc(), script, flash, &NoGate) {
+        Ok(run) => Ok(run),
+        Err(fault) => Err(ProgramWhy::Run(fault.why)),
+    }
+}
+
+/// The device of a run that was given up since it didn't mount, once an erase that was cut off on
+/// it is ended. `Mount` with the reason where it holds no volume, else why the run was given up.
+fn healed<F: Flash + Drop>(alloc: Global, fault: RunFault<F>) -> Result<F, ProgramWhy> {
+    let flash = match fault {
         RunFault {
             why: RunWhy::Mount,
             flash: Some(flash),
-        } => match scan(alloc, flash) {
-            Err(ScanFault { why, flash: _ }) => ProgramWhy::Mount(why),
-            Ok(_) => ProgramWhy::Run(RunWhy::Mount),
-        },
-        RunFault { why, flash: _ } => ProgramWhy::Run(why),
+        } => flash,
+        RunFault { why, flash: _ } => return Err(ProgramWhy::Run(why)),
+    };
+    match heal(alloc, flash) {
+        Ok(Healed { mounted, sector: _ }) => Ok(mounted.log.into_flash()),
+        Err(ScanFault { why, flash: _ }) => Err(ProgramWhy::Mount(why)),
     }
 }
 

@@ -1,3 +1,4 @@
 mod Exchanges
 mod Taking
 mod Heard
+mod Blocks

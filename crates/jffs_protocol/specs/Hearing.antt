@@ -35,6 +35,14 @@ pub record TakesPart (old new : Option (List ℕ)) (long : Bool) (line : List �
   pub one : All (λ b. b ≢ 10) bytes
   pub kept : long ≡ false → line ≡ bytes
 
+-- some bytes more of a line that is long or not, which is longer then or has them
+pub record TakesMore (old new : Option (List ℕ)) (long : Bool) (line : List ℕ) (longer : Bool)
+    (grown : List ℕ) : Type 0 where
+  pub bytes : List ℕ
+  pub taken : Consumes old new bytes
+  pub one : All (λ b. b ≢ 10) bytes
+  pub kept : longer ≡ false → (long ≡ false) × (grown ≡ line ++ bytes)
+
 -- so many bytes
 pub record TakesCount (old new : Option (List ℕ)) (count : ℕ) : Type 0 where
   pub bytes : List ℕ

@@ -1,13 +1,16 @@
 //! What stands on standard input, request by request.
 
 ghost use Rattle.std.specs.Io.KnownBytes.{Consumes};
-ghost use Rattle.std.specs.Prelude.{◌≡◌, true, IfOk, length};
-ghost use Rattle.jffs_protocol.specs.Hearing.{TakesNext, TakesCount, HearsLine, HearsBody, Hears};
+ghost use Rattle.std.specs.Prelude.{◌≡◌, ◌≢◌, ◌≤◌, ◌++◌, true, false, IfOk, All, length, take};
+ghost use Rattle.std.specs.Io.Buffered.{reader_remaining as left_in};
+ghost use Rattle.jffs_protocol.specs.Hearing.{TakesNext, TakesMore, TakesCount, HearsLine};
+ghost use Rattle.jffs_protocol.specs.Hearing.{HearsBody, Hears};
 
 use crate::asking::{Ask, ask_of};
+use memchr::memchr;
 use std::alloc::{AllocError, Global};
 use std::io;
-use std::io::{ErrorKind, Read};
+use std::io::{BufRead, BufReader, ErrorKind, Read};
 
 /// The most bytes of a request's line, without its line feed.
 const LINE_MAX: usize = 100;
@@ -40,6 +43,7 @@ enum LineEnd {
 /// Where a request and its answer are put together. Its memory is kept from one to the next.
 #[derive(Drop)]
 pub struct Room {
+    pub(crate) alloc: Global,
     /// The most bytes that a path may have.
     path_max: usize,
     /// The most bytes of data that a request may have.
@@ -58,6 +62,7 @@ impl Room {
     pub fn new(alloc: Global, path_max: u32, data_max: u32) -> Result<Room, AllocError> {
         let (path_max, data_max) = (path_max as usize, data_max as usize);
         Ok(Room {
+            alloc,
             path_max,
             data_max,
             line: Vec::new(alloc),
@@ -70,9 +75,9 @@ impl Room {
 
 /// Takes the next request, and nothing after it. The bytes that it counts are put at the front of
 /// the room's body.
-pub(crate) fn hear<R: Read>(input: &mut R, room: &mut Room) -> io::Result<Heard>
-    ensures { IfOk result (λ heard. Hears (R.remaining input.old) (R.remaining input.new) heard
-        room.new.body.items) }
+pub(crate) fn hear<R: Read>(input: &mut BufReader<R>, room: &mut Room) -> io::Result<Heard>
+    ensures { IfOk result (λ heard. Hears (left_in R.remaining input.old)
+        (left_in R.remaining input.new) heard room.new.body.items) }
 {
     match hear_line(input, &mut room.line)? {
         LineEnd::Cut => Ok(Heard::End),
@@ -85,22 +90,58 @@ pub(crate) fn hear<R: Read>(input: &mut R, room: &mut Room) -> io::Result<Heard>
 }
 
 /// Takes a line with its line feed, and keeps it without that.
-fn hear_line<R: Read>(input: &mut R, line: &mut Vec<u8>) -> io::Result<LineEnd>
-    ensures { IfOk result (λ end. HearsLine (R.remaining input.old) (R.remaining input.new) end
-        line.new.items) }
+fn hear_line<R: Read>(input: &mut BufReader<R>, line: &mut Vec<u8>) -> io::Result<LineEnd>
+    ensures { IfOk result (λ end. HearsLine (left_in R.remaining input.old)
+        (left_in R.remaining input.new) end line.new.items) }
 {
     line.clear();
     let mut long = false;
     for _ in 0..u64::MAX {
+        long = take_part(input, line, long)?;
         match next_byte(input)? {
             None => return Ok(LineEnd::Cut),
             Some(b'\n') if long => return Ok(LineEnd::Long),
             Some(b'\n') => return Ok(LineEnd::Whole),
-            Some(byte) if line.len() < LINE_MAX => line.push(byte)?,
-            Some(_) => long = true,
+            Some(byte) => long = keep(line, long, &[byte])?,
         }
     }
     Err(endless())
+}
+
+/// Takes what stands in the block of a line, without its line feed, and keeps it. Whether the line
+/// is longer than a line may be.
+fn take_part<R: Read>(input: &mut BufReader<R>, line: &mut Vec<u8>, long: bool) -> io::Result<bool>
+    ensures { IfOk result (λ longer. TakesMore (left_in R.remaining input.old)
+        (left_in R.remaining input.new) long line.old.items longer line.new.items) }
+{
+    let block = input.buffer();
+    let count = before_line_feed(block);
+    let longer = keep(line, long, &block[..count])?;
+    input.consume(count);
+    Ok(longer)
+}
+
+/// How many bytes stand before the first line feed of a block, or all.
+fn before_line_feed(block: &[u8]) -> usize
+    ensures within { result ≤ length block.now }
+    ensures one { All (λ b. b ≢ 10) (take result block.now) }
+{
+    match memchr(b'\n', block) {
+        Some(count) => count,
+        None => block.len(),
+    }
+}
+
+/// Adds some bytes to a line, unless it is longer than a line may be. Whether it is so then.
+fn keep(line: &mut Vec<u8>, long: bool, bytes: &[u8]) -> Result<bool, AllocError>
+    ensures { IfOk result (λ longer. longer ≡ false → (long ≡ false)
+        × (line.new.items ≡ line.old.items ++ bytes.now)) }
+{
+    if long || bytes.len() > LINE_MAX - line.len().min(LINE_MAX) {
+        return Ok(true);
+    }
+    line.extend_from_slice(bytes)?;
+    Ok(false)
 }
 
 /// Takes the next byte; `None` at the end.

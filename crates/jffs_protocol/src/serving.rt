@@ -1,6 +1,7 @@
 //! Requests served one after another.
 
 ghost use Rattle.std.specs.Prelude.{◌≡◌, ◌≢◌, ◌≤◌, [], IfOk, OnOk, length, vec_len, take};
+ghost use Rattle.std.specs.Io.Buffered.{reader_remaining as left_in};
 ghost use Rattle.std.specs.Io.KnownBytes.{Appends};
 ghost use Rattle.jffs_protocol.specs.Asks.{body_len};
 ghost use Rattle.jffs_protocol.specs.Serving.{Manner, ServesNext, ServesAll, said_text, greeting};
@@ -9,7 +10,7 @@ ghost use Rattle.jffs_protocol.specs.Serving.{Responds, malformed_text};
 use crate::asking::Ask;
 use crate::hearing::{Heard, Room, hear};
 use std::io;
-use std::io::{ErrorKind, Read, Write};
+use std::io::{BufReader, ErrorKind, Read, Write};
 
 /// What is said to a request.
 #[derive(Clone, Copy, Debug, PartialEq, Eq)]
@@ -86,7 +87,8 @@ enum Next {
 /// Serves requests up to the last, or to the end of the input; one within a request drops that.
 /// Each answer is written and flushed before the next request is taken.
 ///
-/// A stream that fails ends it; so does a want of memory for the room that requests take.
+/// The input is read by blocks, so that bytes after the last request may be gone from it. A stream
+/// that fails ends it; so does a want of memory for the room that requests take.
 pub fn serve<S: Server, R: Read, W: Write>(
     server: &mut S,
     room: &mut Room,
@@ -95,6 +97,22 @@ pub fn serve<S: Server, R: Read, W: Write>(
 ) -> Result<(), StreamFault>
     ensures { OnOk result (ServesAll S.manner server.old server.new (R.remaining input.old)
         (W.contents out.old) (W.contents out.new)) }
+{
+    match BufReader::new(room.alloc, input) {
+        Ok(mut blocks) => serve_all(server, room, &mut blocks, out),
+        Err(_) => Err(StreamFault::Memory),
+    }
+}
+
+/// Serves requests as [`serve`] does, and takes from the input nothing after the last.
+fn serve_all<S: Server, R: Read, W: Write>(
+    server: &mut S,
+    room: &mut Room,
+    input: &mut BufReader<R>,
+    out: &mut W,
+) -> Result<(), StreamFault>
+    ensures { OnOk result (ServesAll S.manner server.old server.new
+        (left_in R.remaining input.old) (W.contents out.old) (W.contents out.new)) }
 {
     greet(out)?;
     for _ in 0..u64::MAX {
@@ -110,11 +128,12 @@ pub fn serve<S: Server, R: Read, W: Write>(
 fn serve_one<S: Server, R: Read, W: Write>(
     server: &mut S,
     room: &mut Room,
-    input: &mut R,
+    input: &mut BufReader<R>,
     out: &mut W,
 ) -> Result<Next, StreamFault>
     ensures served { IfOk result (λ next. ServesNext S.manner next server.old server.new
-        (R.remaining input.old) (R.remaining input.new) (W.contents out.old) (W.contents out.new)) }
+        (left_in R.remaining input.old) (left_in R.remaining input.new) (W.contents out.old)
+        (W.contents out.new)) }
 {
     match hear(input, room) {
         Ok(Heard::End) => Ok(Next::End),

@@ -1,5 +1,6 @@
 //! The words that a program is called with.
 
+use crate::quote::Shown;
 use std::alloc::{AllocFailed, Global};
 use std::io;
 use std::io::{ErrorKind, Write};
@@ -53,16 +54,16 @@ pub(crate) enum CalledFor<'a> {
 #[derive(Clone, Copy, Debug, PartialEq, Eq, Error)]
 pub(crate) enum UsageFault<'a> {
     /// An option that the program hasn't got.
-    #[error("unknown option '{word}'; options are {options}")]
+    #[error("unknown option '{}'; options are {options}", Shown::text(word))]
     Option {
         word: &'a str,
         options: &'static str,
     },
     /// A plain word after the last that is wanted.
-    #[error("unexpected word '{0}'; --help tells more")]
+    #[error("unexpected word '{}'; --help tells more", Shown::text(.0))]
     Extra(&'a str),
     /// A word beside one that stands alone.
-    #[error("unexpected word '{word}' beside '{alone}', which stands alone")]
+    #[error("unexpected word '{}' beside '{alone}', which stands alone", Shown::text(word))]
     Beside {
         word: &'a str,
         alone: &'a str,

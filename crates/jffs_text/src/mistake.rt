@@ -2,7 +2,7 @@
 
 use crate::fault::{ScriptFault, ScriptWhy};
 use crate::quote::Quote;
-use crate::script::{COMMANDS_MAX, LINE_MAX, READERS_MAX, WRITERS_MAX};
+use crate::script::{COMMANDS_MAX, LINE_MAX, READERS_MAX, SCRIPT_MAX, WRITERS_MAX};
 use jffs_flash::{MAX_SECTORS, MIN_SECTORS};
 use jffs_node::{NoMemory, PathFault};
 use std::alloc::{AllocError, AllocFailed};
@@ -17,6 +17,9 @@ pub enum Mistake {
     /// A line of too many bytes.
     #[error("the line has more than {LINE_MAX} bytes")]
     Long,
+    /// A line with which the script has too many bytes.
+    #[error("the script has more than {SCRIPT_MAX} bytes")]
+    Endless,
     /// The line's one byte that isn't allowed is a CR at its end.
     #[error("the line ends with CR LF, where LF alone is wanted: tr -d '\\r' mends it")]
     CarriageReturn,
@@ -117,8 +120,11 @@ impl Mistake {
     pub fn why(self) -> ScriptWhy {
         match self {
             Mistake::Empty => ScriptWhy::Empty,
-            Mistake::Long | Mistake::CarriageReturn | Mistake::Tab { .. } | Mistake::Byte { .. } =>
-                ScriptWhy::Text,
+            Mistake::Long
+            | Mistake::Endless
+            | Mistake::CarriageReturn
+            | Mistake::Tab { .. }
+            | Mistake::Byte { .. } => ScriptWhy::Text,
             Mistake::NoVolume(_) | Mistake::Sectors(_) | Mistake::SectorSize(_) => {
                 ScriptWhy::Volume
             }

@@ -1,8 +1,6 @@
 //! Scripts, and how one is read.
 
-ghost use Rattle.std.specs.Prelude.{◌≡◌, true, IfOk, IfSome, OnOk};
-ghost use Rattle.std.specs.Int.{is_in_range};
-ghost use Rattle.std.specs.List.{list_all};
+ghost use Rattle.std.specs.Prelude.{◌≡◌, ◌≤◌, true, length, IfOk, IfSome, OnOk};
 ghost use Rattle.jffs_flash.specs.Sizes.{is_geometry as allows_geometry};
 ghost use Rattle.jffs_text.specs.declared.keyword.Keyword.TheVariants as keyword;
 ghost use Rattle.jffs_text.specs.Scripts.{IsInBounds, IsDraft, Admits};
@@ -11,12 +9,13 @@ use crate::command::Command;
 use crate::fault::{ScriptFault, ScriptWhy};
 pub use crate::keyword::LineForm;
 use crate::keyword::{Edit, Keyword, VOLUME_FORM};
-use crate::lines::Lines;
+use crate::lines::{Lines, all_printable, line_text, utf8_text};
 use crate::mistake::{Mistake, ScriptMistake};
 use crate::quote::Quote;
 use crate::word::Words;
 use jffs_flash::{MAX_SECTORS, MIN_SECTORS, is_geometry};
 use jffs_node::Path;
+use memchr::memrchr;
 use std::alloc::{AllocError, Global};
 
 /// The longest line, in bytes.
@@ -27,6 +26,8 @@ pub const READERS_MAX: usize = 16;
 pub const WRITERS_MAX: usize = 8;
 /// The most commands of one writer.
 pub const COMMANDS_MAX: usize = 4096;
+/// The most bytes of a script: as many as all its statements could have, each on a line of its own.
+pub const SCRIPT_MAX: usize = (3 + READERS_MAX + WRITERS_MAX * (1 + COMMANDS_MAX)) * (LINE_MAX + 1);
 /// The most requests that a line, or each of its rings, may be asked to hold.
 pub const CAPACITY_MAX: u32 = 256;
 /// The most rounds of a cleaner.
@@ -87,6 +88,7 @@ impl<'a> Script<'a> {
     /// that holds there; `Memory` comes wherever allocation failed.
     pub fn parse(alloc: Global, text: &'a [u8]) -> Result<Script<'a>, ScriptFault>
         ensures bounds { IfOk result IsInBounds }
+        ensures ends { OnOk result (length text.now ≤ SCRIPT_MAX) }
     {
         match Script::read(alloc, text) {
             Ok(script) => Ok(script),
@@ -96,6 +98,29 @@ impl<'a> Script<'a> {
 
     /// Reads a script as `parse` does. An error has the fault of `parse`, and says more of it.
     pub fn read(alloc: Global, text: &'a [u8]) -> Result<Script<'a>, ScriptMistake>
+        ensures bounds { IfOk result IsInBounds }
+        ensures ends { OnOk result (length text.now ≤ SCRIPT_MAX) }
+    {
+        if text.len() > SCRIPT_MAX {
+            return Err(endless(alloc, &text[..SCRIPT_MAX]));
+        }
+        Script::read_lines(alloc, text)
+    }
+
+    /// Why a script that begins so is refused, whatever follows; `None` where it may still be
+    /// taken, and where allocation failed.
+    pub fn mistake_so_far(alloc: Global, text: &'a [u8]) -> Option<ScriptMistake> {
+        match Script::read_lines(alloc, whole_lines(text)) {
+            Ok(_) => None,
+            Err(mistake) => match mistake.mistake {
+                Mistake::Empty | Mistake::Memory => None,
+                _ => Some(mistake),
+            },
+        }
+    }
+
+    /// Reads a script, however long it is.
+    fn read_lines(alloc: Global, text: &'a [u8]) -> Result<Script<'a>, ScriptMistake>
         ensures bounds { IfOk result IsInBounds }
     {
         let mut draft = Draft::new(alloc);
@@ -118,6 +143,34 @@ impl<'a> Script<'a> {
             },
             mistake: Mistake::Empty,
         })
+    }
+}
+
+/// Why a script is refused that has more bytes than these, which are as many as one may have.
+fn endless(alloc: Global, front: &[u8]) -> ScriptMistake {
+    let front = whole_lines(front);
+    match Script::read_lines(alloc, front) {
+        Err(mistake) if mistake.mistake != Mistake::Empty => mistake,
+        _ => ScriptMistake {
+            fault: ScriptFault {
+                line: Lines::of(front).count(),
+                why: ScriptWhy::Text,
+            },
+            mistake: Mistake::Endless,
+        },
+    }
+}
+
+/// The lines of a text that end in it; and a last one that is too long, whatever follows.
+fn whole_lines(text: &[u8]) -> &[u8] {
+    let end = match memrchr(b'\n', text) {
+        Some(before) => before + 1,
+        None => 0,
+    };
+    if text.len() - end > LINE_MAX {
+        text
+    } else {
+        &text[..end]
     }
 }
 
@@ -315,55 +368,4 @@ fn volume_sizes(mut words: Words<'_>) -> Result<(u32, u32), Mistake>
     } else {
         Err(Mistake::SectorSize(sector_size))
     }
-}
-
-/// A line as text. A mistake of the kind `Text` if it has a byte outside `20` to `7E`, or more than
-/// [`LINE_MAX`] bytes.
-pub fn line_text(line: &[u8]) -> Result<&str, Mistake> {
-    let text = utf8_text(line)?;
-    all_printable(line)?;
-    Ok(text)
-}
-
-/// A line as text, whose characters may be others than a line's. Else as [`line_text`].
-fn utf8_text(line: &[u8]) -> Result<&str, Mistake> {
-    if line.len() > LINE_MAX {
-        return Err(Mistake::Long);
-    }
-    str::from_utf8(line).map_err(|_| unprintable(line))
-}
-
-/// That a line has no byte outside `20` to `7E`. A mistake of the kind `Text` if it has one.
-fn all_printable(line: &[u8]) -> Result<(), Mistake> {
-    if is_printable(line) {
-        Ok(())
-    } else {
-        Err(unprintable(line))
-    }
-}
-
-/// What is wrong with a line that has a byte outside `20` to `7E`.
-#[cold]
-fn unprintable(line: &[u8]) -> Mistake {
-    for (before, byte) in line.iter().enumerate() {
-        let at = before + 1;
-        match *byte {
-            b' '..=b'~' => {}
-            b'\r' if at == line.len() => return Mistake::CarriageReturn,
-            b'\t' => return Mistake::Tab { at },
-            byte => return Mistake::Byte { at, byte },
-        }
-    }
-    Mistake::Long
-}
-
-fn is_printable(line: &[u8]) -> bool
-    ensures { result ≡ list_all (is_in_range 32 126) line.now }
-{
-    // No early exit, so that the compiler can vectorize the loop.
-    let mut printable = true;
-    for byte in line {
-        printable &= matches!(byte, b' '..=b'~');
-    }
-    printable
 }

@@ -4,6 +4,7 @@
 mod bounds;
 mod calls;
 mod parts;
+mod shown;
 mod told;
 mod writers;
 

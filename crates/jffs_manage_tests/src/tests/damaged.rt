@@ -11,11 +11,11 @@ use std::test::Fail;
 use std::{fs, io};
 
 /// A record of one node: its kind, inode, directory, version and name, and the data of a file.
-type Record<'a> = (u8, u32, u32, u32, u8, &'a [u8]);
+pub(super) type Record<'a> = (u8, u32, u32, u32, u8, &'a [u8]);
 
-const FILE: u8 = 1;
+pub(super) const FILE: u8 = 1;
 
-const DIRECTORY: u8 = 2;
+pub(super) const DIRECTORY: u8 = 2;
 
 /// Appends the record of a node whose bytes stand at the start of a file that ends with them.
 fn spell(out: &mut Vec<u8>, record: Record<'_>) -> Result<(), AllocError> {
@@ -40,7 +40,7 @@ fn spell(out: &mut Vec<u8>, record: Record<'_>) -> Result<(), AllocError> {
 }
 
 /// The image of sectors of 1,024 bytes, each with these records.
-fn image_of(alloc: Global, sectors: &[&[Record<'_>]]) -> Result<Vec<u8>, AllocError> {
+pub(super) fn image_of(alloc: Global, sectors: &[&[Record<'_>]]) -> Result<Vec<u8>, AllocError> {
     let mut image = Vec::new(alloc);
     for records in sectors {
         let mut sector = Vec::new(alloc);

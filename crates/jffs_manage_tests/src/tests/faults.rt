@@ -19,17 +19,17 @@ fn a_volume_that_is_not_there_or_not_made_has_its_line(rt: HostRuntime) -> Resul
             (
                 "format r.image 5 1024",
                 2,
-                "5: 1024: a volume has 6 to 64 sectors, got 5",
+                "a volume has 6 to 64 sectors, got 5",
             ),
             (
                 "format r.image 1024 6",
                 2,
-                "1024: 6: a volume has 6 to 64 sectors, got 1024",
+                "a volume has 6 to 64 sectors, got 1024",
             ),
             (
                 "format r.image 6 1000",
                 2,
-                "6: 1000: a sector has 1024, 2048, 4096, 8192 or 16384 bytes, got 1000",
+                "a sector has 1024, 2048, 4096, 8192 or 16384 bytes, got 1000",
             ),
         ],
     )?;
@@ -37,14 +37,18 @@ fn a_volume_that_is_not_there_or_not_made_has_its_line(rt: HostRuntime) -> Resul
     refuses(
         &rt,
         "jffs_volume: r.image: ",
-        &[(
-            "format r.image 8 4096",
-            2,
-            "8: 4096: there is such a file already",
-        )],
+        &[("format r.image 8 4096", 2, "there is such a file already")],
     )?;
     fs::remove_file(&rt, "r.image")?;
-    Ok(())
+    refuses(
+        &rt,
+        "jffs_volume: none\\\\\\n\\u{1b}/r: ",
+        &[(
+            "format none\\\n\u{1b}/r 6 1024",
+            2,
+            "the directory that should hold the file isn't there",
+        )],
+    )
 }
 
 #[test]

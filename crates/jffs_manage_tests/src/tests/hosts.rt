@@ -106,6 +106,17 @@ fn what_a_load_refuses_has_its_text(rt: HostRuntime) -> Result<(), Fail> {
             "the name '.put.new' is kept for puts that aren't finished",
         )],
     )?;
+    fs::remove_file(&rt, "odd/.put.new")?;
+    fs::write(&rt, "odd/a\n\u{7f}b", "odd")?;
+    refuses(
+        &rt,
+        "jffs_volume: o.image: odd: /a\\n\\u{7f}b: ",
+        &[(
+            "load o.image odd",
+            2,
+            "a name has a byte that is not allowed",
+        )],
+    )?;
     fs::remove_dir_all(&rt, "odd")?;
     fs::remove_file(&rt, "o.image")?;
     Ok(())

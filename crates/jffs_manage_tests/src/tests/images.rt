@@ -2,8 +2,12 @@
 //! what commands leave.
 
 use super::plays;
+use jffs_manage::run_volume;
 use std::alloc::Global;
 use std::fs;
+use std::fs::File;
+use std::process::Abort;
+use std::rt::Files;
 use std::test::Fail;
 
 /// The record of a directory with the name `d`.
@@ -58,6 +62,63 @@ fn versions_that_are_spent_have_their_text(rt: HostRuntime) -> Result<(), Fail> 
         ],
     )?;
     fs::remove_file(&rt, "n.image")?;
+    Ok(())
+}
+
+/// What a call writes to standard error, which ends with status 0.
+fn told_of<Rt: Abort + Files<File = File> + AllocGlobal + Clone + Drop>(
+    rt: &Rt,
+    words: &[&str],
+    input: &[u8],
+    wanted: &str,
+) -> Result<String, Fail> {
+    let mut called = Vec::new(rt.alloc());
+    for word in words {
+        called.push(String::from_str(rt.alloc(), *word)?)?;
+    }
+    let mut input = input;
+    let mut out = Vec::new(rt.alloc());
+    let mut errors = Vec::new(rt.alloc());
+    let ended = run_volume(rt, &called, &mut input, &mut out, &mut errors, false);
+    assert_eq!(rt; ended, 0);
+    assert_eq!(rt; out.as_slice(), wanted.as_bytes());
+    Ok(String::from_utf8(errors)?)
+}
+
+const NO_UNMOUNT: &str = "jffs_volume: m.image: no version is left: the last change is done, and \
+the volume can't be unmounted any more\n";
+
+/// A change takes the last version, and so none is left for the unmount.
+#[test]
+fn the_last_version_is_used_and_told_of(rt: HostRuntime) -> Result<(), Fail> {
+    let last = directory(2, 1, u32::MAX - 1);
+    let image = image_of(rt.alloc(), &[last, FREE, FREE, FREE, FREE, FREE])?;
+    for (words, input, answers, left) in [
+        (
+            ["serve", "m.image"].as_slice(),
+            "create 2\n/funmount\n",
+            "pumpgrape 1\nok\nrefused VersionsSpent\n",
+            "d d\nf 0 f\n",
+        ),
+        (
+            ["serve", "m.image"].as_slice(),
+            "create 2\n/f",
+            "pumpgrape 1\nok\n",
+            "d d\nf 0 f\n",
+        ),
+        (["mkdir", "m.image", "/e"].as_slice(), "", "", "d d\nd e\n"),
+        (["mv", "m.image", "/d", "/e"].as_slice(), "", "", "d e\n"),
+        (["rm", "m.image", "/d"].as_slice(), "", "", ""),
+    ] {
+        fs::write(&rt, "m.image", image.clone()?)?;
+        let mut call = Vec::new(rt.alloc());
+        call.push("jffs_volume")?;
+        call.extend_from_slice(words)?;
+        let told = told_of(&rt, &call, input.as_bytes(), answers)?;
+        assert_eq!(rt; told.as_str(), NO_UNMOUNT);
+        plays(&rt, &[("ls m.image", "", 0, left)])?;
+    }
+    fs::remove_file(&rt, "m.image")?;
     Ok(())
 }
 

@@ -2,7 +2,7 @@
 
 use jffs_file::{FileFault, StoreFault};
 use jffs_log::ScanWhy;
-use jffs_manage::{CallFault, VolumeFault};
+use jffs_manage::{CallFault, Leftover, Unseen, VolumeFault};
 use jffs_node::{NoMemory, PathFault};
 use jffs_tree::Cause;
 use std::alloc::{AllocError, AllocFailed, Global};
@@ -10,6 +10,16 @@ use std::io;
 use std::io::ErrorKind;
 use std::process::Abort;
 use std::test::Fail;
+
+/// What was to be looked for, whose numbers no text has.
+const UNSEEN: Unseen = Unseen {
+    len: 7,
+    renamed: true,
+};
+
+fn stopped(cause: Cause, left: Leftover) -> VolumeFault {
+    VolumeFault::Unfinished { cause, left }
+}
 
 fn has_text(
     rt: &impl Abort,
@@ -45,8 +55,21 @@ fn what_fails_on_the_machine_has_its_text(rt: HostRuntime) -> Result<(), Fail> {
             "the flash failed earlier",
         ),
         (
-            VolumeFault::Part(Cause::Device),
-            "the flash failed; a part of the new file is left as '.put.new' beside the path",
+            VolumeFault::File(FileFault::Left),
+            "the file can't be made in order, and what FILE.new has of it can't be removed: rm it",
+        ),
+        (
+            VolumeFault::NotClosed(Cause::Device),
+            "what was asked for is done, but the volume isn't unmounted: the flash failed",
+        ),
+        (
+            stopped(Cause::Device, Leftover::Done),
+            "the flash failed; the new file stands at the path, whole",
+        ),
+        (
+            stopped(Cause::Device, Leftover::Unseen(UNSEEN)),
+            "the flash failed; nobody could look what is left of the new file as '.put.new' beside \
+            the path",
         ),
     ] {
         has_text(&rt, rt.alloc(), fault, 1, wanted)?;
@@ -75,11 +98,16 @@ fn what_no_command_meets_has_its_text(rt: HostRuntime) -> Result<(), Fail> {
     )?;
     for (fault, wanted) in [
         (
-            VolumeFault::Part(Cause::VersionsSpent),
-            "no version is left; a part of the new file is left as '.put.new' beside the path",
+            stopped(Cause::VersionsSpent, Leftover::Part),
+            "no version is left; a part of the new file is left as '.put.new' beside the path: rm it",
         ),
         (
-            VolumeFault::Whole(Cause::VersionsSpent),
+            stopped(Cause::VersionsSpent, Leftover::Whole),
+            "no version is left; the new file is left whole as '.put.new' beside the path, where the \
+            old one still stands: rm it",
+        ),
+        (
+            stopped(Cause::VersionsSpent, Leftover::Alone),
             "no version is left; the new file is left whole as '.put.new' beside the path: mv it",
         ),
         (

@@ -1,5 +1,6 @@
 -- A request's line, and then what it counts.
 use Rattle.std.proofs.Common.{◌≡◌, ◌∙◌, Option, IfSome, sym, subst}
+use Rattle.std.specs.Io.Buffered.{reader_remaining}
 use Rattle.jffs_protocol.specs.Asks.{ask_line}
 use Rattle.jffs_protocol.specs.Hearing.{HearsLine, HearsBody, Hears, TakesLine}
 use Rattle.jffs_protocol.specs.declared.asking.Ask.{Ask}
@@ -10,9 +11,9 @@ use Rattle.jffs_protocol.proofs.hearing.hear.Goals as goal
 
 pub returns-in-Some : goal.returns-in-Some
 returns-in-Some g c =
-    let old = g.R.Read.remaining c.args.input.now in
-    let mid = g.R.Read.remaining c.hear_line.new.input in
-    let new = g.R.Read.remaining c.hear_body.new.input in
+    let old = reader_remaining g.R.Read.remaining c.args.input.now in
+    let mid = reader_remaining g.R.Read.remaining c.hear_line.new.input in
+    let new = reader_remaining g.R.Read.remaining c.hear_body.new.input in
     let line = c.hear_line.new.line.items in
     let room = c.hear_body.new.room.body.items in
     let ask = c.in-Some.ask in

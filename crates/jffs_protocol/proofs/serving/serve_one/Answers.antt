@@ -1,6 +1,7 @@
 -- What was heard is answered.
 use Rattle.std.proofs.Common.{◌≡◌, ◌≢◌, take, subst}
 use Rattle.std.specs.Io.KnownBytes.{Appends}
+use Rattle.std.specs.Io.Buffered.{reader_remaining}
 use Rattle.jffs_protocol.specs.Asks.{body_len}
 use Rattle.jffs_protocol.specs.Hearing.{Hears, Drops, Takes}
 use Rattle.jffs_protocol.specs.Serving.{Responds, ServesNext, malformed_text}
@@ -15,8 +16,8 @@ pub returns-in-Ok-Malformed : goal.returns-in-Ok-Malformed
 returns-in-Ok-Malformed g c =
     let m = g.S.Server.manner in
     let s = c.args.server.now in
-    let i = g.R.Read.remaining c.args.input.now in
-    let j = g.R.Read.remaining c.hear.new.input in
+    let i = reader_remaining g.R.Read.remaining c.args.input.now in
+    let j = reader_remaining g.R.Read.remaining c.hear.new.input in
     let o = g.W.Write.contents c.args.out.now in
     let p = g.W.Write.contents c.deny.new.out in
     let drops : Drops i j = subst (λ (h : Heard). Hears i j h c.hear.new.room.body.items) c.in-Ok-Malformed.field-0-is c.in-Ok-Malformed.ensures in
@@ -30,8 +31,8 @@ returns-in-Ok-Asked g c =
     let m = g.S.Server.manner in
     let s = c.args.server.now in
     let t = c.respond.new.server in
-    let i = g.R.Read.remaining c.args.input.now in
-    let j = g.R.Read.remaining c.hear.new.input in
+    let i = reader_remaining g.R.Read.remaining c.args.input.now in
+    let j = reader_remaining g.R.Read.remaining c.hear.new.input in
     let o = g.W.Write.contents c.args.out.now in
     let p = g.W.Write.contents c.respond.new.out in
     let ask = c.in-Ok-Asked.ask in

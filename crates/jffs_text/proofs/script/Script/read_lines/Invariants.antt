@@ -1,5 +1,5 @@
 use Rattle.jffs_text.specs.Scripts.{IsDraft}
-use Rattle.jffs_text.proofs.script.Script.read.Given as goal
+use Rattle.jffs_text.proofs.script.Script.read_lines.Given as goal
 
 abbrev pub invariant-loop-index : goal.invariant-loop-index
 invariant-loop-index l = IsDraft l.draft

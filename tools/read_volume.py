@@ -1,8 +1,9 @@
 #!/usr/bin/env python3
-"""Reads a volume: read_volume.py SECTORS SECTOR_SIZE < IMAGE
+"""Reads a volume: read_volume.py [--healed] SECTORS SECTOR_SIZE < IMAGE
 
 Written from docs/FORMAT.md alone, whose sections the comments name. Prints what `jffs_image` prints (docs/TOOLS.md)
-and ends with its status: 0 for a volume, 3 for `refused WHY`, 2 after a wrong call.
+and ends with its status: 0 for a volume, 3 for `refused WHY`, 2 after a wrong call. With --healed it prints this of the
+image on which an erase that was cut off is ended.
 """
 import struct
 import sys
@@ -11,7 +12,9 @@ from collections import namedtuple
 FILE, DIRECTORY, UNMOUNT, DELETED, COPY = 1, 2, 3, 1, 2
 HEADER, ROOT, LAST, FILE_MAX, DEPTH_MAX = 64, 1, 2**32 - 1, 1 << 20, 8
 FIELDS = struct.Struct(">4s4B6I2H2I20s")
+MAGIC, DOOM = b"JFF1", bytes(4)
 Node = namedtuple("Node", "kind flags inode parent version offset removed form size name data length")
+Log = namedtuple("Log", "sectors readings nodes tree")
 
 
 class Refused(Exception):
@@ -42,7 +45,7 @@ def read_record(left, sector_size):
     unmount, no_range = kind == UNMOUNT, offset == d == removed == 0
     is_name = 1 <= name_len <= 20 and all(0x21 <= b <= 0x7E and b != 0x2F for b in name[:name_len])
     rules = [
-        ("Magic", magic == b"JFF1"),
+        ("Magic", magic == MAGIC),
         ("Kind", kind in (FILE, DIRECTORY, UNMOUNT)),
         ("Flags", flags == 0 or flags in (DELETED, COPY) and not unmount),
         ("Name", (name_len == 0 if unmount else is_name) and not any(name[name_len:])),
@@ -110,39 +113,89 @@ def dump(tree, directory, path):
         yield from dump(tree, number, below) if tree[number].kind == DIRECTORY else [line]
 
 
-def show(image, sectors, size):
-    """The lines that tell of an image."""
+def split(image, sectors, size):
+    """Section 1: the sectors of an image."""
     if not 6 <= sectors <= 64 or size not in (1024, 2048, 4096, 8192, 16384):
         raise Refused("Geometry")
-    parts = [image[k * size:(k + 1) * size] for k in range(sectors)]
-    readings = [read_sector(k, part) for k, part in enumerate(parts)]
+    return [image[k * size:(k + 1) * size] for k in range(sectors)]
+
+
+def find_log(parts):
+    """Sections 3 to 6: the log of these sectors."""
+    count, readings = len(parts), [read_sector(k, part) for k, part in enumerate(parts)]
     erased = [all(b == 0xFF for b in part) for part in parts]
-    begins = [k for k in range(sectors) if erased[k - 1] and not erased[k]]
+    begins = [k for k in range(count) if erased[k - 1] and not erased[k]]
     if not any(erased) or len(begins) > 1:
         raise Refused("Scattered" if any(erased) else "NoErased")
-    log = [k for k in [*range(sum(begins), sectors), *range(sum(begins))] if not erased[k]]
-    records = [record for k in log for record in readings[k][0]]
-    nodes = [node for _, _, node in records]
+    log = [k for k in [*range(sum(begins), count), *range(sum(begins))] if not erased[k]]
+    nodes = [node for k in log for _, _, node in readings[k][0]]
     if any(a.version >= b.version for a, b in zip(nodes, nodes[1:])):
         raise Refused("BadOrder")
-    tree = make_tree(nodes)
-    clean = log and readings[log[-1]][0] and readings[log[-1]][1] and nodes[-1].kind == UNMOUNT
-    greatest = (nodes[-1].version if nodes else 0, max([ROOT] + [node.inode for node in nodes]))
-    live = {(k, v) for k, inode in tree.items() for v in {inode.newest.version, *inode.writers}}
-    yield "mounted clean" if clean else "mounted unclean"
+    return Log(log, readings, nodes, make_tree(nodes))
+
+
+def live_in(log):
+    """Section 7: the inode and the version of each live record."""
+    return {(k, v) for k, inode in log.tree.items() for v in {inode.newest.version, *inode.writers}}
+
+
+def begun_erase(parts):
+    """Section 9: the sector whose erase was cut off, and these sectors once it is ended; None where there is none."""
+    try:
+        return find_log(parts) and None
+    except Refused as why:
+        words = str(why).split()
+    if words[0] != "BadRecord" or words[2:] != ["0", "Magic"]:
+        return None
+    k = int(words[1])
+    erased = [*parts[:k], b"\xff" * len(parts[k]), *parts[k + 1:]]
+    if parts[k][:len(DOOM)] != DOOM and is_damage(k, [*parts[:k], MAGIC + parts[k][len(MAGIC):], *parts[k + 1:]]):
+        return None
+    try:
+        log = find_log(erased).sectors
+    except Refused:
+        return None
+    begins_after = log and len(log) <= len(parts) - 2 and log[0] == (k + 1) % len(parts)
+    return (k, erased) if begins_after else None
+
+
+def is_damage(k, restored):
+    """Section 9: a record of the sector lives once its magic is the right one."""
+    try:
+        log = find_log(restored)
+    except Refused:
+        return False
+    return any((node.inode, node.version) in live_in(log) for _, _, node in log.readings[k][0])
+
+
+def heal(parts):
+    """These sectors, on which an erase that was cut off is ended."""
+    begun = begun_erase(parts)
+    return begun[1] if begun else parts
+
+
+def show(parts):
+    """The lines that tell of these sectors."""
+    log = find_log(parts)
+    records, ends_free = log.readings[log.sectors[-1]] if log.sectors else ([], False)
+    greatest = (log.nodes[-1].version if log.nodes else 0, max([ROOT] + [node.inode for node in log.nodes]))
+    live = live_in(log)
+    yield "mounted clean" if records and ends_free and log.nodes[-1].kind == UNMOUNT else "mounted unclean"
     yield "next " + " ".join(str(n + 1) if n < LAST else "none" for n in greatest)
-    yield " ".join(["sectors"] + [str(k) for k in log])
-    for sector, position, n in records:
+    yield " ".join(["sectors"] + [str(k) for k in log.sectors])
+    for sector, position, n in (record for k in log.sectors for record in log.readings[k][0]):
         yield f"record {sector} {position} {n.length} {n.version} {'live' if (n.inode, n.version) in live else 'dead'}"
-    yield from dump(tree, ROOT, "")
+    yield from dump(log.tree, ROOT, "")
 
 
 def main():
-    image, sizes = sys.stdin.buffer.read(), [int(word) for word in sys.argv[1:] if word.isdecimal()]
-    if [str(size) for size in sizes] != sys.argv[1:] or len(sizes) != 2 or sizes[0] * sizes[1] != len(image):
+    words = sys.argv[2:] if sys.argv[1:2] == ["--healed"] else sys.argv[1:]
+    image, sizes = sys.stdin.buffer.read(), [int(word) for word in words if word.isdecimal()]
+    if [str(size) for size in sizes] != words or len(sizes) != 2 or sizes[0] * sizes[1] != len(image):
         sys.exit(print(__doc__, file=sys.stderr) or 2)
     try:
-        print("\n".join(show(image, *sizes)))
+        parts = split(image, *sizes)
+        print("\n".join(show(parts if words == sys.argv[1:] else heal(parts))))
     except Refused as why:
         sys.exit(print("refused", why) or 3)
 

@@ -8,8 +8,8 @@ record; for which cause, this writer doesn't say.
 import pathlib
 import sys
 
-from read_volume import (COPY, DELETED, DEPTH_MAX, DIRECTORY, FIELDS, FILE, FILE_MAX, HEADER, LAST, ROOT, UNMOUNT,
-                         Inode, Node, make_tree, read_sector)
+from read_volume import (COPY, DELETED, DEPTH_MAX, DIRECTORY, DOOM, FIELDS, FILE, FILE_MAX, HEADER, LAST, MAGIC, ROOT,
+                         UNMOUNT, Inode, Node, find_log, heal)
 
 ERASED_NEEDED = {"operation": 4, "copy": 2, "unmount": 2}
 
@@ -20,7 +20,7 @@ class Refused(Exception):
 
 def record(node, writer, seq):
     """Section 2: the bytes of a record."""
-    head = FIELDS.pack(b"JFF1", node.kind, node.flags, len(node.name), 0, node.inode, node.parent, node.version,
+    head = FIELDS.pack(MAGIC, node.kind, node.flags, len(node.name), 0, node.inode, node.parent, node.version,
                        node.offset, len(node.data), node.removed, writer, node.form, seq, node.size, node.name)
     return head + node.data + b"\xff" * (-len(node.data) % 4)
 
@@ -37,20 +37,17 @@ class Volume:
         self.mount()
 
     def mount(self):
-        """Sections 3, 4 and 6, of an image that is not refused."""
-        parts = [bytes(self.flash[k * self.size:(k + 1) * self.size]) for k in range(self.sectors)]
-        erased = [all(b == 0xFF for b in part) for part in parts]
-        readings = [read_sector(k, part) for k, part in enumerate(parts)]
-        first = sum(k for k in range(self.sectors) if erased[k - 1] and not erased[k])
-        self.log = [k for k in [*range(first, self.sectors), *range(first)] if not erased[k]]
-        self.nodes = {k: [node for _, _, node in readings[k][0]] for k in self.log}
-        nodes = [node for k in self.log for node in self.nodes[k]]
-        self.tree = make_tree(nodes)
-        self.version = nodes[-1].version + 1 if nodes else 1
-        self.inode = max([ROOT] + [node.inode for node in nodes]) + 1
-        is_free = self.log and readings[self.log[-1]][1]
+        """Sections 3 to 6 and 9, of an image that is not refused."""
+        parts = heal([bytes(self.flash[k * self.size:(k + 1) * self.size]) for k in range(self.sectors)])
+        self.flash[:] = b"".join(parts)
+        found = find_log(parts)
+        self.log, self.tree = found.sectors, found.tree
+        self.nodes = {k: [node for _, _, node in found.readings[k][0]] for k in self.log}
+        self.version = found.nodes[-1].version + 1 if found.nodes else 1
+        self.inode = max([ROOT] + [node.inode for node in found.nodes]) + 1
+        is_free = self.log and found.readings[self.log[-1]][1]
         self.used = sum(node.length for node in self.nodes[self.log[-1]]) if is_free else self.size
-        self.clean = bool(is_free and self.nodes[self.log[-1]] and nodes[-1].kind == UNMOUNT)
+        self.clean = bool(is_free and self.nodes[self.log[-1]] and found.nodes[-1].kind == UNMOUNT)
 
     def has_room(self, room, length):
         """"What may be programmed"."""
@@ -90,9 +87,12 @@ class Volume:
         return inode is not None and (inode.newest.version == node.version or node.version in inode.writers)
 
     def erase_oldest(self):
+        """"What may be erased": doomed first."""
         oldest = self.log.pop(0)
         del self.nodes[oldest]
-        self.flash[oldest * self.size:(oldest + 1) * self.size] = b"\xff" * self.size
+        at = oldest * self.size
+        self.flash[at:at + len(DOOM)] = DOOM
+        self.flash[at:at + self.size] = b"\xff" * self.size
 
     def erase_dead(self):
         """"What may be erased"."""

@@ -1,9 +1,10 @@
 // Plays a list of requests on a volume in memory by the library for C, and carries out its calls of the device:
 //     c_driver SECTORS SECTOR_SIZE IMAGE [STOP HOW] < LINES
 // IMAGE is made of erased bytes if it isn't there, and holds the medium at the end. With STOP the call of that
-// number, from 1, is not carried out but HOW much of it: none, half or all; then the call is said to have failed.
-// Each line is answered by the name of its code; at the end stands how many calls there were, and how many lines were
-// answered.
+// number, from 1, is not carried out but HOW much of it: none, half or all; of an erase also zeros, where the chip has
+// cleared the sector, or noise with a closed gate; then the call is said to have failed. Calls that opening leaves are
+// carried out first, and count. Each line is answered by the name of its code; at the end stands how many calls there
+// were, how many lines were answered, and the numbers of the calls that erase.
 #include <stdio.h>
 #include <stdlib.h>
 #include <string.h>
@@ -11,10 +12,11 @@
 #include "pumpgrape.h"
 
 #define LINE_MAX (1 << 20)
+#define GATE 7 // where a record's gate stands
 
 static uint8_t *medium;
 static uint32_t sector_size;
-static unsigned long calls, stop_at;
+static unsigned long calls, stop_at, erases[1000], erase_count;
 static const char *how = "none";
 
 static void need(int holds, const char *what) {
@@ -37,14 +39,29 @@ static void apply(const pg_call *call, const uint8_t *bytes, uint32_t length) {
         medium[call->at + at] = call->erase ? 0xff : medium[call->at + at] & bytes[at];
 }
 
+// What a call leaves that was cut off.
+static void apply_cut(const pg_call *call, const uint8_t *bytes) {
+    int zeros = strcmp(how, "zeros") == 0, noise = strcmp(how, "noise") == 0;
+    if (!zeros && !noise) {
+        apply(call, bytes, strcmp(how, "none") == 0 ? 0 : strcmp(how, "half") == 0 ? call->len / 2 : call->len);
+        return;
+    }
+    need(call->erase, "only an erase leaves zeros or noise");
+    for (uint32_t at = 0; at < call->len; at++)
+        medium[call->at + at] = zeros || at == GATE ? 0 : (uint8_t)rand();
+}
+
 // Whether the next call was carried out; 0 where carrying out stops here.
 static int carry_out_one(pg_volume *volume, const pg_call *call, const uint8_t *bytes) {
-    if (++calls != stop_at) {
+    calls++;
+    if (call->erase && erase_count < sizeof erases / sizeof *erases)
+        erases[erase_count++] = calls;
+    if (calls != stop_at) {
         apply(call, bytes, call->len);
         need(pg_carried_out(volume) == PG_DONE, "pg_carried_out");
         return 1;
     }
-    apply(call, bytes, strcmp(how, "none") == 0 ? 0 : strcmp(how, "half") == 0 ? call->len / 2 : call->len);
+    apply_cut(call, bytes);
     need(pg_call_failed(volume) == PG_DONE, "pg_call_failed");
     return 0;
 }
@@ -124,6 +141,10 @@ static void refuse_all(pg_volume *volume) {
 }
 
 static unsigned long play(pg_volume *volume) {
+    if (!carry_out(volume)) {
+        refuse_all(volume);
+        return 0;
+    }
     char *line = malloc(LINE_MAX), *words[6];
     need(line != NULL, "no memory");
     unsigned long answered = 0;
@@ -156,6 +177,7 @@ int main(int argc, char **argv) {
     if (argc == 6) {
         stop_at = strtoul(argv[4], NULL, 10);
         how = argv[5];
+        srand((unsigned)stop_at);
     }
     need((medium = malloc(length)) != NULL, "no memory");
     memset(medium, 0xff, length);
@@ -174,6 +196,9 @@ int main(int argc, char **argv) {
     pg_close(volume);
     store(argv[3], length);
     free(medium);
-    printf("calls %lu answered %lu\n", calls, answered);
+    printf("calls %lu answered %lu erases", calls, answered);
+    for (unsigned long at = 0; at < erase_count; at++)
+        printf(" %lu", erases[at]);
+    puts("");
     return 0;
 }

@@ -47,14 +47,21 @@ static void holds(int fact, const char *what) {
     wrong = 1;
 }
 
-static void carry_out(pg_volume *volume) {
+// Carries out the next call; 0 where none is left.
+static int carry_out_one(pg_volume *volume) {
     pg_call call;
     uint8_t bytes[SIZE / 4];
-    while (pg_next_call(volume, &call, bytes, sizeof bytes) == PG_DONE) {
-        for (uint32_t at = 0; at < call.len; at++)
-            medium[call.at + at] = call.erase ? 0xff : medium[call.at + at] & bytes[at];
-        expect(pg_carried_out(volume), PG_DONE, "pg_carried_out");
-    }
+    if (pg_next_call(volume, &call, bytes, sizeof bytes) != PG_DONE)
+        return 0;
+    for (uint32_t at = 0; at < call.len; at++)
+        medium[call.at + at] = call.erase ? 0xff : medium[call.at + at] & bytes[at];
+    expect(pg_carried_out(volume), PG_DONE, "pg_carried_out");
+    return 1;
+}
+
+static void carry_out(pg_volume *volume) {
+    while (carry_out_one(volume))
+        ;
     holds(pg_calls_left(volume) == 0, "calls are left");
 }
 
@@ -241,6 +248,29 @@ static void phases(void) {
     pg_close(volume);
 }
 
+// Carrying out stops once a sector is doomed: the next opening leaves the two calls that end its erase.
+static void cut_off(void) {
+    pg_volume volume;
+    if (!open_medium(&volume))
+        return;
+    uint8_t data[192] = {2};
+    CHANGE(PG_DONE, pg_create(&volume, PATH("/cut")));
+    for (int turn = 0; turn < 4; turn++)
+        CHANGE(PG_DONE, pg_write(&volume, PATH("/cut"), 0, data, sizeof data));
+    expect(pg_clean(&volume), PG_DONE, "pg_clean");
+    while (pg_calls_left(&volume) > 1)
+        carry_out_one(&volume);
+    pg_close(volume);
+    if (!open_medium(&volume))
+        return;
+    holds(pg_calls_left(&volume) == 2, "what ends the erase");
+    all_changes(&volume, PG_CALLS_LEFT);
+    all_looks(&volume, PG_DONE);
+    carry_out(&volume);
+    CHANGE(PG_DONE, pg_remove(&volume, PATH("/cut")));
+    pg_close(volume);
+}
+
 static void refusal_is(size_t length, uint32_t size, uint32_t wanted, uint32_t sector, uint32_t place, uint32_t rule) {
     pg_volume volume = {medium};
     pg_refusal refusal = {0};
@@ -359,6 +389,7 @@ int main(int argc, char **argv) {
     paths();
     looks();
     phases();
+    cut_off();
     memset(medium, 0xff, sizeof medium);
     cleaning();
     memset(medium, 0xff, sizeof medium);

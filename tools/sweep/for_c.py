@@ -19,6 +19,7 @@ WRITER = TOP / "tools/write_volume.py"
 CONTROL = 10
 LISTS = 200
 HOWS = ("none", "half")
+OF_ERASES = ("zeros", "noise")
 STRICT = ["-std=c11", "-O1", "-g", "-Wall", "-Wextra", "-Werror", "-I", str(BINDINGS)]
 SANITIZED = ["-fsanitize=address,undefined", "-fno-sanitize-recover=all", "-fno-omit-frame-pointer"]
 WRAPPED = ["-Wl,--wrap=malloc,--wrap=realloc"]
@@ -145,11 +146,12 @@ class Listed:
         if answers is None:
             return
         self.same_image(answers, image.read_bytes())
-        calls = int(last[1])
+        calls, erases = int(last[1]), {int(number) for number in last[5:] if number}
         for at in range(1, calls + 1):
-            for how in HOWS:
+            for how in HOWS + OF_ERASES * (at in erases):
                 self.stop(at, how)
         self.runner.tally.count("carrying out", calls)
+        self.runner.tally.count("erasing", len(erases))
 
     def trees(self, answers):
         """The tree after each line, as the answers and the model have it; or why an answer is wrong."""
@@ -165,20 +167,30 @@ class Listed:
             trees.append(tree)
         return trees, None
 
-    def judge(self, answers, image, last):
+    def judge(self, answers, image, last, healed=False):
         """Why an answer is wrong, or the tree that is left, which has to be one of so many last ones; or None."""
         trees, why = self.trees(answers)
-        found = left(image, self.sectors, self.size)
+        found = left(image, self.sectors, self.size, healed)
         if why or found is None:
             return why or "no volume is left"
         wanted = [tree.dump() for tree in trees[-last:]]
         return None if found[1] in wanted else f"left {found[1]}, wanted {' or '.join(map(str, wanted))}"
 
     def stop(self, at, how):
-        """Carrying out stops at this call; one of two trees is left."""
+        """Carrying out stops at this call; one of two trees is left, for a reader that ends an erase that was cut off,
+        and for one that doesn't once the library has opened the image."""
         answers, last, image = self.drive([at, how])
-        self.runner.tally.add(f"{self.name}, {how} of call {at}",
-                              last if answers is None else self.judge(answers, image, 2))
+        what = f"{self.name}, {how} of call {at}"
+        self.runner.tally.add(what, last if answers is None else self.judge(answers, image, 2, healed=True))
+        if answers is not None and how in OF_ERASES:
+            self.heal(what, answers, image)
+
+    def heal(self, what, answers, image):
+        """The library opens it, is cut off again at each call that it left, and opens it at last."""
+        for stop in ([1, "half"], [2, self.rand.choice(HOWS + OF_ERASES)], []):
+            ran = self.runner.run([self.driver, self.sectors, self.size, image, *stop], "", limit=60)
+            self.runner.tally.add(f"{what}, opened {stop}", None if ran.status == 0 else ran.errors or ran.out)
+        self.runner.tally.add(f"{what}, opened", self.judge(answers, image, 2))
 
     def same_image(self, answers, image):
         """The same requests leave the same bytes by another program."""

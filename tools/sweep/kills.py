@@ -1,4 +1,5 @@
-"""Kills jffs_volume and jffs with SIGKILL at random moments, and reads with the second reader what the file holds then."""
+"""Kills jffs_volume and jffs with SIGKILL at random moments, and reads with the second reader what the file holds then.
+Each erase goes as on many chips: what a kill leaves of its sector may be zeros, noise or half of it."""
 import os
 import random
 import shutil
@@ -9,7 +10,6 @@ import time
 from second_reader import contents, left
 
 SECTORS, SIZE = 8, 2048
-WRITE_MAX = SIZE // 4 - 64
 UNFINISHED = "/.put.new"
 NAMES = ["/a", "/b", "/c", "/d"]
 SESSIONS, COMMANDS = 8, 60
@@ -23,10 +23,13 @@ SCRIPTS, LINES, FIRST = 200, 300, 100
 
 class Session:
     """A volume in a file, the files that stand on it, and how often a command was killed."""
-    group, steps = "jffs_volume", COMMANDS
+    group, steps, size = "jffs_volume", COMMANDS, SIZE
+    # How many bytes are put.
+    lengths = [0, 10, 300, 900, 1500]
 
     def __init__(self, runner, program, seed):
         self.program, self.random, self.killed = program, random.Random(seed), 0
+        self.clearing = clearing(runner)
         self.image = runner.folder / f"{type(self).__name__}.{seed}.image"
         self.files, self.seconds = {}, 0.01
 
@@ -36,7 +39,7 @@ class Session:
         if command != "format":
             call += ["--sector-size", SIZE]
         process = subprocess.Popen([str(word) for word in call], stdin=subprocess.PIPE, stdout=subprocess.DEVNULL,
-                                   stderr=subprocess.DEVNULL)
+                                   stderr=subprocess.DEVNULL, env=self.clearing)
         try:
             process.stdin.write(data)
             process.stdin.close()
@@ -68,7 +71,7 @@ class Session:
         free = [name for name in NAMES if name not in before]
         kind = self.random.choice(["put"] * 4 + (["rm"] + ["mv"] * bool(free)) * bool(have))
         if kind == "put":
-            target, size = self.random.choice(NAMES), self.random.choice([0, 10, 300, 900, 1500])
+            target, size = self.random.choice(NAMES), self.random.choice(self.lengths)
             data = self.random.randbytes(size)
             return kind, [target], data, {**before, target: data}
         source = self.random.choice(have)
@@ -94,7 +97,7 @@ class Session:
             if kind != "put":
                 return f"{kind} left an unfinished file"
             without = {path: self.files[path] for path in self.files if path != words[0]}
-            wanted = [self.files] * is_part(unfinished, data) + [without] * (unfinished == data)
+            wanted = [self.files] * is_part(unfinished, data, self.size) + [without] * (unfinished == data)
         if found not in wanted:
             return f"{kind} {words} left {sorted(found)} in place of {sorted(self.files)} or {sorted(done)}"
         self.files = found
@@ -177,16 +180,21 @@ def stopped_at(files, entries, found):
         unfinished = rest.pop(beside(path), None)
         if content is not None and unfinished is not None:
             without = {other: files[other] for other in files if other != path}
-            if rest == files and is_part(unfinished, content) or rest == without and unfinished == content:
+            if rest == files and is_part(unfinished, content, SIZE) or rest == without and unfinished == content:
                 return path
         files[path] = content
     return "" if found == files else None
 
 
+def clearing(runner):
+    """Surroundings in which each erase clears its sector first."""
+    return dict(os.environ, LD_PRELOAD=str(runner.clears))
+
+
 def read(path):
-    """The directories, as None, and files on the volume in a file, as the second reader finds them; None where it finds
-    no volume."""
-    found = left(path, SECTORS, SIZE)
+    """The directories, as None, and files on the volume in a file, as the second reader finds them once an erase that was
+    cut off is ended; None where it finds no volume."""
+    found = left(path, SECTORS, SIZE, healed=True)
     return contents(found[1]) if found else None
 
 
@@ -250,7 +258,7 @@ def run_script(runner, program, seed, seconds=None):
     sure, draw, started = FIRST, random.Random(-seed), time.monotonic()
     with written.open() as given:
         process = subprocess.Popen([str(program), "--volume", str(image)], stdin=given, stdout=subprocess.DEVNULL,
-                                   stderr=subprocess.DEVNULL)
+                                   stderr=subprocess.DEVNULL, env=clearing(runner))
     if seconds is not None:
         time.sleep(draw.uniform(0.05, 0.5) * seconds)
         sure = done_in(after, glance(process, image), FIRST)
@@ -281,14 +289,14 @@ def kill_scripts(runner):
     runner.each(range(1, SCRIPTS // runner.options.thin + 1), play)
 
 
-def is_part(some, data):
-    """Whether so many whole writes of the data were done, or all."""
-    return data.startswith(some) and (len(some) == len(data) or len(some) % WRITE_MAX == 0)
+def is_part(some, data, size):
+    """Whether so many whole writes of the data were done, or all, in sectors of this size."""
+    return data.startswith(some) and (len(some) == len(data) or len(some) % (size // 4 - 64) == 0)
 
 
 def kills(runner):
     program = runner.program("jffs_volume")
-    if not program:
+    if not program or not runner.build(runner.clears):
         return
 
     def play(make, seed):

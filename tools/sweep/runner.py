@@ -66,7 +66,8 @@ class Runner:
     def __init__(self, options):
         self.options, self.tally = options, Tally()
         self.folder = pathlib.Path(tempfile.mkdtemp(prefix="sweep."))
-        self.refuses, self.delays, self.counts_syncs = (self.folder / f"{name}.so" for name in ("refuse", "delay", "syncs"))
+        self.refuses, self.delays, self.counts_syncs, self.clears, self.notes_writes, self.fails = (
+            self.folder / f"{name}.so" for name in ("refuse", "delay", "syncs", "clears", "writes", "fails"))
         self.missing = set()
 
     def close(self):

@@ -1,14 +1,16 @@
 """What the second reader, tools/read_volume.py, finds in a volume's file."""
-from read_volume import Refused, show
+from read_volume import Refused, heal, show, split
 
 
-def left(image, sectors, size):
-    """The first line, and the lines of directories and files; None where it finds no volume."""
+def left(image, sectors, size, healed=False):
+    """The first line, and the lines of directories and files; None where it finds no volume. An erase that was cut off
+    may be ended first."""
     given = image.read_bytes()
     if len(given) != sectors * size:
         return None
     try:
-        lines = list(show(given, sectors, size))
+        parts = split(given, sectors, size)
+        lines = list(show(heal(parts) if healed else parts))
     except Refused:
         return None
     return lines[0], [line for line in lines if line[:2] in ("d ", "f ")]

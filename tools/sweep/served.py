@@ -318,7 +318,8 @@ def judge_output(judge, requests, ran):
 
 def sync_each(runner, program):
     """Counts how often the operating system is asked to bring a volume's file to the medium: once before each change is
-    answered and for a `sync`, by commands that change the file, and by none that only looks."""
+    answered, of which each lies in one block here, and for a `sync`, by commands that change the file, and by none that
+    only looks."""
     image, syncs = make(runner, "synced", 8, 1024), runner.folder / "syncs"
     env = dict(os.environ, LD_PRELOAD=str(runner.counts_syncs), SYNCS=str(syncs))
 
@@ -334,7 +335,8 @@ def sync_each(runner, program):
     client = Timed(program, image, 1024, env=env)
     for number, verb in enumerate(("create", "sync", "create", "mkdir", "sync")):
         words = () if verb == "sync" else (f"/{number}",)
-        counted(f"{verb}, served", 1, 1, lambda verb=verb, words=words: client.ask(verb, *words))
+        # Before the first change of a session what an earlier program wrote is synced.
+        counted(f"{verb}, served", 1, 1 + (number == 0), lambda verb=verb, words=words: client.ask(verb, *words))
     counted("a refused create, served", 0, 0, lambda: text_of(client, "create", "/0"))
     counted("list, served", 0, 0, lambda: client.names("/"))
     counted("unmount, served", 1, 2, lambda: client.ask("unmount"))

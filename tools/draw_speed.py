@@ -1,7 +1,8 @@
 #!/usr/bin/env python3
-"""Draws the plots of docs/SPEED.md: draw_speed.py FOLDER
+"""Makes the plots and the table of docs/SPEED.md: draw_speed.py FOLDER
 
-Reads FOLDER/measured.txt and writes FOLDER/NAME.svg for each plot in it. A plot is a block of lines:
+Reads FOLDER/measured.txt, writes FOLDER/NAME.svg for each plot in it, and in SPEED.md beside FOLDER the table between its two
+marks. A plot is a block of lines:
 
     plot NAME
     title WORDS
@@ -9,10 +10,12 @@ Reads FOLDER/measured.txt and writes FOLDER/NAME.svg for each plot in it. A plot
     y WORDS [log]
     line PROGRAM, WORDS: X=Y X=Y ..
 
-Blocks end with an empty line, and `#` begins a comment. Lines of one program have one colour.
+Blocks end with an empty line, and `#` begins a comment. Lines of one program have one colour. What the table sums up are
+lines `row WHAT | VALUE UNIT | RATIO`, where RATIO is ours over the plain program. `./docs_check text` compares the table.
 """
 import math
 import pathlib
+import re
 import sys
 from xml.sax.saxutils import escape
 
@@ -130,10 +133,75 @@ def plots_of(source):
             yield plot
 
 
+# What stands in a row of the table, and which rows it sums up.
+SUMS = [
+    ("append of 192 bytes to a file of 1 KiB to 1 MiB", r"append of 192 bytes to a file"),
+    ("append of 192 bytes, 3,800 from an empty file on", r"append of 192 bytes, 3800"),
+    ("append of 4,032 bytes, 178 from an empty file on", r"append of 4032 bytes, 178"),
+    ("write of 16 bytes beside 8 to 8,000 files", r"write of 16 bytes"),
+    ("create in a directory of 500 to 4,095 names", r"create in a directory"),
+    ("create at depth 1 to 8", r"create at depth"),
+    ("rename among 2,000 files", r"rename"),
+    ("remove among 2,000 files", r"remove"),
+    ("overwrite of 192 bytes, nothing live, on three sizes", r"overwrite .* nothing live"),
+    ("the same at 50 to 95 % live", r"overwrite .* % live"),
+    ("copy that is refused as not needed", r"copy that is refused"),
+    ("any other refusal", r"refused as"),
+    ("mount of an erased volume, 6 × 1,024 to 64 × 16,384", r"mount of .* erased"),
+    ("mount of one full of creates", r"mount of .* creates"),
+    ("of writes of 192 bytes", r"mount of .* writes of 192"),
+    ("of largest writes", r"mount of .* largest writes"),
+    ("parse of 64 MiB of hexadecimal bytes", r"parse of 64"),
+    ("parse of 8,000 short lines", r"parse of 8,000"),
+    ("dump of 8,000 empty files, of 730 KB in one file, of 32 files of holes", r"dump of"),
+    ("append in a run, over rings: 1 to 4,032 bytes", r"append of .* over rings"),
+    ("run of 1 to 8 writers over rings, 4,095 writes of 192 bytes", r"run of . writers over rings: time"),
+    ("the same over the shared line", r"run of . writers over shared: time"),
+    ("the same with a cleaner, over both", r"run of .* cleaner: time"),
+    ("the same with 16 readers, over both", r"run of .* readers: time"),
+    ("processor time of these runs alone, over both", r"run of . writers over \w+: processor"),
+    ("with a cleaner", r"run of .* cleaner: processor"),
+    ("with 16 readers", r"run of .* readers: processor"),
+    ("processor time where the log thread is held for a second at each of ten moments", r"run whose log thread is held"),
+    ("memory of a run for a MiB of file data, in largest writes", r"memory for a MiB .* largest"),
+    ("the same in writes of 192 bytes", r"memory for a MiB .* 192"),
+    ("memory for a node without data", r"memory for a node"),
+    ("memory for an inode", r"memory for an inode"),
+    ("memory of the smallest script", r"memory of the smallest"),
+]
+MARKS = ("<!-- made by tools/draw_speed.py -->\n", "<!-- until here -->\n")
+
+
+def span(values):
+    """The least and the greatest of some figures, as they were measured."""
+    least, most = (pick(values, key=float) for pick in (min, max))
+    least, most = (f"{float(value):,.0f}" if float(value) >= 1000 else value for value in (least, most))
+    return least if least == most else f"{least} to {most}"
+
+
+def table(source):
+    rows = [[part.strip() for part in row.split("|")] for row in re.findall(r"^row (.*)$", source, re.M)]
+    lines = ["| What | Ours | Over the plain program |", "|---|---|---|"]
+    for words, pattern in SUMS:
+        found = [(value.split(), ratio) for what, value, ratio in rows if re.match(pattern, what)]
+        (unit,) = {unit for (_, unit), _ in found}
+        ratios = [ratio for _, ratio in found if ratio]
+        lines.append(f"| {words} | {span([value for (value, _), _ in found])} {unit} | {span(ratios) if ratios else ''} |")
+    return "\n".join([*lines, ""])
+
+
+def page_of(page, source):
+    """The page with the table of this source between its marks."""
+    before, rest = page.split(MARKS[0])
+    return before + MARKS[0] + "\n" + table(source) + "\n" + MARKS[1] + rest.split(MARKS[1])[1]
+
+
 def main():
     folder = pathlib.Path(sys.argv[1])
-    for plot in plots_of((folder / "measured.txt").read_text()):
+    source, page = (folder / "measured.txt").read_text(), folder.parent / "SPEED.md"
+    for plot in plots_of(source):
         (folder / f"{plot['plot']}.svg").write_text(drawn(plot))
+    page.write_text(page_of(page.read_text(), source))
 
 
 if __name__ == "__main__":

@@ -15,7 +15,7 @@ TESTS_OF = {"jffs_marks": "jffs_tree_tests", "jffs_inodes": "jffs_tree_tests", "
 SHOWN, ALIKE = 2, 3
 HEAD = """# Wrong bodies, and what holds each call
 
-Made by `tools/wrong_bodies.py`; nobody writes here. A must-fail edit plants a fault, and the gate fails unless the edit loses
+Made by `tools/wrong_bodies.py`; nobody writes here. A must-fail edit plants a fault, and `./test` fails unless it loses
 its proof. It is the file `NAME.edit` in the folder `must-fail` of its crate, which says what a user would be told wrongly and
 what of the contracts stays unproved.
 

@@ -1,0 +1,6 @@
+mod Histories
+mod Telling
+mod Paths
+mod Stages
+mod Steps
+mod Endings

@@ -1,0 +1,4 @@
+pub mod Session
+pub mod Told
+pub mod Put
+pub mod PutEnds

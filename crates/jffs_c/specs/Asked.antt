@@ -1,5 +1,5 @@
 -- What a change comes to that may be.
-use Rattle.std.specs.Prelude.{◌≡◌, ◌≢◌, ◌⊎◌, List, ℕ, Ok}
+use Rattle.std.specs.Prelude.{◌≡◌, ◌⊎◌, List, ℕ, Ok}
 use Rattle.jffs_node.specs.Path.{path_of}
 use Rattle.jffs_tree.specs.declared.wish.Wish.{Wish}
 use Rattle.jffs_tree.specs.declared.wish.Cause.{Cause}
@@ -11,6 +11,7 @@ use Rattle.jffs_core.specs.Asking.{HasAsked}
 use Rattle.jffs_c.specs.declared.code.Code.{Code}
 use Rattle.jffs_c.specs.declared.code.Code.TheVariants as code
 use Rattle.jffs_c.specs.declared.volume.Volume.{Volume}
+use Rattle.jffs_c.specs.Seen.{IsFaultOf}
 
 -- the code of a cause
 abbrev pub code_of_cause : Cause → Code
@@ -38,9 +39,9 @@ code_of (outcome.Copied version) = code.Done
 code_of outcome.Closed = code.Done
 code_of (outcome.Refused why) = code_of_cause why
 
--- nothing was asked, and nothing is changed
-abbrev pub IsUnasked : Volume → Volume → Code → Type 0
-IsUnasked old new answer = (answer ≢ code.Done) × IsSameButCapacity old.core new.core
+-- nothing was asked, for this reason, and nothing is changed
+abbrev pub IsUnasked : Type 0 → Volume → Volume → Type 0
+IsUnasked why old new = why × IsSameButCapacity old.core new.core
 
 -- the core was asked, and the answer is the code of what it answered
 pub record IsAsked (wish : Wish) (old new : Volume) (answer : Code) : Type 0 where
@@ -48,20 +49,23 @@ pub record IsAsked (wish : Wish) (old new : Volume) (answer : Code) : Type 0 whe
   pub told : answer ≡ code_of outcome
   pub answered : HasAsked wish outcome old.core new.core
 
--- the core was asked this, or nothing was
+-- the core was asked this, or memory for its answer was refused
 abbrev pub Asks : Wish → Volume → Volume → Code → Type 0
-Asks wish old new answer = IsUnasked old new answer ⊎ IsAsked wish old new answer
+Asks wish old new answer =
+    IsUnasked (answer ≡ code.Memory) old new ⊎ IsAsked wish old new answer
 
--- the core was asked a wish of the path that these bytes spell, or nothing was asked
+-- the core was asked a wish of the path that these bytes spell; or they spell none, or memory was
+-- refused
 abbrev pub AsksAt : List ℕ → (List (List ℕ) → Wish) → Volume → Volume → Code → Type 0
 AsksAt bytes wish old new answer =
-    IsUnasked old new answer
+    IsUnasked (IsFaultOf bytes answer) old new
     ⊎ ((path : List (List ℕ)) × (path_of bytes ≡ Ok path) × IsAsked (wish path) old new answer)
 
--- the core was asked a wish of the two paths that these bytes spell, or nothing was asked
+-- the core was asked a wish of the two paths that these bytes spell; or one of them spells none, or
+-- memory was refused
 abbrev pub AsksBetween : List ℕ → List ℕ → (List (List ℕ) → List (List ℕ) → Wish) → Volume → Volume
     → Code → Type 0
 AsksBetween from to wish old new answer =
-    IsUnasked old new answer
+    IsUnasked (IsFaultOf from answer ⊎ IsFaultOf to answer) old new
     ⊎ ((source target : List (List ℕ)) × (path_of from ≡ Ok source) × (path_of to ≡ Ok target)
     × IsAsked (wish source target) old new answer)

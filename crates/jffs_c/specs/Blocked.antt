@@ -18,6 +18,18 @@ looks_blocked phase.Ready = Ok tt
 looks_blocked phase.Carrying = Ok tt
 looks_blocked phase.Failed = Err code.Failed
 
+-- what a program is answered that says how the next call went
+abbrev pub noted : Phase → Code
+noted phase.Ready = code.Nothing
+noted phase.Carrying = code.Done
+noted phase.Failed = code.Failed
+
+-- the phase after a call that failed
+abbrev pub after_failure : Phase → Phase
+after_failure phase.Ready = phase.Ready
+after_failure phase.Carrying = phase.Failed
+after_failure phase.Failed = phase.Failed
+
 -- a change that may not be is answered why, and changes nothing
 abbrev pub IsHeldBack : Volume → Volume → Code → Type 0
 IsHeldBack old new answer = IfErr (blocked old.phase) (λ why. (answer ≡ why) × (new ≡ old))

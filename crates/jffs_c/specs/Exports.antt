@@ -17,6 +17,12 @@ HoldsBackLooks old new answer =
     IfErr (looks_blocked old.value.phase)
     (λ why. (answer ≡ number_of why) × (new.value ≡ old.value))
 
+-- The answer is the number of a code, of which this holds.
+pub record Answers (So : Code → Type 0) (answer : ℕ) : Type 0 where
+  pub code : Code
+  pub number : answer ≡ number_of code
+  pub so : So code
+
 -- The answer is the number of a code, by which the volume was changed so where it may be.
 pub record Changes (So : Volume → Volume → Code → Type 0) (old new : Handle) (answer : ℕ) :
     Type 0 where

@@ -7,3 +7,4 @@ pub mod Heap
 pub mod Cleaned
 pub mod Seen
 pub mod Opened
+pub mod Told

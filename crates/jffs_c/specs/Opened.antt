@@ -10,6 +10,7 @@ use Rattle.jffs_log.specs.Heal.{begun_on, healed_device, IsUnhealed}
 use Rattle.jffs_core.specs.Past.{IsFresh}
 use Rattle.jffs_c.specs.declared.code.Code.{Code}
 use Rattle.jffs_c.specs.declared.code.Code.TheVariants as code
+use Rattle.jffs_c.specs.declared.handle.Slot.{Slot}
 use Rattle.jffs_c.specs.declared.opening.Refusal.{Refusal}
 use Rattle.jffs_c.specs.declared.opening.Refused.{Refused}
 use Rattle.jffs_c.specs.declared.volume.Phase.{Phase}
@@ -29,6 +30,12 @@ pub record IsOpened (bytes : List ℕ) (sector_size : ℕ) (volume : Volume) : T
   pub whole : length bytes ≡ sectors * sector_size
   pub fresh : IsFresh (healed_device (device_of sectors sector_size bytes)) volume.core
   pub phase : volume.phase ≡ phase_after (begun_on (device_of sectors sector_size bytes))
+
+-- a slot has such a volume
+pub record HasOpened (bytes : List ℕ) (sector_size : ℕ) (slot : Slot) : Type 0 where
+  pub volume : Volume
+  pub held : slot.held ≡ Some volume
+  pub opened : IsOpened bytes sector_size volume
 
 -- the number of a rule that a record breaks
 abbrev pub number_of_rule : Why → ℕ

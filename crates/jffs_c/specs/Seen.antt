@@ -1,5 +1,5 @@
 -- What looks see.
-use Rattle.std.specs.Prelude.{◌≡◌, ◌≢◌, ◌⊎◌, ◌-◌, ◌++◌, ℕ, false, List, length, IsUtf8}
+use Rattle.std.specs.Prelude.{◌≡◌, ◌≢◌, ◌⊎◌, ◌-◌, ◌<◌, ◌≤◌, ◌++◌, ℕ, true, false, List, length, IsUtf8}
 use Rattle.std.specs.Prelude.{map, sum, take, drop, min, slice_get, unwrap_or, Some, None, Ok, Err}
 use Rattle.std.specs.List.{filter}
 use Rattle.std.specs.List.Sorted.{IsPermutation, IsSorted}
@@ -49,6 +49,23 @@ pub record LeadsNowhere (bytes : List ℕ) (volume : Volume) : Type 0 where
   pub spelled : path_of bytes ≡ Ok path
   pub none : resolve (state_in volume.core.tree) path ≡ None
 
+-- why these bytes lead to no inode: they spell no path, or nothing stands there
+abbrev pub IsUnreached : List ℕ → Volume → Code → Type 0
+IsUnreached bytes volume answer =
+    IsFaultOf bytes answer ⊎ ((answer ≡ code.NotFound) × LeadsNowhere bytes volume)
+
+-- these bytes spell a path, at which the volume has a directory
+pub record LeadsToDirectory (bytes : List ℕ) (volume : Volume) : Type 0 where
+  pub inode : ℕ
+  pub leads : LeadsTo bytes volume inode
+  pub directory : is_directory_in (state_in volume.core.tree) inode ≡ true
+
+-- why no bytes are read at a path: nothing is reached, or a directory
+abbrev pub IsUnread : List ℕ → Volume → Code → Type 0
+IsUnread bytes volume answer =
+    IsUnreached bytes volume answer
+    ⊎ ((answer ≡ code.IsDirectory) × LeadsToDirectory bytes volume)
+
 -- the kind and the size of an inode
 abbrev pub sight_in : Tree → ℕ → PathSight
 sight_in tree inode = record {
@@ -73,21 +90,48 @@ pub record IsRead (bytes : List ℕ) (volume : Volume) (offset count : ℕ) (old
   pub copied : new
       ≡ take count (drop offset (bytes_in volume.core.tree inode)) ++ drop count old
 
--- The name with this number, in the order of their bytes, of the directory at the path was copied
--- into a buffer, and what stands there was seen.
+-- the name with this number in a directory, in the order of their bytes, and the inode there
+pub record IsNumbered (tree : Tree) (inode number : ℕ) (name : List ℕ) (found : ℕ) : Type 0 where
+  pub names : List (List ℕ × ℕ)
+  pub all : IsPermutation (names_in tree inode) names
+  pub ordered : IsSorted name_cmp names
+  pub numbered : slice_get names number ≡ Some (name, found)
+
+-- The name with this number in the directory at the path was copied into a buffer, and what stands
+-- there was seen.
 pub record IsEntry (bytes : List ℕ) (volume : Volume) (number : ℕ) (sight : PathSight) (len : ℕ)
     (old new : List ℕ) : Type 0 where
   pub inode : ℕ
   pub leads : LeadsTo bytes volume inode
-  pub names : List (List ℕ × ℕ)
-  pub all : IsPermutation (names_in volume.core.tree inode) names
-  pub ordered : IsSorted name_cmp names
   pub name : List ℕ
   pub found : ℕ
-  pub numbered : slice_get names number ≡ Some (name, found)
+  pub numbered : IsNumbered volume.core.tree inode number name found
   pub seen : sight ≡ sight_in volume.core.tree found
   pub counted : len ≡ length name
   pub copied : new ≡ name ++ drop len old
+
+-- what stands at the path has no name with this number; a file has none at all
+pub record HasFewer (bytes : List ℕ) (volume : Volume) (number : ℕ) : Type 0 where
+  pub inode : ℕ
+  pub leads : LeadsTo bytes volume inode
+  pub fewer : length (names_in volume.core.tree inode) ≤ number
+
+-- the name with this number in the directory at the path is longer than a buffer
+pub record IsLonger (bytes : List ℕ) (volume : Volume) (number room : ℕ) : Type 0 where
+  pub inode : ℕ
+  pub leads : LeadsTo bytes volume inode
+  pub name : List ℕ
+  pub found : ℕ
+  pub numbered : IsNumbered volume.core.tree inode number name found
+  pub longer : room < length name
+
+-- why no name with this number is told to a buffer of so many bytes: nothing is reached, there are
+-- fewer names, or it is too long
+abbrev pub IsUntold : List ℕ → Volume → ℕ → ℕ → Code → Type 0
+IsUntold bytes volume number room answer =
+    IsUnreached bytes volume answer
+    ⊎ ((answer ≡ code.Nothing) × HasFewer bytes volume number)
+    ⊎ ((answer ≡ code.BufferShort) × IsLonger bytes volume number room)
 
 -- How full the log is: its sectors, those that are erased, its records, the lengths of those that
 -- live, and the weight that is sure to have room.

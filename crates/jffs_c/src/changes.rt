@@ -173,6 +173,7 @@ impl Volume {
         ensures held_back { IfErr (blocked self.now.phase) (λ why. result ≡ Err why) }
         ensures path { IfOk result (λ path. path_of bytes.now ≡ Ok path) }
         ensures refused { IfErr result IsOfPaths }
+        ensures fault { blocked self.now.phase ≡ Ok tt → IfErr result (IsFaultOf bytes.now) }
     {
         self.may_change()?;
         self.path(bytes)

@@ -1,19 +1,25 @@
 //! The functions of the header.
 
-ghost use Rattle.std.specs.Prelude.{◌≡◌, ◌≢◌, IfErr, Ok};
+ghost use Rattle.std.specs.Prelude.{◌≡◌, ◌≢◌, IfErr, Ok, Err, length};
 ghost use Rattle.jffs_tree.specs.declared.wish.Wish.TheVariants as wish;
 ghost use Rattle.jffs_core.specs.Jobs.{wants_cleaning};
+ghost use Rattle.jffs_c.specs.declared.code.Code.{Code};
+ghost use Rattle.jffs_c.specs.declared.volume.Phase.TheVariants as phase;
 ghost use Rattle.jffs_c.specs.Codes.{number_of};
-ghost use Rattle.jffs_c.specs.Exports.{HoldsBack, HoldsBackLooks, Changes};
+ghost use Rattle.jffs_c.specs.Blocked.{looks_blocked, noted, after_failure};
+ghost use Rattle.jffs_c.specs.Exports.{HoldsBack, HoldsBackLooks, Answers, Changes};
 ghost use Rattle.jffs_c.specs.Asked.{Asks, AsksAt, AsksBetween};
 ghost use Rattle.jffs_c.specs.Cleaned.{CleansOldest, ErasesTheDead};
-ghost use Rattle.jffs_c.specs.Opened.{TellsRefusal};
+ghost use Rattle.jffs_c.specs.Opened.{HasOpened, TellsRefusal};
 ghost use Rattle.jffs_c.specs.Seen.{IsSeen, IsUsage, IsRead, IsEntry};
+ghost use Rattle.jffs_c.specs.Seen.{IsUnreached, IsUnread, IsUntold};
+ghost use Rattle.jffs_c.specs.Told.{TellsNext};
 
 use crate::calls::{NextCall, put};
 use crate::code::Code;
-use crate::handle::Handle;
+use crate::handle::{Handle, Slot};
 use crate::looks::{Longest, PathSight, VolumeUsage};
+use crate::loose::Loose;
 use crate::opening::{Refusal, open};
 use crate::texts::{name_of, text_of};
 use std::alloc::Global;
@@ -24,14 +30,16 @@ pub extern "C" fn pg_open(
     alloc: Global,
     medium: &[u8],
     sector_size: u32,
-    volume: &mut *mut u8,
+    volume: &mut Slot,
     refusal: &mut Refusal,
 ) -> u32
-    ensures { TellsRefusal medium.now sector_size refusal.old refusal.new result }
+    ensures opened { result ≡ 0 → HasOpened medium.now sector_size volume.new }
+    ensures refused { result ≢ 0 → volume.new ≡ volume.old }
+    ensures told { TellsRefusal medium.now sector_size refusal.old refusal.new result }
 {
     match open(alloc, medium, sector_size) {
         Ok(opened) => {
-            *volume = Box::into_raw(opened).cast::<u8>();
+            *volume = Slot::of(Loose::of(opened));
             Code::Done.number()
         }
         Err(refused) => {
@@ -135,6 +143,9 @@ pub extern "C" fn pg_erase_dead(volume: &mut Handle) -> u32
 #[unsafe(no_mangle)]
 pub extern "C" fn pg_next_call(volume: &mut Handle, call: &mut NextCall, buffer: &mut [u8]) -> u32
     ensures held_back { HoldsBackLooks volume.old volume.new result }
+    ensures kept { volume.new.value ≡ volume.old.value }
+    ensures told { Answers
+        (TellsNext volume.old.value call.old call.new buffer.old buffer.new) result }
 {
     volume.volume().next_call(call, buffer).number()
 }
@@ -144,6 +155,9 @@ pub extern "C" fn pg_next_call(volume: &mut Handle, call: &mut NextCall, buffer:
 pub extern "C" fn pg_carried_out(volume: &mut Handle) -> u32
     ensures held_back { HoldsBackLooks volume.old volume.new result }
     ensures core { volume.new.value.core ≡ volume.old.value.core }
+    ensures answered { result ≡ number_of (noted volume.old.value.phase) }
+    ensures rest { volume.new.value
+        ≡ record volume.old.value { phase = volume.new.value.phase } }
 {
     volume.volume().carried_out().number()
 }
@@ -153,13 +167,19 @@ pub extern "C" fn pg_carried_out(volume: &mut Handle) -> u32
 pub extern "C" fn pg_call_failed(volume: &mut Handle) -> u32
     ensures held_back { HoldsBackLooks volume.old volume.new result }
     ensures core { volume.new.value.core ≡ volume.old.value.core }
+    ensures answered { result ≡ number_of (noted volume.old.value.phase) }
+    ensures failed { volume.new.value
+        ≡ record volume.old.value { phase = after_failure volume.old.value.phase } }
 {
     volume.volume().call_failed().number()
 }
 
 /// `pg_calls_left`: how many calls of the device are left.
 #[unsafe(no_mangle)]
-pub extern "C" fn pg_calls_left(volume: &mut Handle) -> u32 {
+pub extern "C" fn pg_calls_left(volume: &mut Handle) -> u32
+    ensures kept { volume.new.value ≡ volume.old.value }
+    ensures none { volume.old.value.phase ≢ phase.Carrying → result ≡ 0 }
+{
     volume.volume().calls_left()
 }
 
@@ -167,8 +187,11 @@ pub extern "C" fn pg_calls_left(volume: &mut Handle) -> u32 {
 #[unsafe(no_mangle)]
 pub extern "C" fn pg_look(volume: &mut Handle, path: &[u8], sight: &mut PathSight) -> u32
     ensures held_back { HoldsBackLooks volume.old volume.new result }
+    ensures kept { volume.new.value ≡ volume.old.value }
     ensures seen { result ≡ 0 → IsSeen path.now volume.old.value sight.new }
     ensures refused { result ≢ 0 → sight.new ≡ sight.old }
+    ensures why { looks_blocked volume.old.value.phase ≡ Ok tt → result ≢ 0
+        → Answers (IsUnreached path.now volume.old.value) result }
 {
     hand_out(volume.volume().look(path), sight)
 }
@@ -226,6 +249,8 @@ pub extern "C" fn pg_read(
     ensures read { result ≡ 0
         → IsRead path.now volume.old.value offset count.new buffer.old buffer.new }
     ensures refused { result ≢ 0 → (count.new ≡ count.old) × (buffer.new ≡ buffer.old) }
+    ensures why { looks_blocked volume.old.value.phase ≡ Ok tt → result ≢ 0
+        → Answers (IsUnread path.now volume.old.value) result }
 {
     match volume.volume().read(path, offset, buffer) {
         Ok(found) => {
@@ -251,6 +276,8 @@ pub extern "C" fn pg_entry(
         → IsEntry path.now volume.old.value number sight.new name_len.new name.old name.new }
     ensures refused { result ≢ 0 → (sight.new ≡ sight.old) × (name_len.new ≡ name_len.old)
         × (name.new ≡ name.old) }
+    ensures why { looks_blocked volume.old.value.phase ≡ Ok tt → result ≢ 0
+        → Answers (IsUntold path.now volume.old.value number (length name.old)) result }
 {
     match volume.volume().entry(path, number, name) {
         Ok((found, len)) => {
@@ -286,6 +313,7 @@ fn hand_out<T: Copy>(found: Result<T, Code>, place: &mut T) -> u32
     requires { IfErr found (λ code. code ≢ Code.Done) }
     ensures done { result ≡ 0 → found ≡ Ok place.new }
     ensures told { IfErr found (λ code. result ≡ number_of code) }
+    ensures refused { result ≢ 0 → (code : Code) × (found ≡ Err code) × (result ≡ number_of code) }
     ensures kept { result ≢ 0 → place.new ≡ place.old }
 {
     match found {

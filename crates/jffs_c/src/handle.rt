@@ -1,5 +1,6 @@
 //! A volume as C holds it.
 
+ghost use Rattle.std.specs.Prelude.{Option};
 ghost use Rattle.jffs_c.specs.declared.volume.Volume.{Volume};
 
 use std::marker::Model;
@@ -19,4 +20,18 @@ impl Model for Handle {
 
     // the block of a box with the volume in it
     ghost also_owns = { λ h. box_owns chunk the_row h.at h.value };
+}
+
+/// Where `pg_open` writes the pointer. Before that it leads to nothing.
+#[repr(C)]
+#[derive(Drop)]
+pub struct Slot {
+    pub(crate) at: *mut u8,
+    pub(crate) ghost held: { Option Volume },
+}
+
+impl Model for Slot {
+    ghost use Rattle.jffs_c.specs.Handle.{slot_owns};
+
+    ghost also_owns = { λ s. slot_owns s.at s.held };
 }

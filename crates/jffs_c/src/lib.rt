@@ -4,7 +4,7 @@
 //! out. Each exported function is one of `pumpgrape.h`, and makes one call of
 //! [`Volume`](volume::Volume), which holds the promises: while calls of the device are left a change
 //! is refused, and after a failure everything is. How a volume crosses to C and back stands in
-//! `reach`.
+//! `loose` and `reach`.
 #![tactic(auto)]
 
 mod calls;
@@ -13,7 +13,10 @@ mod code;
 mod exports;
 mod handle;
 mod looks;
+mod loose;
 mod opening;
 mod reach;
+#[cfg(test)]
+mod tests;
 mod texts;
 mod volume;

@@ -1,10 +1,10 @@
 //! Looks at a volume. They change nothing, and see the changes whose calls are left as made.
 
-ghost use Rattle.std.specs.Prelude.{◌≡◌, ◌≢◌, IfOk, IfErr, Err};
+ghost use Rattle.std.specs.Prelude.{◌≡◌, ◌≢◌, IfOk, IfErr, Ok, Err, length};
 ghost use Rattle.jffs_core.specs.Jobs.{wants_cleaning};
 ghost use Rattle.jffs_c.specs.Blocked.{looks_blocked};
 ghost use Rattle.jffs_c.specs.Seen.{LeadsTo, LeadsNowhere, sight_in, IsSeen, IsRead, IsEntry};
-ghost use Rattle.jffs_c.specs.Seen.{IsUsage};
+ghost use Rattle.jffs_c.specs.Seen.{IsUnreached, IsUnread, IsUntold, IsUsage};
 
 use crate::calls::put;
 use crate::code::Code;
@@ -62,6 +62,8 @@ impl Volume {
         ensures seen { IfOk result (λ sight. IsSeen path.now self.now sight) }
         ensures none { result ≡ Err Code.NotFound → LeadsNowhere path.now self.now }
         ensures refused { IfErr result (λ code. code ≢ Code.Done) }
+        ensures why { looks_blocked self.now.phase ≡ Ok tt
+            → IfErr result (IsUnreached path.now self.now) }
     {
         self.may_look()?;
         let inode = self.inode_at(path)?;
@@ -77,6 +79,8 @@ impl Volume {
         ensures none { result ≡ Err Code.NotFound → LeadsNowhere path.now self.now }
         ensures refused { IfErr result
             (λ code. (code ≢ Code.Done) × (buffer.new ≡ buffer.old)) }
+        ensures why { looks_blocked self.now.phase ≡ Ok tt
+            → IfErr result (IsUnread path.now self.now) }
     {
         self.may_look()?;
         let inode = self.inode_at(path)?;
@@ -104,6 +108,8 @@ impl Volume {
         ensures none { result ≡ Err Code.NotFound → LeadsNowhere path.now self.now }
         ensures refused { IfErr result
             (λ code. (code ≢ Code.Done) × (buffer.new ≡ buffer.old)) }
+        ensures why { looks_blocked self.now.phase ≡ Ok tt
+            → IfErr result (IsUntold path.now self.now number (length buffer.old)) }
     {
         self.may_look()?;
         let inode = self.inode_at(path)?;
@@ -181,6 +187,7 @@ impl Volume {
         ensures found { IfOk result (λ inode. LeadsTo path.now self.now inode) }
         ensures none { result ≡ Err Code.NotFound → LeadsNowhere path.now self.now }
         ensures refused { IfErr result (λ code. code ≢ Code.Done) }
+        ensures why { IfErr result (IsUnreached path.now self.now) }
     {
         let path = self.path(path)?;
         match self.core.tree().resolve(&path) {

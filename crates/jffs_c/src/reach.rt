@@ -1,12 +1,14 @@
 //! From the pointer that C holds to the volume, and back.
 //!
-//! The proofs of these two functions are written by hand; no other function follows a pointer.
+//! The proofs of these three functions, and of the one in `loose`, are written by hand; no other
+//! function makes or follows a pointer.
 
-ghost use Rattle.std.specs.Prelude.{◌≡◌};
+ghost use Rattle.std.specs.Prelude.{◌≡◌, Some};
 ghost use types.Logic.{sem};
 ghost use Rattle.jffs_c.specs.Handle.{handle_follows};
 
-use crate::handle::Handle;
+use crate::handle::{Handle, Slot};
+use crate::loose::Loose;
 use crate::volume::Volume;
 use std::alloc::Global;
 
@@ -25,5 +27,17 @@ impl Handle {
         ensures value { result.now ≡ self.old.value }
     {
         unsafe { &mut *self.at.cast::<Volume>() }
+    }
+}
+
+impl Slot {
+    /// What C gets of a volume.
+    pub(crate) fn of(volume: Loose<Volume>) -> Slot
+        ensures { result.held ≡ Some volume.value }
+    {
+        let Loose { at } = volume;
+        Slot {
+            at: at.cast::<u8>(),
+        }
     }
 }

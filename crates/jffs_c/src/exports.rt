@@ -1,6 +1,6 @@
 //! The functions of the header.
 
-ghost use Rattle.std.specs.Prelude.{◌≡◌, ◌≢◌, IfErr, Ok, Err, length};
+ghost use Rattle.std.specs.Prelude.{◌≡◌, ◌≢◌, IfOk, IfErr, Ok, Err, length};
 ghost use Rattle.jffs_tree.specs.declared.wish.Wish.TheVariants as wish;
 ghost use Rattle.jffs_core.specs.Jobs.{wants_cleaning};
 ghost use Rattle.jffs_c.specs.declared.code.Code.{Code};
@@ -200,8 +200,10 @@ pub extern "C" fn pg_look(volume: &mut Handle, path: &[u8], sight: &mut PathSigh
 #[unsafe(no_mangle)]
 pub extern "C" fn pg_longest_of(volume: &mut Handle, longest: &mut Longest) -> u32
     ensures held_back { HoldsBackLooks volume.old volume.new result }
+    ensures kept { volume.new.value ≡ volume.old.value }
     ensures write { result ≡ 0 → longest.new.write ≡ volume.old.value.core.limits.data_max }
     ensures refused { result ≢ 0 → longest.new ≡ longest.old }
+    ensures answered { looks_blocked volume.old.value.phase ≡ Ok tt → result ≡ 0 }
 {
     hand_out(volume.volume().longest(), longest)
 }
@@ -210,8 +212,10 @@ pub extern "C" fn pg_longest_of(volume: &mut Handle, longest: &mut Longest) -> u
 #[unsafe(no_mangle)]
 pub extern "C" fn pg_usage_of(volume: &mut Handle, usage: &mut VolumeUsage) -> u32
     ensures held_back { HoldsBackLooks volume.old volume.new result }
+    ensures kept { volume.new.value ≡ volume.old.value }
     ensures usage { result ≡ 0 → IsUsage volume.old.value usage.new }
     ensures refused { result ≢ 0 → usage.new ≡ usage.old }
+    ensures answered { looks_blocked volume.old.value.phase ≡ Ok tt → result ≡ 0 }
 {
     hand_out(volume.volume().usage(), usage)
 }
@@ -220,8 +224,10 @@ pub extern "C" fn pg_usage_of(volume: &mut Handle, usage: &mut VolumeUsage) -> u
 #[unsafe(no_mangle)]
 pub extern "C" fn pg_wants_cleaning(volume: &mut Handle, wants: &mut bool) -> u32
     ensures held_back { HoldsBackLooks volume.old volume.new result }
+    ensures kept { volume.new.value ≡ volume.old.value }
     ensures wants { result ≡ 0 → wants.new ≡ wants_cleaning volume.old.value.core }
     ensures refused { result ≢ 0 → wants.new ≡ wants.old }
+    ensures answered { looks_blocked volume.old.value.phase ≡ Ok tt → result ≡ 0 }
 {
     hand_out(volume.volume().wants_cleaning(), wants)
 }
@@ -230,8 +236,10 @@ pub extern "C" fn pg_wants_cleaning(volume: &mut Handle, wants: &mut bool) -> u3
 #[unsafe(no_mangle)]
 pub extern "C" fn pg_is_clean(volume: &mut Handle, clean: &mut bool) -> u32
     ensures held_back { HoldsBackLooks volume.old volume.new result }
+    ensures kept { volume.new.value ≡ volume.old.value }
     ensures clean { result ≡ 0 → clean.new ≡ volume.old.value.core.clean }
     ensures refused { result ≢ 0 → clean.new ≡ clean.old }
+    ensures answered { looks_blocked volume.old.value.phase ≡ Ok tt → result ≡ 0 }
 {
     hand_out(volume.volume().clean_log(), clean)
 }
@@ -246,6 +254,7 @@ pub extern "C" fn pg_read(
     count: &mut usize,
 ) -> u32
     ensures held_back { HoldsBackLooks volume.old volume.new result }
+    ensures kept { volume.new.value ≡ volume.old.value }
     ensures read { result ≡ 0
         → IsRead path.now volume.old.value offset count.new buffer.old buffer.new }
     ensures refused { result ≢ 0 → (count.new ≡ count.old) × (buffer.new ≡ buffer.old) }
@@ -272,6 +281,7 @@ pub extern "C" fn pg_entry(
     sight: &mut PathSight,
 ) -> u32
     ensures held_back { HoldsBackLooks volume.old volume.new result }
+    ensures kept { volume.new.value ≡ volume.old.value }
     ensures entry { result ≡ 0
         → IsEntry path.now volume.old.value number sight.new name_len.new name.old name.new }
     ensures refused { result ≢ 0 → (sight.new ≡ sight.old) × (name_len.new ≡ name_len.old)
@@ -312,6 +322,7 @@ pub extern "C" fn pg_text(code: u32, buffer: &mut [u8]) -> usize {
 fn hand_out<T: Copy>(found: Result<T, Code>, place: &mut T) -> u32
     requires { IfErr found (λ code. code ≢ Code.Done) }
     ensures done { result ≡ 0 → found ≡ Ok place.new }
+    ensures given { IfOk found (λ _. result ≡ 0) }
     ensures told { IfErr found (λ code. result ≡ number_of code) }
     ensures refused { result ≢ 0 → (code : Code) × (found ≡ Err code) × (result ≡ number_of code) }
     ensures kept { result ≢ 0 → place.new ≡ place.old }

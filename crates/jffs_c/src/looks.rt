@@ -1,6 +1,6 @@
 //! Looks at a volume. They change nothing, and see the changes whose calls are left as made.
 
-ghost use Rattle.std.specs.Prelude.{◌≡◌, ◌≢◌, IfOk, IfErr, Ok, Err, length};
+ghost use Rattle.std.specs.Prelude.{◌≡◌, ◌≢◌, IfOk, IfErr, IsOk, Ok, Err, length};
 ghost use Rattle.jffs_core.specs.Jobs.{wants_cleaning};
 ghost use Rattle.jffs_c.specs.Blocked.{looks_blocked};
 ghost use Rattle.jffs_c.specs.Seen.{LeadsTo, LeadsNowhere, sight_in, IsSeen, IsRead, IsEntry};
@@ -123,7 +123,7 @@ impl Volume {
         let bytes = name.bytes();
         match put(bytes, buffer) {
             Code::Done => Ok((sight_of(tree, *found), bytes.len())),
-            code => Err(code),
+            _ => Err(Code::BufferShort),
         }
     }
 
@@ -132,6 +132,7 @@ impl Volume {
         ensures held_back { IfErr (looks_blocked self.now.phase) (λ why. result ≡ Err why) }
         ensures write { IfOk result (λ longest. longest.write ≡ self.now.core.limits.data_max) }
         ensures refused { IfErr result (λ code. code ≢ Code.Done) }
+        ensures answered { looks_blocked self.now.phase ≡ Ok tt → IsOk result }
     {
         self.may_look()?;
         Ok(Longest {
@@ -148,6 +149,7 @@ impl Volume {
         ensures held_back { IfErr (looks_blocked self.now.phase) (λ why. result ≡ Err why) }
         ensures usage { IfOk result (λ usage. IsUsage self.now usage) }
         ensures refused { IfErr result (λ code. code ≢ Code.Done) }
+        ensures answered { looks_blocked self.now.phase ≡ Ok tt → IsOk result }
     {
         self.may_look()?;
         let log = self.core.log();
@@ -167,6 +169,7 @@ impl Volume {
         ensures held_back { IfErr (looks_blocked self.now.phase) (λ why. result ≡ Err why) }
         ensures wants { IfOk result (λ wants. wants ≡ wants_cleaning self.now.core) }
         ensures refused { IfErr result (λ code. code ≢ Code.Done) }
+        ensures answered { looks_blocked self.now.phase ≡ Ok tt → IsOk result }
     {
         self.may_look()?;
         Ok(self.core.wants_cleaning())
@@ -177,6 +180,7 @@ impl Volume {
         ensures held_back { IfErr (looks_blocked self.now.phase) (λ why. result ≡ Err why) }
         ensures clean { IfOk result (λ clean. clean ≡ self.now.core.clean) }
         ensures refused { IfErr result (λ code. code ≢ Code.Done) }
+        ensures answered { looks_blocked self.now.phase ≡ Ok tt → IsOk result }
     {
         self.may_look()?;
         Ok(self.core.clean())

@@ -6,6 +6,7 @@
 //! copy is refused for; Memory and Device come where memory is refused, as a run with each
 //! allocation refused in turn shows.
 
+mod handles;
 mod images;
 mod looks;
 mod media;

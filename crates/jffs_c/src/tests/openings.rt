@@ -1,7 +1,9 @@
 //! Media that are opened, and those that are refused.
 
 use crate::code::Code;
-use crate::opening::{Refusal, open};
+use crate::exports::pg_close;
+use crate::opening::Refusal;
+use crate::tests::handles::{NotOpened, open_medium};
 use crate::tests::images::{erased, made, of_no_tree, put, put_made};
 use crate::tests::session::Session;
 use std::alloc::Global;
@@ -10,26 +12,33 @@ use std::test::Fail as TestFail;
 
 /// No volume is opened, for this reason.
 fn is_refused(rt: &impl Abort, alloc: Global, medium: &[u8], size: u32, why: Code, at: [u32; 3]) {
-    let Err(refused) = open(alloc, medium, size) else {
-        assert!(rt; false, "a medium that is refused was opened");
-        return;
-    };
-    assert_eq!(rt; refused.code, why);
-    let Refusal {
-        sector,
-        place,
-        rule,
-    } = refused.refusal;
-    assert_eq!(rt; [sector, place, rule], at);
+    match open_medium(alloc, medium, size) {
+        Ok(volume) => {
+            pg_close(alloc, volume);
+            assert!(rt; false, "a medium that is refused was opened");
+        }
+        Err(NotOpened { code, refusal }) => {
+            assert_eq!(rt; code, why.number());
+            let Refusal {
+                sector,
+                place,
+                rule,
+            } = refusal;
+            assert_eq!(rt; [sector, place, rule], at);
+        }
+    }
 }
 
-/// A medium of so many bytes is erased, and opened or refused.
+/// Whether an erased medium of so many bytes is opened; else its sizes are refused.
 fn is_sized(rt: &impl Abort, alloc: Global, len: usize, size: u32) -> Result<bool, TestFail> {
     let medium = vec![in alloc; 0xff; len]?;
-    match open(alloc, &medium, size) {
-        Ok(_) => Ok(true),
+    match open_medium(alloc, &medium, size) {
+        Ok(volume) => {
+            pg_close(alloc, volume);
+            Ok(true)
+        }
         Err(refused) => {
-            assert!(rt; refused.code == Code::Geometry, "{len} bytes of {size}");
+            assert_eq!(rt; refused.code, Code::Geometry.number());
             Ok(false)
         }
     }

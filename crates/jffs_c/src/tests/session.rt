@@ -1,18 +1,14 @@
 //! A volume as a program in C has it, beside the medium on which its calls are carried out, and
 //! lines of text that say what is asked of it.
 
-ghost use Rattle.std.specs.Prelude.{◌≡◌};
-
 use crate::calls::NextCall;
 use crate::exports::{
     pg_call_failed, pg_calls_left, pg_carried_out, pg_clean, pg_close, pg_create, pg_erase_dead,
     pg_mkdir, pg_name, pg_next_call, pg_remove, pg_rename, pg_truncate, pg_unmount, pg_write,
 };
 use crate::handle::Handle;
-use crate::loose::Loose;
-use crate::opening::open;
+use crate::tests::handles::open_medium;
 use crate::tests::words::Words;
-use crate::volume::Volume;
 use std::alloc::Global;
 use std::process::Abort;
 use std::test::Fail;
@@ -27,24 +23,14 @@ pub(super) struct Session {
     buffer: Vec<u8>,
 }
 
-/// What C has of a volume.
-fn handle_of(volume: Loose<Volume>) -> Handle
-    ensures { result.value ≡ volume.value }
-{
-    let Loose { at } = volume;
-    Handle {
-        at: at.cast::<u8>(),
-    }
-}
-
 impl Session {
     /// Opens a medium.
     pub(super) fn open(alloc: Global, medium: Vec<u8>, sector_size: u32) -> Result<Session, Fail> {
         let buffer = vec![in alloc; 0; sector_size as usize / 4]?;
-        match open(alloc, &medium, sector_size) {
-            Ok(opened) => Ok(Session {
+        match open_medium(alloc, &medium, sector_size) {
+            Ok(volume) => Ok(Session {
                 alloc,
-                volume: handle_of(Loose::of(opened)),
+                volume,
                 medium,
                 sector_size,
                 buffer,

@@ -51,27 +51,33 @@ returns-in-Done-clause-entry c = record {
 }
 
 pub returns-in_default-get-clause-why : goal.returns-in_default-get-clause-why
-returns-in_default-get-clause-why c = λ _. inr (inl (refl, record {
-  inode = c.in_ok-inode.inode;
-  leads = c.in_ok-inode.ensures.found;
-  fewer =
-      fewer c.args.self.now.core.tree c.tree-tree.result.now c.in_ok-inode.inode c.args.number
-      c.in-Ok.names.items c.deref.result.now c.tree-tree.ensures c.deref.ensures.value
-      c.in-Ok.ensures.all (ltb-false c.args.number (length c.deref.result.now) (sym c.in_default-get.ensures.lookup.0));
-}))
+returns-in_default-get-clause-why c = λ _. inr (inl (
+  refl,
+  record {
+    inode = c.in_ok-inode.inode;
+    leads = c.in_ok-inode.ensures.found;
+    fewer =
+        fewer c.args.self.now.core.tree c.tree-tree.result.now c.in_ok-inode.inode c.args.number
+        c.in-Ok.names.items c.deref.result.now c.tree-tree.ensures c.deref.ensures.value
+        c.in-Ok.ensures.all (ltb-false c.args.number (length c.deref.result.now) (sym c.in_default-get.ensures.lookup.0));
+  },
+))
 
 pub returns-clause-why : goal.returns-clause-why
-returns-clause-why c = λ _. inr (inr (refl, record {
-  inode = c.in_ok-inode.inode;
-  leads = c.in_ok-inode.ensures.found;
-  name = c.bytes-bytes.result.now;
-  found = c.in-Some.field-0.now.1;
-  numbered =
-      listed c.args.self.now.core.tree c.tree-tree.result.now c.in_ok-inode.inode c.args.number
-      c.in-Ok.names.items c.deref.result.now c.in-Some.field-0.now c.bytes-bytes.result.now
-      c.tree-tree.ensures c.deref.ensures.value c.in-Ok.ensures.all c.in-Ok.ensures.ordered
-      (slice_get_read c.deref.result.now (length c.deref.result.now) c.args.number c.in-Some.field-0.now refl
-      c.in-Some.ensures.lookup.3.0 (c.in-Some.ensures.lookup.3.1 c.in-Some.field-0.now))
-      c.bytes-bytes.ensures.value;
-  longer = (c.put.ensures.short c.in_default-put.not-Done).2;
-}))
+returns-clause-why c = λ _. inr (inr (
+  refl,
+  record {
+    inode = c.in_ok-inode.inode;
+    leads = c.in_ok-inode.ensures.found;
+    name = c.bytes-bytes.result.now;
+    found = c.in-Some.field-0.now.1;
+    numbered =
+        listed c.args.self.now.core.tree c.tree-tree.result.now c.in_ok-inode.inode c.args.number
+        c.in-Ok.names.items c.deref.result.now c.in-Some.field-0.now c.bytes-bytes.result.now
+        c.tree-tree.ensures c.deref.ensures.value c.in-Ok.ensures.all c.in-Ok.ensures.ordered
+        (slice_get_read c.deref.result.now (length c.deref.result.now) c.args.number c.in-Some.field-0.now refl
+        c.in-Some.ensures.lookup.3.0 (c.in-Some.ensures.lookup.3.1 c.in-Some.field-0.now))
+        c.bytes-bytes.ensures.value;
+    longer = (c.put.ensures.short c.in_default-put.not-Done).2;
+  },
+))

@@ -19,7 +19,6 @@ use crate::calls::{NextCall, put};
 use crate::code::Code;
 use crate::handle::{Handle, Slot};
 use crate::looks::{Longest, PathSight, VolumeUsage};
-use crate::loose::Loose;
 use crate::opening::{Refusal, open};
 use crate::texts::{name_of, text_of};
 use std::alloc::Global;
@@ -39,7 +38,7 @@ pub extern "C" fn pg_open(
 {
     match open(alloc, medium, sector_size) {
         Ok(opened) => {
-            *volume = Slot::of(Loose::of(opened));
+            *volume = Slot::of(opened);
             Code::Done.number()
         }
         Err(refused) => {

@@ -1,7 +1,7 @@
 //! From the pointer that C holds to the volume, and back.
 //!
-//! The proofs of these three functions, and of the one in `loose`, are written by hand; no other
-//! function makes or follows a pointer.
+//! The proofs of `into_box`, `volume` and `of_loose`, and of the function in `loose`, are written by
+//! hand; no other function makes or follows a pointer.
 
 ghost use Rattle.std.specs.Prelude.{◌≡◌, Some};
 ghost use types.Logic.{sem};
@@ -32,7 +32,13 @@ impl Handle {
 
 impl Slot {
     /// What C gets of a volume.
-    pub(crate) fn of(volume: Loose<Volume>) -> Slot
+    pub(crate) fn of(volume: Box<Volume>) -> Slot
+        ensures { result.held ≡ Some volume.value }
+    {
+        Slot::of_loose(Loose::of(volume))
+    }
+
+    fn of_loose(volume: Loose<Volume>) -> Slot
         ensures { result.held ≡ Some volume.value }
     {
         let Loose { at } = volume;

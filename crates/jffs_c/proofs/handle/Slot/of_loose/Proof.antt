@@ -1,4 +1,4 @@
--- `of` hands over what the pointer of the box owns.
+-- `of_loose` hands over what the pointer of the box owns.
 use Rattle.std.proofs.Common.{◌≡◌, ℕ, List, [], ◌∷◌, ◌++◌, Some, refl, sym, subst}
 use mir.Raw.{raw as bare}
 use mir.Val.{Val, vptr, vstruct, vcons, vnil, of_list}
@@ -28,15 +28,15 @@ use Rattle.jffs_c.specs.Heap.{chunk}
 use Rattle.jffs_c.proofs.Handles.{X, word}
 use Rattle.jffs_c.specs.contracts.handle.Slot as slot
 use Rattle.jffs_c.specs.contracts.loose.Loose as loose
-use Rattle.jffs_c.specs.contracts.handle.Slot.of as f
-use Rattle.jffs_c.proofs.handle.Slot.of.Statement.{statement}
-use Rattle.jffs_c.proofs.handle.Slot.of.Code as code
+use Rattle.jffs_c.specs.contracts.handle.Slot.of_loose as f
+use Rattle.jffs_c.proofs.handle.Slot.of_loose.Statement.{statement}
+use Rattle.jffs_c.proofs.handle.Slot.of_loose.Code as code
 
 abbrev L : RattleType
 L = loose.the_row X
 
-pub of_spec : {M : Type 1} → statement M
-of_spec {M} 𝓤 𝓛 𝓜 𝓡 wired =
+pub of_loose_spec : {M : Type 1} → statement M
+of_loose_spec {M} 𝓤 𝓛 𝓜 𝓡 wired =
     let H = 𝓛.H in let 𝓣 = tables 𝓤 H 𝓜 𝓡 𝓡.env in let c = f.clauses 𝓛 𝓜.mem 𝓡.returns in let En = f.ended in
     let hs : Stays En.signature.params En.kept = (stay_dropped (plain (λ _. L)) yes, tt) in
     proved_at 𝓛 En hs c 𝓜 𝓡 (Goes-dropped 𝓛 0 (plain (λ _. L)) yes (λ κs x w. refl), tt) f.Key.name code.function (code.unfolded 𝓤 H 𝓜 𝓡 wired) (λ z are.

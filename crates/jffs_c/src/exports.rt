@@ -157,6 +157,7 @@ pub extern "C" fn pg_carried_out(volume: &mut Handle) -> u32
     ensures answered { result ≡ number_of (noted volume.old.value.phase) }
     ensures rest { volume.new.value
         ≡ record volume.old.value { phase = volume.new.value.phase } }
+    ensures ready { volume.old.value.phase ≡ phase.Ready → volume.new.value ≡ volume.old.value }
 {
     volume.volume().carried_out().number()
 }

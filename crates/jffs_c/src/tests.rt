@@ -3,8 +3,8 @@
 //!
 //! What is expected comes from the pages: the causes from docs/SCRIPT.md, the bytes from
 //! docs/FORMAT.md, the phases from docs/C.md. No function here answers NotNeeded or Stale, which a
-//! copy is refused for; Memory and Device come where memory is refused, as a run with each
-//! allocation refused in turn shows.
+//! copy is refused for. Memory and Device come where memory is refused, as the sweep does at each
+//! allocation of these tests; no run of the gate does.
 
 mod handles;
 mod images;
@@ -170,6 +170,7 @@ fn calls_are_told_one_after_another(rt: HostRuntime) -> Result<(), TestFail> {
         look /f : file 0
         carried : Done
         left : 1
+        leave create /g : CallsLeft
         next 0 : BufferShort program 1 at 7 first 0
         next 1 : Done program 1 at 7 first 0
         carried : Done

@@ -55,55 +55,55 @@ fn each_change_is_made_and_seen(rt: HostRuntime) -> Result<(), TestFail> {
     )
 }
 
+/// What is refused of a change or a look, and what they write then.
+const REFUSALS: &str = "mkdir /d : Done
+create /d/f : Done
+create /f : Done
+create / : RootFixed
+mkdir / : RootFixed
+remove / : RootFixed
+rename / /x : RootFixed
+rename /f / : RootFixed
+create /x/y : NoParent
+mkdir /f/y : NoParent
+rename /f /x/y : NoParent
+create /f : NameTaken
+mkdir /d : NameTaken
+rename /f /d : NameTaken
+remove /x : NotFound
+write /x 0 a : NotFound
+truncate /x 1 : NotFound
+rename /x /y : NotFound
+write /d 0 a : IsDirectory
+truncate /d 1 : IsDirectory
+rename /d /e/d : NoParent
+mkdir /e : Done
+rename /d /e/d : IsDirectory
+remove /d : NotEmpty
+write /f 0 193*a : DataLong
+write /f 1048576 a : FileLong
+truncate /f 1048577 : FileLong
+look /x : NotFound
+look /f/x : NotFound
+read /x 0 1 : 77 [.] NotFound
+read /d 0 1 : 77 [.] IsDirectory
+entry /x 0 20 : [....................] 77 NotFound
+entry /f 0 20 : [....................] 77 Nothing
+entry /d 1 20 : [....................] 77 Nothing
+entry / 0 1 : [d] 1 directory 0
+entry / 0 0 : [] 77 BufferShort
+entry / 2 3 : [f..] 1 file 0
+entry / 3 3 : [...] 77 Nothing
+look /f : file 0
+left : 0
+carried : Nothing
+failed : Nothing
+next 64 : Nothing program 7 at 7 first 0
+look / : directory 0";
+
 #[test]
 fn each_refusal_has_its_code(rt: HostRuntime) -> Result<(), TestFail> {
-    Session::erased(rt.alloc(), 6, 1024)?.played(
-        &rt,
-        "mkdir /d : Done
-        create /d/f : Done
-        create /f : Done
-        create / : RootFixed
-        mkdir / : RootFixed
-        remove / : RootFixed
-        rename / /x : RootFixed
-        rename /f / : RootFixed
-        create /x/y : NoParent
-        mkdir /f/y : NoParent
-        rename /f /x/y : NoParent
-        create /f : NameTaken
-        mkdir /d : NameTaken
-        rename /f /d : NameTaken
-        remove /x : NotFound
-        write /x 0 a : NotFound
-        truncate /x 1 : NotFound
-        rename /x /y : NotFound
-        write /d 0 a : IsDirectory
-        truncate /d 1 : IsDirectory
-        rename /d /e/d : NoParent
-        mkdir /e : Done
-        rename /d /e/d : IsDirectory
-        remove /d : NotEmpty
-        write /f 0 193*a : DataLong
-        write /f 1048576 a : FileLong
-        truncate /f 1048577 : FileLong
-        look /x : NotFound
-        look /f/x : NotFound
-        read /x 0 1 : 77 [.] NotFound
-        read /d 0 1 : 77 [.] IsDirectory
-        entry /x 0 20 : [....................] 77 NotFound
-        entry /f 0 20 : [....................] 77 Nothing
-        entry /d 1 20 : [....................] 77 Nothing
-        entry / 0 1 : [d] 1 directory 0
-        entry / 0 0 : [] 77 BufferShort
-        entry / 2 3 : [f..] 1 file 0
-        entry / 3 3 : [...] 77 Nothing
-        look /f : file 0
-        left : 0
-        carried : Nothing
-        failed : Nothing
-        next 64 : Nothing program 7 at 7 first 0
-        look / : directory 0",
-    )
+    Session::erased(rt.alloc(), 6, 1024)?.played(&rt, REFUSALS)
 }
 
 #[test]
@@ -149,51 +149,51 @@ fn sizes_at_each_limit(rt: HostRuntime) -> Result<(), TestFail> {
     )
 }
 
+/// Calls of the device, told of and taken one by one.
+const TOLD: &str = "leave create /f : Done
+left : 2
+next 63 : BufferShort program 64 at 0 first 0
+next 64 : Done program 64 at 0 first 74
+next 99 : Done program 64 at 0 first 74
+leave create /g : CallsLeft
+leave mkdir /g : CallsLeft
+leave remove /f : CallsLeft
+leave write /f 0 a : CallsLeft
+leave truncate /f 1 : CallsLeft
+leave rename /f /g : CallsLeft
+leave unmount : CallsLeft
+leave clean : CallsLeft
+leave erase-dead : CallsLeft
+look /f : file 0
+carried : Done
+left : 1
+leave create /g : CallsLeft
+next 0 : BufferShort program 1 at 7 first 0
+next 1 : Done program 1 at 7 first 0
+carried : Done
+left : 0
+next 1 : Nothing program 7 at 7 first 0
+carried : Nothing
+create /g : Done
+write /f 0 192*a : Done
+write /f 0 192*b : Done
+write /f 0 192*c : Done
+write /f 0 192*d : Done
+leave clean : Done
+left : 4
+carried : Done
+carried : Done
+next 3 : BufferShort program 4 at 0 first 0
+next 4 : Done program 4 at 0 first 0
+carried : Done
+next 0 : Done erase 1024 at 0 first 0
+look /f : file 192
+carried : Done
+left : 0";
+
 #[test]
 fn calls_are_told_one_after_another(rt: HostRuntime) -> Result<(), TestFail> {
-    Session::erased(rt.alloc(), 6, 1024)?.played(
-        &rt,
-        "leave create /f : Done
-        left : 2
-        next 63 : BufferShort program 64 at 0 first 0
-        next 64 : Done program 64 at 0 first 74
-        next 99 : Done program 64 at 0 first 74
-        leave create /g : CallsLeft
-        leave mkdir /g : CallsLeft
-        leave remove /f : CallsLeft
-        leave write /f 0 a : CallsLeft
-        leave truncate /f 1 : CallsLeft
-        leave rename /f /g : CallsLeft
-        leave unmount : CallsLeft
-        leave clean : CallsLeft
-        leave erase-dead : CallsLeft
-        look /f : file 0
-        carried : Done
-        left : 1
-        leave create /g : CallsLeft
-        next 0 : BufferShort program 1 at 7 first 0
-        next 1 : Done program 1 at 7 first 0
-        carried : Done
-        left : 0
-        next 1 : Nothing program 7 at 7 first 0
-        carried : Nothing
-        create /g : Done
-        write /f 0 192*a : Done
-        write /f 0 192*b : Done
-        write /f 0 192*c : Done
-        write /f 0 192*d : Done
-        leave clean : Done
-        left : 4
-        carried : Done
-        carried : Done
-        next 3 : BufferShort program 4 at 0 first 0
-        next 4 : Done program 4 at 0 first 0
-        carried : Done
-        next 0 : Done erase 1024 at 0 first 0
-        look /f : file 192
-        carried : Done
-        left : 0",
-    )
+    Session::erased(rt.alloc(), 6, 1024)?.played(&rt, TOLD)
 }
 
 #[test]

@@ -1,10 +1,9 @@
 //! Settings: numbers, each in a small file of a volume.
 
-use jffs_core::Core;
 use jffs_flash::{DoomingFlash, FlashNew, MemoryFlash};
-use jffs_line::Request;
 use jffs_log::{ScanFault, ScanWhy};
 use jffs_node::{Path, PathFault, copied};
+use jffs_session::Session;
 use jffs_tree::{Cause, Outcome, Wish};
 use std::alloc::{AllocError, Global};
 use std::io;
@@ -20,7 +19,7 @@ pub enum SettingFault {
     #[error("{0}")]
     Key(#[from] PathFault),
     #[error("{0}")]
-    Refused(#[from] Cause),
+    Refused(Cause),
     #[error("out of memory")]
     Memory,
     #[error("the values can't be printed")]
@@ -31,8 +30,7 @@ pub enum SettingFault {
 #[derive(Drop)]
 pub struct Settings {
     alloc: Global,
-    core: Core<DoomingFlash<MemoryFlash>>,
-    seq: u32,
+    session: Session<DoomingFlash<MemoryFlash>>,
 }
 
 impl Settings {
@@ -41,19 +39,18 @@ impl Settings {
     pub fn open(alloc: Global, flash: MemoryFlash) -> Result<Settings, SettingFault> {
         Ok(Settings {
             alloc,
-            core: Core::open(alloc, DoomingFlash::new(flash))?.core,
-            seq: 0,
+            session: Session::open(alloc, DoomingFlash::new(flash))?.session,
         })
     }
 
     /// The value of a key, if it was set.
     pub fn get(&self, key: &str) -> Result<Option<u32>, SettingFault> {
         let path = Path::parse(self.alloc, key)?;
-        let Some(inode) = self.core.tree().resolve(&path) else {
+        let Some(inode) = self.session.tree().resolve(&path) else {
             return Ok(None);
         };
         let mut bytes = [0; 4];
-        let count = self.core.tree().read(inode, 0, &mut bytes);
+        let count = self.session.tree().read(inode, 0, &mut bytes);
         Ok(if count == 4 {
             Some(u32::from_le_bytes(bytes))
         } else {
@@ -65,7 +62,7 @@ impl Settings {
     /// one: a value is one write, and so one record of the log.
     pub fn set(&mut self, key: &str, value: u32) -> Result<(), SettingFault> {
         let path = Path::parse(self.alloc, key)?;
-        if self.core.tree().resolve(&path).is_none() {
+        if self.session.tree().resolve(&path).is_none() {
             self.ask(Wish::Create(path.clone()?))?;
         }
         let bytes = copied(self.alloc, &value.to_le_bytes())?;
@@ -76,15 +73,9 @@ impl Settings {
         })
     }
 
-    /// Hands a wish to the core.
+    /// Has a wish answered.
     fn ask(&mut self, wish: Wish) -> Result<(), SettingFault> {
-        self.seq = self.seq.saturating_add(1);
-        let request = Request {
-            writer: 1,
-            seq: self.seq,
-            wish,
-        };
-        match self.core.ask(request)? {
+        match self.session.ask(wish) {
             Outcome::Refused(cause) => Err(SettingFault::Refused(cause)),
             _ => Ok(()),
         }
@@ -92,7 +83,7 @@ impl Settings {
 
     /// The flash as it is now, without an unmount: as if the power had failed.
     pub fn crash(self) -> MemoryFlash {
-        self.core.into_flash().into_inner()
+        self.session.into_core().into_flash().into_inner()
     }
 }
 

@@ -34,7 +34,7 @@ use Rattle.jffs_core.proofs.answers.Deciding.{copies_state}
 use Rattle.jffs_core.proofs.scans.Scanning.{opened_finds, failed_found}
 use Rattle.jffs_core.proofs.answers.Refusing.{failed_more}
 use Rattle.jffs_session.specs.Session.{IsMounted, files}
-use Rattle.jffs_session.specs.Told.{Asks, Finds, IsAllowed, GrantsAllowed, IsDone, IsDoneOrNot, is_change, IsTold, LeavesFiles, is_stop}
+use Rattle.jffs_session.specs.Told.{Asks, Finds, IsAllowed, GrantsAllowed, IsDone, IsDoneOrNot, is_change, IsTold, StaysFailed, LeavesFiles, is_refused, is_stop}
 use Rattle.jffs_session.proofs.Histories.{answered, but_capacity, erased_mounted, unerased_mounted, cleaned_mounted, uncleaned_mounted}
 
 -- the contents of a core that works are its files
@@ -261,3 +261,19 @@ module _ (old new : CoreState) (m : IsMounted old) where
       → IfErr r (λ cause. (mounted past : List Node) → Represents mounted past old → Stops mounted past cause old new) → old.failed ≡ false → LeavesFiles old new
   clean_leaves (Ok done) h stopped works = cleaned_leaves m.mounted m.past done old new m.represents (h m.mounted m.past m.represents) works
   clean_leaves (Err cause) h stopped works = uncleaned_leaves m.mounted m.past cause old new m.represents (stopped m.mounted m.past m.represents) works
+
+-- A core that had failed refuses what it is asked.
+asked_failed : (q : Request) (o : Outcome) (old new : CoreState) → IsAsked q o old new → IsMounted old → old.failed ≡ true → StaysFailed o new
+asked_failed q o old new a m failed =
+    let answer = answered q o old new a m.mounted m.past m.represents in
+    let step = answer.step in
+    let is : o ≡ Refused causes.Failed = step.failed_says_so.0 (ap (λ (c : CoreState). c.failed) a.room ∙ failed) in
+    record { refused = ap is_refused is; fails = ap (λ (c : CoreState). c.failed) a.let_go ∙ answer.fails ∙ ap is_failure is }
+
+pub asks_failed : (wish : Wish) (o : Outcome) (old new : CoreState) → Asks wish o old new → IsMounted old → old.failed ≡ true → StaysFailed o new
+asks_failed wish o old new (inl asked) m failed = asked_failed asked.0 o old new asked.2 m failed
+asks_failed wish o old new (inr unasked) m failed = record { refused = ap is_refused unasked.0; fails = ap (λ (c : CoreState). c.failed) unasked.1 ∙ failed }
+
+pub not_both : (o : Outcome) → is_refused o ≡ true → ((cause : Cause) → o ≡ Refused cause → ⊥) → ⊥
+not_both (Refused cause) is not_refused = not_refused cause refl
+not_both _ is not_refused = cc

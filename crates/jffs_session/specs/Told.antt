@@ -62,6 +62,15 @@ pub record IsTold (wish : Wish) (o : Outcome) (old new : CoreState) : Type 0 whe
   pub done : new.failed ≡ false → files new ≡ done_by (files old) wish o
   pub finds : new.failed ≡ true → Finds (IsDoneOrNot wish old) new
 
+abbrev pub is_refused : Outcome → Bool
+is_refused (Refused cause) = true
+is_refused _ = false
+
+-- a core that had failed refuses, and has failed still
+pub record StaysFailed (o : Outcome) (new : CoreState) : Type 0 where
+  pub refused : is_refused o ≡ true
+  pub fails : new.failed ≡ true
+
 -- whether a cause says that the device failed
 abbrev pub is_stop : Cause → Bool
 is_stop cause = is_failure (Refused cause)

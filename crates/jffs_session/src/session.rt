@@ -1,13 +1,14 @@
 //! A mounted volume with one owner.
 
-ghost use Rattle.std.specs.Prelude.{◌≡◌, IfOk, IfErr, OnOk, MatchResult, true, false};
+ghost use Rattle.std.specs.Prelude.{◌≡◌, IfOk, IfErr, IsErr, MatchResult, true, false};
 ghost use Rattle.jffs_flash.specs.Wear.{Wears};
 ghost use Rattle.jffs_log.specs.ScanFound.{IsRefused};
 ghost use Rattle.jffs_log.specs.Heal.{begun_on, healed_device, erase_of, IsUnhealed};
 ghost use Rattle.jffs_tree.specs.declared.wish.Wish.TheVariants as wishes;
 ghost use Rattle.jffs_core.specs.Past.{IsFresh, IsLeftBy};
 ghost use Rattle.jffs_session.specs.Session.{SessionState, IsMounted};
-ghost use Rattle.jffs_session.specs.Told.{Asks, IsTold, Changes, LeavesFiles, is_stop};
+ghost use Rattle.jffs_session.specs.Told.{Asks, IsTold, Changes, LeavesFiles, StaysFailed};
+ghost use Rattle.jffs_session.specs.Told.{is_stop};
 
 use jffs_core::{Cleaned, Core};
 use jffs_flash::Flash;
@@ -126,6 +127,7 @@ impl<F: Flash> Session<F> {
         ensures asked { Asks wish result self.old.core self.new.core }
         ensures told { self.old.core.failed ≡ false
             → IsTold wish result self.old.core self.new.core }
+        ensures failed { self.old.core.failed ≡ true → StaysFailed result self.new.core }
         ensures mounted { IsMounted self.new.core }
         ensures begun { self.new.begun ≡ self.old.begun }
     {
@@ -139,6 +141,8 @@ impl<F: Flash> Session<F> {
     pub fn change(&mut self, wish: Wish) -> Result<(), Cause>
         ensures changes { self.old.core.failed ≡ false
             → Changes wish result self.old.core self.new.core }
+        ensures failed { self.old.core.failed ≡ true
+            → IsErr result × (self.new.core.failed ≡ true) }
         ensures mounted { IsMounted self.new.core }
         ensures begun { self.new.begun ≡ self.old.begun }
     {
@@ -156,6 +160,7 @@ impl<F: Flash> Session<F> {
         ensures asked { Asks wishes.Unmount result self.old.core self.new.core }
         ensures told { self.old.core.failed ≡ false
             → IsTold wishes.Unmount result self.old.core self.new.core }
+        ensures failed { self.old.core.failed ≡ true → StaysFailed result self.new.core }
         ensures begun { self.new.begun ≡ self.old.begun }
     {
         self.unmounts = self.unmounts.saturating_add(1);
@@ -168,6 +173,7 @@ impl<F: Flash> Session<F> {
         ensures asked { Asks wish result self.old.core self.new.core }
         ensures told { self.old.core.failed ≡ false
             → IsTold wish result self.old.core self.new.core }
+        ensures failed { self.old.core.failed ≡ true → StaysFailed result self.new.core }
         ensures mounted { IsMounted self.new.core }
         ensures begun { self.new.begun ≡ self.old.begun }
     {

@@ -6,7 +6,7 @@ use Rattle.jffs_core.specs.CoreState.{CoreState}
 use Rattle.jffs_session.specs.Session.{SessionState}
 use Rattle.jffs_session.specs.Told.{Asks, IsTold}
 use Rattle.jffs_session.proofs.Histories.{asks_mounted}
-use Rattle.jffs_session.proofs.Telling.{asks_told}
+use Rattle.jffs_session.proofs.Telling.{asks_told, asks_failed}
 use Rattle.jffs_session.proofs.session.Session.ask_as.Goals as goal
 
 pub invariant_of-self : goal.invariant_of-self
@@ -30,3 +30,12 @@ pub returns-clause-mounted : goal.returns-clause-mounted
 returns-clause-mounted g c =
     let asked : Asks c.args.wish c.in-Ok.outcome c.self.inside.core c.ask.new.self = inl (record { writer = c.args.writer; seq = c.args.seq; wish = c.args.wish }, refl, c.in-Ok.ensures.asked) in
     asks_mounted c.args.wish c.in-Ok.outcome c.self.inside.core c.ask.new.self asked c.self.invariant
+
+pub returns-in_default-clause-failed : goal.returns-in_default-clause-failed
+returns-in_default-clause-failed g c = λ failed.
+    asks_failed c.args.wish (Refused Memory) c.self.inside.core c.ask.new.self (inr (refl, c.in_default.ensures.unasked)) c.self.invariant (ap (λ (s : SessionState). s.core.failed) c.self.view_is ∙ failed)
+
+pub returns-clause-failed : goal.returns-clause-failed
+returns-clause-failed g c = λ failed.
+    let asked : Asks c.args.wish c.in-Ok.outcome c.self.inside.core c.ask.new.self = inl (record { writer = c.args.writer; seq = c.args.seq; wish = c.args.wish }, refl, c.in-Ok.ensures.asked) in
+    asks_failed c.args.wish c.in-Ok.outcome c.self.inside.core c.ask.new.self asked c.self.invariant (ap (λ (s : SessionState). s.core.failed) c.self.view_is ∙ failed)

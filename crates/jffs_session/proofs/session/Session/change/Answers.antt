@@ -1,7 +1,7 @@
 -- What became of the wish, and of the erase after it.
 use Rattle.std.proofs.Common.{◌∙◌, sym}
 use Rattle.std.proofs.lemmas.Bool.{both_ways}
-use Rattle.jffs_session.proofs.Telling.{granted, still_done, finds_done}
+use Rattle.jffs_session.proofs.Telling.{granted, still_done, finds_done, not_both}
 use Rattle.jffs_session.proofs.session.Session.change.Goals as goal
 
 pub returns-in-Refused-clause-changes : goal.returns-in-Refused-clause-changes
@@ -12,6 +12,7 @@ returns-in-Ok g c = record {
   changes = λ works.
       let done = granted c.args.wish c.ask.result c.args.self.now.core c.ask.new.self.core (c.ask.ensures.told works) c.in_default.not-Refused in
       (c.in-Ok.ensures.fails, still_done c.args.wish c.args.self.now.core c.ask.new.self.core c.erase_dead.new.self.core done (c.in-Ok.ensures.kept done.0) c.in-Ok.ensures.fails);
+  failed = λ failed. let f = c.ask.ensures.failed failed in absurd (not_both c.ask.result f.refused c.in_default.not-Refused);
   mounted = c.erase_dead.ensures.mounted;
   begun = c.erase_dead.ensures.begun ∙ c.ask.ensures.begun;
 }
@@ -25,6 +26,7 @@ returns-in-Err g c = record {
         λ w. absurd (both_ways c.erase_dead.new.self.core.failed w fails.0),
         finds_done c.args.wish c.args.self.now.core c.ask.new.self.core c.erase_dead.new.self.core done (c.in-Err.ensures.kept done.0),
       );
+  failed = λ failed. let f = c.ask.ensures.failed failed in absurd (not_both c.ask.result f.refused c.in_default.not-Refused);
   mounted = c.erase_dead.ensures.mounted;
   begun = c.erase_dead.ensures.begun ∙ c.ask.ensures.begun;
 }

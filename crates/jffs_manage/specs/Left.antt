@@ -1,5 +1,5 @@
 -- What stands on a volume of a put that was stopped.
-use Rattle.std.specs.Prelude.{◌≡◌, ⊤, ℕ, List, ◌==◌, if◌then◌else◌, Option, None, Some, unwrap_or}
+use Rattle.std.specs.Prelude.{◌≡◌, ⊤, ℕ, List, ◌==◌, if◌then◌else◌, Option, Some, unwrap_or}
 use Rattle.std.specs.Option.{option_map, option_map_or}
 use Rattle.jffs_tree.specs.State.{resolve}
 use Rattle.jffs_inodes.specs.Inodes.{Tree}

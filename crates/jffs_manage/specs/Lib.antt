@@ -1,7 +1,6 @@
 pub mod Weights
 pub mod Looks
 pub mod Answers
-pub mod Changes
 pub mod Wanting
 pub mod Manner
 pub mod Left

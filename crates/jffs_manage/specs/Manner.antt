@@ -1,6 +1,7 @@
 -- How a mounted volume answers the requests of `serve`.
-use Rattle.std.specs.Prelude.{◌≡◌, ◌⊎◌, ⊤, Bool, true, false, List, ℕ}
+use Rattle.std.specs.Prelude.{◌≡◌, ◌⊎◌, ⊤, false, List, ℕ, Err}
 use Rattle.jffs_tree.specs.declared.wish.Cause.{Cause}
+use Rattle.jffs_tree.specs.declared.wish.Cause.TheVariants.{Memory}
 use Rattle.jffs_tree.specs.declared.wish.Outcome.{Outcome}
 use Rattle.jffs_tree.specs.declared.wish.Outcome.TheVariants.{Refused}
 use Rattle.jffs_tree.specs.declared.wish.Wish.{Wish}
@@ -9,40 +10,36 @@ use Rattle.jffs_protocol.specs.declared.serving.Failure.TheVariants as failure
 use Rattle.jffs_protocol.specs.declared.serving.Said.{Said}
 use Rattle.jffs_protocol.specs.declared.serving.Said.TheVariants as said
 use Rattle.jffs_core.specs.CoreState.{CoreState}
-use Rattle.jffs_core.specs.Asking.{HasAsked}
+use Rattle.jffs_session.specs.Session.{files}
+use Rattle.jffs_session.specs.Told.{Asks, Changes, IsDone, is_refused}
 use Rattle.jffs_manage.specs.declared.wanting.Wanted.{Wanted}
 use Rattle.jffs_manage.specs.declared.wanting.Wanted.TheVariants as wanted
 use Rattle.jffs_manage.specs.Answers.{query_answer, refused_text}
-use Rattle.jffs_manage.specs.Changes.{IsCarriedOut}
 
-abbrev pub is_refused : Outcome → Bool
-is_refused (Refused cause) = true
-is_refused _ = false
-
--- The core refused a change.
+-- The volume refused a change, and works afterwards: no file is changed.
 pub record IsRefused (wish : Wish) (old new : CoreState) (written : List ℕ) : Type 0 where
   pub cause : Cause
-  pub carried_out : IsCarriedOut wish (Refused cause) old new
+  pub changes : old.failed ≡ false → Changes wish (Err cause) old new
+  pub works : new.failed ≡ false
   pub is : written ≡ refused_text cause
 
--- The core granted a change, and works afterwards.
+-- A change is done, and the volume works afterwards.
 pub record IsGranted (wish : Wish) (old new : CoreState) : Type 0 where
-  pub outcome : Outcome
-  pub carried_out : IsCarriedOut wish outcome old new
-  pub granted : is_refused outcome ≡ false
+  pub worked : old.failed ≡ false
+  pub done : IsDone wish old (files new)
   pub works : new.failed ≡ false
 
 -- The core refused the unmount.
 pub record StaysMounted (old new : CoreState) (written : List ℕ) : Type 0 where
   pub cause : Cause
-  pub asked : HasAsked wish.Unmount (Refused cause) old new
+  pub asked : Asks wish.Unmount (Refused cause) old new
   pub is : written ≡ refused_text cause
 
 -- The core granted the unmount, or nothing was to be unmounted.
 abbrev pub IsUnmounted : CoreState → CoreState → Type 0
 IsUnmounted old new =
     (new ≡ old)
-    ⊎ ((outcome : Outcome) × HasAsked wish.Unmount outcome old new × (is_refused outcome ≡ false))
+    ⊎ ((outcome : Outcome) × Asks wish.Unmount outcome old new × (is_refused outcome ≡ false))
 
 -- When these bytes are the answer: to a look, if the device works, those of the look; and to a
 -- change or an unmount that the core refused, its cause.
@@ -54,26 +51,26 @@ AnswersWith wanted.Unmount old new written = StaysMounted old new written
 AnswersWith wanted.Sync old new written = ⊥
 
 -- When `ok` is: once the core granted a change, or where nothing was to be changed.
-abbrev pub IsDone : Wanted → CoreState → CoreState → Type 0
-IsDone (wanted.Change wish) old new = IsGranted wish old new
-IsDone wanted.Sync old new = new ≡ old
-IsDone _ old new = ⊥
+abbrev pub IsSaidDone : Wanted → CoreState → CoreState → Type 0
+IsSaidDone (wanted.Change wish) old new = IsGranted wish old new
+IsSaidDone wanted.Sync old new = new ≡ old
+IsSaidDone _ old new = ⊥
 
 -- When `ok` is, and no request follows.
 abbrev pub IsOver : Wanted → CoreState → CoreState → Type 0
 IsOver wanted.Unmount old new = IsUnmounted old new
 IsOver _ old new = ⊥
 
--- When it is that memory was lacking: the tree is the same, or the core refused.
+-- When it is that memory was lacking: no file is changed.
 abbrev pub LacksMemory : Wanted → CoreState → CoreState → Type 0
 LacksMemory (wanted.Change wish) old new =
-    (new.tree ≡ old.tree) ⊎ ((cause : Cause) × IsCarriedOut wish (Refused cause) old new)
+    old.failed ≡ false → Changes wish (Err Memory) old new
 LacksMemory _ old new = new ≡ old
 
 -- What may be said to what is wanted, of the volume before and after, with these bytes.
 abbrev pub IsManner : Wanted → CoreState → CoreState → Said → List ℕ → Type 0
 IsManner w old new said.Answered written = AnswersWith w old new written
-IsManner w old new said.Done written = IsDone w old new
+IsManner w old new said.Done written = IsSaidDone w old new
 IsManner w old new said.Last written = IsOver w old new
 IsManner w old new said.Malformed written = new ≡ old
 IsManner w old new said.Memory written = LacksMemory w old new

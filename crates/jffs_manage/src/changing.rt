@@ -1,50 +1,21 @@
 //! What is changed on a volume.
 
-ghost use Rattle.std.specs.Prelude.{IfErr};
 ghost use Rattle.jffs_manage.specs.Left.{IsLeft};
 
+use crate::asking::{ask, refused};
 use crate::fault::VolumeFault;
 use crate::leftover::{Leftover, UNFINISHED, Unseen, left_in};
 use crate::looking::file_at;
-use crate::mounted_volume::MountedVolume;
 use crate::reached::Reached;
 use crate::rooming::{Needed, make_room};
 use crate::walking::below;
 use jffs_flash::Flash;
-use jffs_node::{FILE_MAX, Path, copied};
+use jffs_node::{FILE_MAX, Path};
+use jffs_session::{PutFault, PutPaths, PutStep, Session, are_beside};
 use jffs_tree::{Cause, Wish};
 use std::alloc::Global;
 use std::io;
 use std::io::Read;
-
-/// A new file on its way to its path.
-#[derive(Clone, Copy)]
-struct NewFile<'a> {
-    path: &'a Path,
-    /// Where it stands until it is whole.
-    unfinished: &'a Path,
-    /// How many bytes it has.
-    len: u32,
-    /// Whether a file stands at the path before.
-    replaces: bool,
-}
-
-/// What stopped a put, and what it has left, if anything.
-#[derive(Clone, Copy)]
-struct Stopped {
-    fault: VolumeFault,
-    left: Option<Leftover>,
-}
-
-impl Stopped {
-    /// What the put ends with.
-    fn into_fault(self) -> VolumeFault {
-        match (self.left, self.fault.cause()) {
-            (Some(left), Some(cause)) => VolumeFault::Unfinished { cause, left },
-            _ => self.fault,
-        }
-    }
-}
 
 /// Puts bytes into a file at a path, instead of one that stands there: into a new file beside it,
 /// then the old one is removed and the new one renamed.
@@ -56,7 +27,7 @@ impl Stopped {
 /// by then: that refusal, if nothing is left, and else `Unfinished` with what is left.
 pub(crate) fn put<F: Flash>(
     alloc: Global,
-    volume: &mut MountedVolume<F>,
+    volume: &mut Session<F>,
     text: &str,
     bytes: &[u8],
 ) -> Result<(), VolumeFault> {
@@ -73,82 +44,56 @@ pub(crate) fn put<F: Flash>(
         Err(VolumeFault::Nothing) => false,
         Err(fault) => return Err(fault),
     };
+    let piece = volume.core().limits().data_max.max(1);
     let len = bytes.len() as u32;
-    let piece = volume.write_max().max(1);
     make_room(volume, Needed { bytes: len, piece })?;
-    let file = NewFile {
-        path: &path,
-        unfinished: &unfinished,
-        len,
-        replaces,
-    };
-    match put_new(alloc, volume, file, bytes) {
-        Ok(()) => Ok(()),
-        Err(stopped) => Err(stopped.into_fault()),
-    }
+    put_at(volume, &path, &unfinished, bytes)
 }
 
-/// Writes a new file, removes the one that it replaces, and renames it.
-fn put_new<F: Flash>(
-    alloc: Global,
-    volume: &mut MountedVolume<F>,
-    file: NewFile<'_>,
+/// Puts bytes into a file at a path, by way of the unfinished file beside it.
+fn put_at<F: Flash>(
+    volume: &mut Session<F>,
+    path: &Path,
+    unfinished: &Path,
     bytes: &[u8],
-) -> Result<(), Stopped>
-    ensures left { IfErr result (λ stopped. IsLeft stopped.left volume.new.core.tree
-        file.entry.path.now file.entry.unfinished.now file.entry.len) }
-{
-    if let Err(fault) = write_file(alloc, volume, file.unfinished, bytes) {
-        return Err(stop(volume, file, false, fault));
+) -> Result<(), VolumeFault> {
+    if !are_beside(path, unfinished) {
+        return Err(VolumeFault::Reserved);
     }
-    if file.replaces {
-        if let Err(fault) = remove(volume, file.path) {
-            return Err(stop(volume, file, false, fault));
+    match volume.put(PutPaths { path, unfinished }, bytes) {
+        Ok(()) => Ok(()),
+        Err(fault) => {
+            let len = u32::try_from(bytes.len()).unwrap_or(u32::MAX);
+            let left = left_of_put(volume, path, unfinished, len, fault.step);
+            Err(put_fault(fault, left))
         }
     }
-    match rename(volume, file.unfinished, file.path) {
-        Ok(()) => Ok(()),
-        Err(fault) => Err(stop(volume, file, true, fault)),
-    }
 }
 
-/// Removes what there is of a new file, unless the one that it replaces is gone by then: what
-/// stopped it, and what it leaves. `renamed` says whether it was stopped while it was renamed.
-fn stop<F: Flash>(
-    volume: &mut MountedVolume<F>,
-    file: NewFile<'_>,
-    renamed: bool,
-    fault: VolumeFault,
-) -> Stopped
-    ensures left { IsLeft result.left volume.new.core.tree file.entry.path.now
-        file.entry.unfinished.now file.entry.len }
+/// What a put has left that was stopped at this step.
+fn left_of_put<F: Flash>(
+    volume: &Session<F>,
+    path: &Path,
+    unfinished: &Path,
+    len: u32,
+    step: PutStep,
+) -> Option<Leftover>
+    ensures { IsLeft result volume.now.core.tree path.now unfinished.now len }
 {
-    let stays = file.replaces && volume.tree().resolve(file.path).is_none();
-    if !stays && volume.tree().resolve(file.unfinished).is_some() {
-        let _ = remove(volume, file.unfinished);
+    if volume.core().failed() {
+        let renamed = step == PutStep::Rename;
+        return Some(Leftover::Unseen(Unseen { len, renamed }));
     }
-    let len = file.len;
-    let left = if volume.core().failed() {
-        Some(Leftover::Unseen(Unseen { len, renamed }))
-    } else {
-        left_in(volume.tree(), file.path, file.unfinished, len)
-    };
-    Stopped { fault, left }
+    left_in(volume.tree(), path, unfinished, len)
 }
 
-fn remove<F: Flash>(volume: &mut MountedVolume<F>, path: &Path) -> Result<(), VolumeFault> {
-    volume.ask(Wish::Remove(path.clone()?))
-}
-
-fn rename<F: Flash>(
-    volume: &mut MountedVolume<F>,
-    from: &Path,
-    to: &Path,
-) -> Result<(), VolumeFault> {
-    volume.ask(Wish::Rename {
-        from: from.clone()?,
-        to: to.clone()?,
-    })
+/// What a put ends with that was stopped and has left this.
+fn put_fault(fault: PutFault, left: Option<Leftover>) -> VolumeFault {
+    let cause = fault.cause;
+    match left {
+        Some(left) => VolumeFault::Unfinished { cause, left },
+        None => refused(cause, fault.step == PutStep::Remove),
+    }
 }
 
 /// The path of the unfinished file in the directory of a path. `Path` where the text is no path,
@@ -165,27 +110,6 @@ pub(crate) fn unfinished_path(alloc: Global, text: &str) -> Result<Path, VolumeF
     Ok(Path::parse(alloc, beside.as_str())?)
 }
 
-/// Makes a file with these bytes, in as many writes as it takes.
-fn write_file<F: Flash>(
-    alloc: Global,
-    volume: &mut MountedVolume<F>,
-    path: &Path,
-    bytes: &[u8],
-) -> Result<(), VolumeFault> {
-    volume.ask(Wish::Create(path.clone()?))?;
-    let most = volume.write_max().max(1) as usize;
-    let mut offset = 0u32;
-    for part in bytes.chunks(most) {
-        volume.ask(Wish::Write {
-            path: path.clone()?,
-            offset,
-            bytes: copied(alloc, part)?,
-        })?;
-        offset = offset.saturating_add(part.len() as u32);
-    }
-    Ok(())
-}
-
 /// Removes what stands at a path, and all below it, the deepest first.
 ///
 /// `Path` where the text is no path, `Refused` for RootFixed, NotFound, `Memory`: nothing is
@@ -193,7 +117,7 @@ fn write_file<F: Flash>(
 /// `reached` is left with the path at which it stopped.
 pub(crate) fn remove_all<F: Flash>(
     alloc: Global,
-    volume: &mut MountedVolume<F>,
+    volume: &mut Session<F>,
     text: &str,
     reached: &mut Reached,
 ) -> Result<(), VolumeFault> {
@@ -207,7 +131,10 @@ pub(crate) fn remove_all<F: Flash>(
     let all = below(alloc, volume.tree(), text, inode)?;
     for found in all.iter().rev() {
         reached.set(found.path.as_str())?;
-        volume.ask(Wish::Remove(Path::parse(alloc, found.path.as_str())?))?;
+        ask(
+            volume,
+            Wish::Remove(Path::parse(alloc, found.path.as_str())?),
+        )?;
     }
     reached.clear();
     Ok(())

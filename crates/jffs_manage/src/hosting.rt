@@ -1,14 +1,15 @@
 //! Directories of the host: all of a volume into one, and all of one into a volume.
 
+use crate::asking::ask;
 use crate::changing::{put, read_some};
 use crate::fault::VolumeFault;
 use crate::leftover::UNFINISHED;
 use crate::looking::show;
-use crate::mounted_volume::MountedVolume;
 use crate::reached::Reached;
 use crate::walking::{Entry, below};
 use jffs_flash::Flash;
 use jffs_node::{Path, ROOT_INODE};
+use jffs_session::Session;
 use jffs_tree::{Tree, Wish};
 use std::alloc::Global;
 use std::fs::{File, OpenOptions};
@@ -97,7 +98,7 @@ fn save_file<Rt: Files>(rt: &Rt, tree: &Tree, inode: u32, path: &str) -> Result<
 /// what was put stays. `reached` is left with the path at which it stopped, or empty.
 pub(crate) fn load<Rt: Files + AllocGlobal + Clone + Drop, F: Flash>(
     rt: &Rt,
-    volume: &mut MountedVolume<F>,
+    volume: &mut Session<F>,
     directory: &str,
     reached: &mut Reached,
 ) -> Result<(), VolumeFault> {
@@ -119,13 +120,13 @@ pub(crate) fn load<Rt: Files + AllocGlobal + Clone + Drop, F: Flash>(
 /// Makes a directory on the volume, unless one stands there.
 fn keep_directory<F: Flash>(
     alloc: Global,
-    volume: &mut MountedVolume<F>,
+    volume: &mut Session<F>,
     text: &str,
 ) -> Result<(), VolumeFault> {
     let path = Path::parse(alloc, text)?;
     match volume.tree().resolve(&path) {
         Some(inode) if volume.tree().is_directory(inode) => Ok(()),
-        _ => volume.ask(Wish::MakeDir(path)),
+        _ => ask(volume, Wish::MakeDir(path)),
     }
 }
 

@@ -1,18 +1,18 @@
 //! What the program `jffs_volume` does: it looks into a volume in a file, and changes what is
 //! there.
 //!
-//! It stands on `jffs_core` for the volume and on `jffs_file` for the file. [`run_volume`] is the
+//! It stands on `jffs_session` for the volume and on `jffs_file` for the file. [`run_volume`] is the
 //! program; `arguments` reads its words, `mounting` opens the file, `looking`, `mapping` and
-//! `drawing` write what is there, `changing` does what is asked of a `mounted_volume`, which ends
-//! with an unmount, `rooming` sees that a put has room before it begins, and `leftover` what one
-//! that was stopped has left, `hosting` carries whole
-//! trees from and to a directory of the host, `salvaging` saves what is left of a volume that is
-//! refused, and `serving` answers a client's requests, which `wanting` reads and `answering` looks
+//! `drawing` write what is there, `asking` and `changing` have it changed, `rooming` sees that a put
+//! has room before it begins, and `leftover` what one that was stopped has left, `hosting` carries
+//! whole trees from and to a directory of the host, `salvaging` saves what is left of a volume that
+//! is refused, and `serving` answers a client's requests, which `wanting` reads and `answering` looks
 //! up.
 #![tactic(auto)]
 
 mod answering;
 mod arguments;
+mod asking;
 mod changing;
 mod drawing;
 mod fault;
@@ -21,7 +21,6 @@ mod hosting;
 mod leftover;
 mod looking;
 mod mapping;
-mod mounted_volume;
 mod mounting;
 mod program;
 mod reached;

@@ -7,6 +7,7 @@ use jffs_core::{Core, Opened};
 use jffs_file::{FileFlash, FileStore, open_image};
 use jffs_flash::{MemoryFlash, SECTOR_SIZES, VOLUME_MAX, is_geometry};
 use jffs_log::ScanWhy;
+use jffs_session::Session;
 use jffs_tree::Cause;
 use std::alloc::Global;
 use std::fs::{File, TryLockError};
@@ -14,7 +15,7 @@ use std::io::Read;
 use std::rt::Files;
 
 /// A mounted volume in a file.
-pub(crate) type FileCore<Rt> = Core<FileFlash<FileStore<<Rt as Files>::File>>>;
+pub(crate) type FileSession<Rt> = Session<FileFlash<FileStore<<Rt as Files>::File>>>;
 
 /// Mounts the volume in a file, to change it, of sectors of this size, in bytes; where none is
 /// given, of the one size that makes a volume of the file. An erase that was cut off is ended.
@@ -27,15 +28,15 @@ pub(crate) fn mount<Rt: Files + AllocGlobal>(
     rt: &Rt,
     file: &str,
     sector_size: Option<u32>,
-) -> Result<FileCore<Rt>, VolumeFault> {
+) -> Result<FileSession<Rt>, VolumeFault> {
     let image = open_image(rt, file)?;
     let size = match sector_size {
         Some(size) => size,
         None => find_volume(rt.alloc(), image.bytes())?.0,
     };
     let sectors = sectors_of(image.bytes().len(), size)?;
-    match Core::open(rt.alloc(), image.into_flash(sectors, size)?) {
-        Ok(opened) => Ok(opened.core),
+    match Session::open(rt.alloc(), image.into_flash(sectors, size)?) {
+        Ok(opened) => Ok(opened.session),
         Err(fault) => Err(refused(fault.why)),
     }
 }

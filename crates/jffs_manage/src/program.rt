@@ -4,6 +4,7 @@ use crate::answering::PATH_TEXT_MAX;
 use crate::arguments::{
     CallFault, Task, VolumeCall, VolumeChange, VolumeLook, VolumeWork, call_of,
 };
+use crate::asking::{ask, close};
 use crate::changing::{put, read_all, remove_all, unfinished_path};
 use crate::drawing::{draw, draw_svg};
 use crate::fault::{BROKEN, DONE, MISUSED, VolumeFault};
@@ -12,7 +13,6 @@ use crate::hosting::{load, save};
 use crate::leftover::{Leftover, Unseen};
 use crate::looking::{check, file_at, list, show, write_usage};
 use crate::mapping::{Map, map_of};
-use crate::mounted_volume::MountedVolume;
 use crate::mounting::{lock, mount, mount_copy};
 use crate::reached::Reached;
 use crate::salvaging::save_damaged;
@@ -22,6 +22,7 @@ use jffs_file::create_image;
 use jffs_flash::{Flash, MAX_SECTORS, MIN_SECTORS, is_geometry};
 use jffs_node::Path;
 use jffs_protocol::{Room, serve};
+use jffs_session::Session;
 use jffs_text::Shown;
 use jffs_tree::{Cause, Tree, Wish};
 use std::alloc::Global;
@@ -207,9 +208,9 @@ fn change<Rt: Files<File = File> + AllocGlobal + Clone + Drop, R: Read, E: Write
     reached: &mut Reached,
 ) -> Result<(), VolumeFault> {
     let _locked = lock(rt, work.file)?;
-    let mut volume = MountedVolume::new(mount(rt, work.file, work.sector_size)?);
+    let mut volume = mount(rt, work.file, work.sector_size)?;
     let changed = change_in(rt, &mut volume, asked, input, reached);
-    let (flash, closed) = volume.close();
+    let (flash, closed) = close(volume);
     if let Err(fault) = changed {
         return Err(looked_after(rt, work, flash.sector_size(), reached, fault));
     }
@@ -295,8 +296,8 @@ fn serve_volume<Rt: Files<File = File> + AllocGlobal, R: Read, W: Write, E: Writ
     errors: &mut E,
 ) -> Result<(), VolumeFault> {
     let _locked = lock(rt, work.file)?;
-    let volume = MountedVolume::new(mount(rt, work.file, work.sector_size)?);
-    let data_max = volume.write_max();
+    let volume = mount(rt, work.file, work.sector_size)?;
+    let data_max = volume.core().limits().data_max;
     let mut served = ServedVolume::new(rt.alloc(), volume);
     let mut room = Room::new(rt.alloc(), PATH_TEXT_MAX, data_max)?;
     let streams = serve(&mut served, &mut room, input, out);
@@ -304,7 +305,7 @@ fn serve_volume<Rt: Files<File = File> + AllocGlobal, R: Read, W: Write, E: Writ
     if let ServeEnd::Unmounted = end {
         return Ok(streams?);
     }
-    let (flash, closed) = volume.close();
+    let (flash, closed) = close(volume);
     if let ServeEnd::Failed(fault) = end {
         return Err(fault);
     }
@@ -317,7 +318,7 @@ fn serve_volume<Rt: Files<File = File> + AllocGlobal, R: Read, W: Write, E: Writ
 /// Asks for what a command says.
 fn change_in<Rt: Files + AllocGlobal + Clone + Drop, F: Flash, R: Read>(
     rt: &Rt,
-    volume: &mut MountedVolume<F>,
+    volume: &mut Session<F>,
     asked: VolumeChange<'_>,
     input: &mut R,
     reached: &mut Reached,
@@ -325,12 +326,15 @@ fn change_in<Rt: Files + AllocGlobal + Clone + Drop, F: Flash, R: Read>(
     let alloc = rt.alloc();
     match asked {
         VolumeChange::Put(path) => put(alloc, volume, path, &read_all(alloc, input)?),
-        VolumeChange::MakeDir(path) => volume.ask(Wish::MakeDir(Path::parse(alloc, path)?)),
-        VolumeChange::Move { from, to } => volume.ask(Wish::Rename {
-            from: Path::parse(alloc, from)?,
-            to: Path::parse(alloc, to)?,
-        }),
-        VolumeChange::Remove(path) => volume.ask(Wish::Remove(Path::parse(alloc, path)?)),
+        VolumeChange::MakeDir(path) => ask(volume, Wish::MakeDir(Path::parse(alloc, path)?)),
+        VolumeChange::Move { from, to } => ask(
+            volume,
+            Wish::Rename {
+                from: Path::parse(alloc, from)?,
+                to: Path::parse(alloc, to)?,
+            },
+        ),
+        VolumeChange::Remove(path) => ask(volume, Wish::Remove(Path::parse(alloc, path)?)),
         VolumeChange::RemoveAll(path) => remove_all(alloc, volume, path, reached),
         VolumeChange::Load(directory) => load(rt, volume, directory, reached),
     }

@@ -1,10 +1,10 @@
 //! Whether a put has room, before it begins.
 
 use crate::fault::VolumeFault;
-use crate::mounted_volume::MountedVolume;
 use jffs_core::{Cleaned, Core};
 use jffs_flash::Flash;
 use jffs_node::HEADER_LEN;
+use jffs_session::Session;
 use jffs_tree::Cause;
 
 /// The length of a record without data, in bytes.
@@ -88,7 +88,7 @@ impl Places {
 /// `NoSpace` where they have none even then: no file is changed, and nothing at all where they take
 /// more than the sectors that may hold records. `Refused` where cleaning is, for another cause.
 pub(crate) fn make_room<F: Flash>(
-    volume: &mut MountedVolume<F>,
+    volume: &mut Session<F>,
     needed: Needed,
 ) -> Result<(), VolumeFault> {
     if most(volume.core()) < needed.weight() {
@@ -117,7 +117,7 @@ fn most<F: Flash>(core: &Core<F>) -> u64 {
 
 /// Whether all records of a put surely have room now: the live records stay below the weight up to
 /// which each request has, or none of them needs a cleaning.
-fn has_room<F: Flash>(volume: &MountedVolume<F>, needed: Needed) -> bool {
+fn has_room<F: Flash>(volume: &Session<F>, needed: Needed) -> bool {
     let core = volume.core();
     let weight = core
         .log()

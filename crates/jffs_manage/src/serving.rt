@@ -1,16 +1,17 @@
 //! A mounted volume that answers the requests of a client.
 
-ghost use Rattle.std.specs.Prelude.{◌≡◌, []};
+ghost use Rattle.std.specs.Prelude.{◌≡◌, [], MatchOption};
+ghost use Rattle.jffs_session.specs.Told.{Asks};
 ghost use Rattle.jffs_manage.specs.Wanting.{wanted_of};
 ghost use Rattle.jffs_manage.specs.Manner.{IsManner, IsSynced, SaysRefused, SaysRefusedOrFails};
 
 use crate::answering::{answer_query, write_refusal};
 use crate::fault::VolumeFault;
-use crate::mounted_volume::MountedVolume;
 use crate::wanting::{Query, Wanted, wants};
 use jffs_file::{FileFlash, FileStore, StoreFault};
 use jffs_flash::Flash;
 use jffs_protocol::{Ask, Failure, Said, Server};
+use jffs_session::Session;
 use jffs_tree::{Cause, Outcome, Wish};
 use std::alloc::Global;
 use std::fs::OpenFile;
@@ -32,7 +33,7 @@ impl<X: Write + Seek + OpenFile + Drop> SyncFlash for FileFlash<FileStore<X>> {
 #[derive(Drop)]
 pub(crate) struct ServedVolume<F: Flash> {
     alloc: Global,
-    volume: MountedVolume<F>,
+    volume: Session<F>,
     end: ServeEnd,
 }
 
@@ -49,7 +50,7 @@ pub(crate) enum ServeEnd {
 
 impl<F: Flash> ServedVolume<F> {
     /// A mounted volume, of which nothing was asked yet.
-    pub fn new(alloc: Global, volume: MountedVolume<F>) -> ServedVolume<F> {
+    pub fn new(alloc: Global, volume: Session<F>) -> ServedVolume<F> {
         ServedVolume {
             alloc,
             volume,
@@ -58,7 +59,7 @@ impl<F: Flash> ServedVolume<F> {
     }
 
     /// The volume, and how it stands.
-    pub fn into_parts(self) -> (MountedVolume<F>, ServeEnd) {
+    pub fn into_parts(self) -> (Session<F>, ServeEnd) {
         let ServedVolume {
             alloc: _,
             volume,
@@ -114,16 +115,13 @@ impl<F: Flash + SyncFlash> ServedVolume<F> {
         ensures { IsManner (Wanted.Change wish) self.old.volume.core self.new.volume.core result
             out.new.items }
     {
-        let Ok(outcome) = self.volume.carry_out(wish) else {
-            return Said::Memory;
-        };
-        if self.volume.core().failed() {
-            return self.fail(Failure::Device, VolumeFault::Refused(Cause::Device));
-        }
-        match outcome {
-            Outcome::Refused(Cause::Memory) => Said::Memory,
-            Outcome::Refused(cause) => refuse(cause, out),
-            _ => self.sync(Said::Done),
+        match self.volume.change(wish) {
+            Ok(()) => self.sync(Said::Done),
+            Err(_) if self.volume.core().failed() => {
+                self.fail(Failure::Device, VolumeFault::Refused(Cause::Device))
+            }
+            Err(Cause::Memory) => Said::Memory,
+            Err(cause) => refuse(cause, out),
         }
     }
 
@@ -145,9 +143,7 @@ impl<F: Flash + SyncFlash> ServedVolume<F> {
         ensures { IsManner Wanted.Unmount self.old.volume.core self.new.volume.core result
             out.new.items }
     {
-        let Ok(answered) = self.volume.unmount() else {
-            return self.fail(Failure::Memory, VolumeFault::Memory);
-        };
+        let answered = self.ask_unmount();
         if self.volume.core().failed() {
             return self.fail(Failure::Device, VolumeFault::Refused(Cause::Device));
         }
@@ -158,6 +154,18 @@ impl<F: Flash + SyncFlash> ServedVolume<F> {
             Some(Outcome::Refused(cause)) => self.stay(cause, out),
             _ => self.leave(),
         }
+    }
+
+    /// Has the control ask for the unmount; `None` where no node was appended since the mount, and
+    /// nothing was asked.
+    fn ask_unmount(&mut self) -> Option<Outcome>
+        ensures { MatchOption result (self.new.volume.core ≡ self.old.volume.core)
+            (λ outcome. Asks Wish.Unmount outcome self.old.volume.core self.new.volume.core) }
+    {
+        if !self.volume.is_changed() {
+            return None;
+        }
+        Some(self.volume.unmount())
     }
 
     /// Says that the unmount was refused.

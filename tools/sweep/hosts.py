@@ -10,6 +10,8 @@ import subprocess
 from second_reader import contents, left
 
 SIZES = (8, 2048)
+# So many bytes may be a volume of smaller sectors too.
+SIZED = ["--sector-size", str(SIZES[1])]
 OLD, NEW = b"old content of the file", bytes(range(256)) * 5
 TWO_AT_ONCE = 100
 ERASED = b"\xff" * 6144
@@ -171,7 +173,7 @@ class Puts:
         self.image = self.folder / "v"
         call([program, "format", "v", *map(str, SIZES)], self.folder)
         for path in ["/other", "/f"] if replaces else ["/other"]:
-            call([program, "put", "v", path], self.folder, OLD)
+            call([program, "put", *SIZED, "v", path], self.folder, OLD)
         self.given, self.what = self.image.read_bytes(), "a put over a file" if replaces else "a put"
         self.before = contents(left(self.image, *SIZES)[1])
         self.done = {**self.before, "/f": NEW}
@@ -189,7 +191,7 @@ class Puts:
         self.image.write_bytes(self.given)
         counted = self.folder / "count"
         env = failing(library, variable, at, on, counted)
-        ended = call([self.program, "put", "v", "/f"], self.folder, NEW, env=env)
+        ended = call([self.program, "put", *SIZED, "v", "/f"], self.folder, NEW, env=env)
         which = f"{self.what}, {variable} {at}{' and all later' if on else ''}"
         self.runner.tally.add(which, self.wrong(ended, at))
         return int(counted.read_text())

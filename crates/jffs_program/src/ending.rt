@@ -2,7 +2,7 @@
 //! and the status.
 
 use crate::reading::{InputFault, Unread};
-use jffs_file::FileFault;
+use jffs_file::{FileFault, StoreFault};
 use jffs_flash::FlashNew;
 use jffs_log::ScanWhy;
 use jffs_run::RunWhy;
@@ -68,6 +68,9 @@ pub(crate) enum ProgramWhy {
     Geometry,
     #[error("Scan")]
     Scan,
+    /// What was written didn't reach the medium of the volume's file.
+    #[error("Medium")]
+    Medium,
     /// The volume can't be mounted, for this reason.
     #[error("Mount")]
     Mount(ScanWhy),
@@ -84,6 +87,7 @@ impl ProgramWhy {
             ProgramWhy::Memory | ProgramWhy::Run(RunWhy::Memory) => "out of memory",
             ProgramWhy::Geometry => "a volume may not have so many sectors of this size",
             ProgramWhy::Scan => "what the run left on the flash is no volume, or can't be read",
+            ProgramWhy::Medium => "the volume's file can't be brought to its medium",
             ProgramWhy::Mount(_) | ProgramWhy::Run(RunWhy::Mount) => "the volume can't be mounted",
             ProgramWhy::Run(RunWhy::Line) => "the line of requests can't be made",
             ProgramWhy::Run(RunWhy::Index) => "the index that readers look into can't be made",
@@ -177,6 +181,12 @@ impl From<io::Error> for ProgramWhy {
             ErrorKind::OutOfMemory => ProgramWhy::Memory,
             _ => ProgramWhy::Write,
         }
+    }
+}
+
+impl From<StoreFault> for ProgramWhy {
+    fn from(_: StoreFault) -> ProgramWhy {
+        ProgramWhy::Medium
     }
 }
 

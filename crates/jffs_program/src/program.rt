@@ -4,7 +4,7 @@ use crate::ending::{Fault, ProgramWhy, status_of};
 use crate::printing::{print_answers, print_ending, print_readers};
 use crate::reading::{read_file, read_script};
 use jffs_core::Answer;
-use jffs_file::{FileFault, FileFlash, FileStore, create_image, open_image};
+use jffs_file::{FileFault, FileFlash, FileStore, SyncFlash, create_image, open_image};
 use jffs_flash::{Flash, MemoryFlash};
 use jffs_log::{Healed, Mounted, ScanFault, heal, scan};
 use jffs_run::{NoGate, ReaderEnd, Run, RunFault, RunWhy, run_threads};
@@ -201,9 +201,9 @@ struct RunReport {
     clean: bool,
 }
 
-/// Runs a script on a device, which may hold a volume already, and writes what became of it.
-/// All is run and scanned before the first line is written.
-fn run_on<Rt: AllocGlobal + Threads + Wait + Sync, F: Flash + Send + Drop, W: Write>(
+/// Runs a script on a device, which may hold a volume already, and writes what became of it. All is
+/// run, scanned and brought to the device's medium before the first line is written.
+fn run_on<Rt: AllocGlobal + Threads + Wait + Sync, F: Flash + SyncFlash + Send + Drop, W: Write>(
     rt: &Rt,
     script: &Script<'_>,
     flash: F,
@@ -213,8 +213,8 @@ fn run_on<Rt: AllocGlobal + Threads + Wait + Sync, F: Flash + Send + Drop, W: Wr
     print_report(rt.alloc(), &report, out)
 }
 
-/// Runs a script on a device, and scans the device then.
-fn run_and_scan<Rt: AllocGlobal + Threads + Wait + Sync, F: Flash + Send + Drop>(
+/// Runs a script on a device, and then scans the device and syncs it.
+fn run_and_scan<Rt: AllocGlobal + Threads + Wait + Sync, F: Flash + SyncFlash + Send + Drop>(
     rt: &Rt,
     script: &Script<'_>,
     flash: F,
@@ -229,11 +229,12 @@ fn run_and_scan<Rt: AllocGlobal + Threads + Wait + Sync, F: Flash + Send + Drop>
     } = run_apart(rt, script, flash)?;
     let answers = moved_apart(answers)?;
     let Mounted {
-        log: _,
+        log,
         tree,
         clean,
         limits: _,
     } = scan(rt.alloc(), flash).map_err(scan_fault)?;
+    log.flash().sync_flash()?;
     Ok(RunReport {
         answers,
         readers,

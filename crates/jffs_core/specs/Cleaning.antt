@@ -3,10 +3,12 @@ use Rattle.std.specs.Prelude.{◌≡◌, ◌⊎◌, ℕ, zero, suc, ◌+◌, ◌
 use Rattle.std.specs.Prelude.{◌++◌, length, take, if◌then◌else◌, Some}
 use Rattle.std.specs.List.{AllByRecursion}
 use Rattle.jffs_node.specs.declared.node.Node.{Node}
-use Rattle.jffs_node.specs.Record.{record_len}
+use Rattle.jffs_node.specs.Record.{len_of_data}
 use Rattle.jffs_tree.specs.declared.wish.Cause.{Cause}
 use Rattle.jffs_tree.specs.declared.wish.Cause.TheVariants.{VersionsSpent, Memory, NoSpace}
 use Rattle.jffs_tree.specs.declared.wish.Cause.TheVariants.{Device, Failed}
+use Rattle.jffs_tree.specs.declared.cleaning.CopySource.{CopySource}
+use Rattle.jffs_tree.specs.Decide.{source_of}
 use Rattle.jffs_tree.specs.Origin.{is_live}
 use Rattle.jffs_tree.specs.Laws.{NoneLive}
 use Rattle.jffs_log.specs.LogIndex.{layout_in, lives_in, oldest_in}
@@ -47,13 +49,20 @@ pub record CopyStopped (cause : Cause) (past : List Node) (source : Node) (old n
   pub no_room : cause ≡ NoSpace → copy_has_room source (gc_state past old) ≡ false
   pub version : cause ≡ Memory → HasVersionLeft past
 
--- A core that works represents a history with this record, which is short enough for its copy.
-pub record IsSource (source : Node) (c : CoreState) : Type 0 where
+-- The core represents a history with this record, of which cleaning knows that.
+pub record IsSourceIn (past : List Node) (n : Node) (source : CopySource) (c : CoreState) : Type 0
+  where
+    pub known : RepresentsWorking past c
+    pub among : Among n past
+    pub is : source ≡ source_of n
+
+-- So it is of a core that works, and the record is short enough for its copy.
+pub record IsSource (source : CopySource) (c : CoreState) : Type 0 where
   pub works : c.failed ≡ false
   pub past : List Node
-  pub known : RepresentsWorking past c
-  pub among : Among source past
-  pub short : record_len source ≤ c.index.sector_size / RECORDS_PER_SECTOR
+  pub node : Node
+  pub stands : IsSourceIn past node source c
+  pub short : len_of_data source.len ≤ c.index.sector_size / RECORDS_PER_SECTOR
 
 -- Several records were handled, and `copies` copies were made.
 pub record HasCopied (nodes past after : List Node) (copies : ℕ) (old new : CoreState) :
@@ -64,14 +73,17 @@ pub record HasCopied (nodes past after : List Node) (copies : ℕ) (old new : Co
   pub room : copies_have_room old.index.sector_size nodes (gc_state past old) ≡ true
   pub counted : length after ≡ copies + length past
 
--- A core that works represents a history, and these are the records of its oldest sector, which
--- isn't the only one.
-pub record AreOldest (nodes : List Node) (c : CoreState) : Type 0 where
+-- the same, of all records of the oldest sector
+abbrev pub HasCopiedAll : List Node → List Node → ℕ → CoreState → CoreState → Type 0
+HasCopiedAll past after copies old new =
+    HasCopied (oldest_records (layout_in old.image old.index).sectors) past after copies old new
+
+-- A core that works represents a history, and its oldest sector isn't the only one.
+pub record HasSeveral (c : CoreState) : Type 0 where
   pub works : c.failed ≡ false
   pub past : List Node
   pub known : RepresentsWorking past c
   pub several : 2 ≤ length (layout_in c.image c.index).sectors
-  pub are : nodes ≡ oldest_records (layout_in c.image c.index).sectors
 
 -- whether each copy that cleaning makes of the oldest sector has room at its turn
 abbrev pub copies_would_fit : List Node → CoreState → Bool
@@ -140,13 +152,13 @@ abbrev pub OneLives : List Node → List Node → Type 0
 OneLives past nodes = (n : Node) × Among n nodes × (is_live past n.version ≡ true)
 
 -- The cleaning of a sector stops for want of room only where a copy had none at its turn, for want
--- of a version only where a record has still to be copied, and for want of memory only before the
--- first copy, or where a version is left for the next.
+-- of a version only where a record has still to be copied, and for want of memory only where a
+-- version is left for the next.
 pub record WantsCopy (cause : Cause) (past after : List Node) (c : CoreState) : Type 0 where
   pub at_turn : cause ≡ NoSpace → copies_would_fit past c ≡ false
   pub to_copy : cause ≡ VersionsSpent
       → OneLives after (oldest_records (layout_in c.image c.index).sectors)
-  pub version : cause ≡ Memory → (after ≡ past) ⊎ HasVersionLeft after
+  pub version : cause ≡ Memory → HasVersionLeft after
 
 -- Some of the oldest sector's records were handled, from its first on.
 pub record HandledFirst (past after : List Node) (c : CoreState) : Type 0 where

@@ -8,14 +8,15 @@ use Rattle.jffs_log.specs.LogIndex.{IsSameLogIndex}
 use Rattle.jffs_core.specs.declared.answer.Answer.{Answer}
 
 -- The image of the device, how often it failed, how many erases were among that, whether one of
--- them since the mount, what it counts of its wear, the log's index, and the core's tree, numbers,
--- flags and answers.
+-- them since the mount, what it counts of its wear, how often each byte of it can still be read,
+-- the log's index, and the core's tree, numbers, flags and answers.
 pub record CoreState : Type 0 where
   pub image : List ℕ
   pub faults : ℕ
   pub failed_erases : ℕ
   pub erase_failed : Bool
   pub wear : Wear
+  pub reads_left : List ℕ
   pub index : LogIndex
   pub tree : Tree
   pub limits : Limits
@@ -40,6 +41,10 @@ pub record IsSameButAnswers (old new : CoreState) : Type 0 where
         answers = new.answers;
         capacity = new.capacity;
       }
+
+-- bytes were read, and nothing else has changed
+abbrev pub SameButReads : CoreState → CoreState → Type 0
+SameButReads old new = new ≡ record old { reads_left = new.reads_left }
 
 -- the answers, their capacity, and whether the session is over, are the same
 pub record SameAnswers (old new : CoreState) : Type 0 where

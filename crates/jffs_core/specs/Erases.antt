@@ -38,20 +38,22 @@ abbrev pub erased_for : Wish → ℕ → ℕ
 erased_for wish held = if is_copy_wish wish || is_unmount_wish wish then 0 else held
 
 -- The device keeps its sizes over an answer, which erases no more than that, and no more sectors
--- than there are.
+-- than there are; and no byte of it is read.
 pub record StaysBounded (wish : Wish) (old new : CoreState) : Type 0 where
   pub sizes : HasSizes old.index.sectors old.index.sector_size new.index
   pub erases : ErasesAtMost old.index.sectors old new
   pub for_wish : new.index.erases ≤ old.index.erases + erased_for wish old.index.held
   pub few : new.index.erases ≤ old.index.erases + old.index.sectors
+  pub unread : new.reads_left ≡ old.reads_left
 
--- What a call inside the core leaves: the answers and the sizes as they were, and no more than that
--- many sectors erased.
+-- What a call inside the core leaves: the answers and the sizes as they were, no more than that
+-- many sectors erased, and no byte read.
 pub record Leaves (most : ℕ) (old new : CoreState) : Type 0 where
   pub same : SameAnswers old new
   pub sizes : HasSizes old.index.sectors old.index.sector_size new.index
   pub erases : new.index.erases ≤ old.index.erases + most
   pub device : UsesDevice old new
+  pub unread : new.reads_left ≡ old.reads_left
 
 -- While a core works, and so after each of its appends and erases, a sector is erased.
 abbrev pub OneIsErased : Type 0

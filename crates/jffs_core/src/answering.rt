@@ -138,7 +138,7 @@ impl<F: Flash> Core<F> {
         ensures leaves { Leaves (erased_for request.now.wish self.old.index.held)
             self.old self.new }
     {
-        if request.wish.is_unmount() && self.clean {
+        if self.clean && request.wish.is_unmount() {
             return Ok(Answered {
                 outcome: Outcome::Closed,
                 node: None,
@@ -231,7 +231,9 @@ impl<F: Flash> Core<F> {
             → HasAppended past self.old self.new request.now node.new result }
         ensures leaves { Leaves self.old.index.held self.old self.new }
     {
-        self.make_room(record_len(node))?;
+        if !self.make_room(record_len(node))? {
+            return Err(Cause::NoSpace);
+        }
         let Some(version) = self.limits.next_version else {
             return Err(Cause::VersionsSpent);
         };

@@ -1,14 +1,13 @@
 //! Cleaning: what lives in the oldest sector is copied to the tail, and the sector is erased.
 
-ghost use Rattle.std.specs.Prelude.{◌≡◌, ◌≤◌, ◌<◌, ◌+◌, ◌/◌, ◌^◌, List, true, false, map, length};
-ghost use Rattle.std.specs.Prelude.{◌↔◌, ◌⊎◌, IsTrue, OnOk, IfOk, IfErr, Err};
+ghost use Rattle.std.specs.Prelude.{◌≡◌, ◌≤◌, ◌<◌, ◌+◌, ◌/◌, ◌^◌, List, true, false, length};
+ghost use Rattle.std.specs.Prelude.{◌↔◌, IsTrue, OnOk, IfOk, IfErr, Err};
 ghost use Rattle.jffs_tree.specs.Look.{holds_version};
 
 use crate::mounted_core::Core;
 use jffs_flash::Flash;
 use jffs_log::Room;
-use jffs_node::Node;
-use jffs_tree::Cause;
+use jffs_tree::{Cause, CopySource};
 
 /// What a cleaning did.
 #[derive(Clone, Copy, Debug, PartialEq, Eq)]
@@ -21,15 +20,14 @@ pub enum Cleaned {
 
 impl<F: Flash> Core<F> {
     ghost use Rattle.jffs_node.specs.declared.node.Node.{Node};
-    ghost use Rattle.jffs_log.specs.LogIndex.{layout_in, oldest_in};
-    ghost use Rattle.jffs_log.specs.RoomLaws.{Among};
-    ghost use Rattle.jffs_core.specs.Past.{RepresentsWorking, Represents};
-    ghost use Rattle.jffs_core.specs.Calls.{RefusedAt};
+    ghost use Rattle.jffs_log.specs.LogIndex.{layout_in};
+    ghost use Rattle.jffs_core.specs.Past.{RepresentsWorking, Represents, has_room_for};
     ghost use Rattle.jffs_core.specs.Cleaning.{Cleans, Stops, ErasesDead, HasErasedDead};
     ghost use Rattle.jffs_core.specs.Cleaning.{ErasingStopped};
     ghost use Rattle.jffs_core.specs.Cleaning.{IsDeadOldest, DidClean, HasHandled, CopyStopped};
-    ghost use Rattle.jffs_core.specs.Cleaning.{HasCopied, HasMadeRoom, MakingStopped, ErasesOldest};
-    ghost use Rattle.jffs_core.specs.Cleaning.{SectorStopped, EraseStopped, IsSource, AreOldest};
+    ghost use Rattle.jffs_core.specs.Cleaning.{HasCopiedAll, HasMadeRoom, MakingStopped};
+    ghost use Rattle.jffs_core.specs.Cleaning.{ErasesOldest, SectorStopped, EraseStopped};
+    ghost use Rattle.jffs_core.specs.Cleaning.{HasSeveral, IsSource, IsSourceIn};
     ghost use Rattle.jffs_core.specs.Erases.{ErasesAtMost, Leaves};
     ghost use Rattle.jffs_core.specs.Trees.{KeepsTree};
 
@@ -107,29 +105,28 @@ impl<F: Flash> Core<F> {
         self.log.oldest_dead(&self.tree)
     }
 
-    /// Makes room for a fresh record of `len` bytes: cleans the oldest sector, until there is
-    /// room, or each sector that held the log was cleaned.
-    pub(crate) fn make_room(&mut self, len: u32) -> Result<(), Cause>
+    /// Makes room for a fresh record of `len` bytes that has none: cleans the oldest sector, until
+    /// there is room, or each sector that held the log was cleaned. Returns whether there is room.
+    pub(crate) fn make_room(&mut self, len: u32) -> Result<bool, Cause>
         requires working { self.old.failed ≡ false }
+        requires no_room { has_room_for self.old Room.Fresh len ≡ false }
         ensures made { OnOk result
             ((past : List Node) → RepresentsWorking past self.old
             → (after : List Node) × HasMadeRoom len past after self.old self.new) }
         ensures refused { IfErr result
             (λ cause. (past : List Node) → RepresentsWorking past self.old
             → (after : List Node) × MakingStopped len cause past after self.old self.new) }
-        ensures works { OnOk result (self.new.failed ≡ false) }
+        ensures works { IfOk result (λ room. (self.new.failed ≡ false)
+            × (has_room_for self.new Room.Fresh len ≡ room)) }
         ensures leaves { Leaves self.old.index.held self.old self.new }
     {
         for turn in 0..self.log.held() {
+            self.clean_one()?;
             if self.has_room(Room::Fresh, len) {
-                return Ok(());
-            }
-            match self.clean_one()? {
-                Cleaned::Erased { .. } => {}
-                Cleaned::OneSector => return Ok(()),
+                return Ok(true);
             }
         }
-        Ok(())
+        Ok(false)
     }
 
     /// Cleans the oldest sector of a core whose device works.
@@ -147,35 +144,18 @@ impl<F: Flash> Core<F> {
         if self.log.held() < 2 {
             return Ok(Cleaned::OneSector);
         }
-        let nodes = self.oldest_nodes()?;
-        self.clean_sector(&nodes)
-    }
-
-    /// Copies what lives of these nodes, which are those of the oldest sector, and erases it.
-    fn clean_sector(&mut self, nodes: &[Node]) -> Result<Cleaned, Cause>
-        requires oldest { AreOldest nodes.now self.old }
-        ensures cleaned { IfOk result
-            (λ done. (past : List Node) → RepresentsWorking past self.old
-            → DidClean done past self.old self.new) }
-        ensures stopped { IfErr result
-            (λ cause. (past : List Node) → RepresentsWorking past self.old
-            → (after : List Node) × SectorStopped cause past after self.old self.new) }
-        ensures works { OnOk result (self.new.failed ≡ false) }
-        ensures leaves { Leaves 1 self.old self.new }
-    {
         let sector = self.log.oldest();
-        let copies = self.copy_each(nodes)?;
+        let copies = self.copy_each()?;
         self.erase_oldest()?;
         Ok(Cleaned::Erased { sector, copies })
     }
 
-    /// Handles each of these nodes, which are those of the oldest sector; answers how many were
-    /// copied.
-    fn copy_each(&mut self, nodes: &[Node]) -> Result<u32, Cause>
-        requires oldest { AreOldest nodes.now self.old }
+    /// Handles each record of the oldest sector; answers how many were copied.
+    fn copy_each(&mut self) -> Result<u32, Cause>
+        requires several { HasSeveral self.old }
         ensures copied { IfOk result
             (λ copies. (past : List Node) → RepresentsWorking past self.old
-            → (after : List Node) × HasCopied nodes.now past after copies self.old self.new) }
+            → (after : List Node) × HasCopiedAll past after copies self.old self.new) }
         ensures stopped { IfErr result
             (λ cause. (past : List Node) → RepresentsWorking past self.old
             → (after : List Node) × SectorStopped cause past after self.old self.new) }
@@ -183,21 +163,22 @@ impl<F: Flash> Core<F> {
         ensures leaves { Leaves 0 self.old self.new }
     {
         let mut copies = 0u32;
-        for node in nodes {
-            copies += u32::from(self.handle(node)?);
+        for at in 0..self.log.oldest_count() {
+            let source = self.log.oldest_source(at);
+            copies += u32::from(self.handle(source)?);
         }
         Ok(copies)
     }
 
     /// Copies a record of the log where it is live; answers whether it is.
-    fn handle(&mut self, source: &Node) -> Result<bool, Cause>
-        requires source { IsSource source.now self.old }
-        ensures handled { IfOk result
-            (λ copied. (past : List Node) → RepresentsWorking past self.old → Among source.now past
-            → HasHandled past source.now copied self.old self.new) }
-        ensures stopped { IfErr result
-            (λ cause. (past : List Node) → RepresentsWorking past self.old → Among source.now past
-            → CopyStopped cause past source.now self.old self.new) }
+    fn handle(&mut self, source: CopySource) -> Result<bool, Cause>
+        requires source { IsSource source self.old }
+        ensures handled { IfOk result (λ copied. (past : List Node) (n : Node)
+            → IsSourceIn past n source self.old
+            → HasHandled past n copied self.old self.new) }
+        ensures stopped { IfErr result (λ cause. (past : List Node) (n : Node)
+            → IsSourceIn past n source self.old
+            → CopyStopped cause past n self.old self.new) }
         ensures works { OnOk result (self.new.failed ≡ false) }
         ensures leaves { Leaves 0 self.old self.new }
     {
@@ -209,15 +190,15 @@ impl<F: Flash> Core<F> {
     }
 
     /// Appends the copy of a live record.
-    fn copy(&mut self, source: &Node) -> Result<(), Cause>
-        requires source { IsSource source.now self.old }
-        requires live { holds_version self.old.tree source.now.inode source.now.version ≡ true }
-        ensures copied { OnOk result
-            ((past : List Node) → RepresentsWorking past self.old → Among source.now past
-            → HasHandled past source.now true self.old self.new) }
-        ensures stopped { IfErr result
-            (λ cause. (past : List Node) → RepresentsWorking past self.old → Among source.now past
-            → CopyStopped cause past source.now self.old self.new) }
+    fn copy(&mut self, source: CopySource) -> Result<(), Cause>
+        requires source { IsSource source self.old }
+        requires live { holds_version self.old.tree source.inode source.version ≡ true }
+        ensures copied { OnOk result ((past : List Node) (n : Node)
+            → IsSourceIn past n source self.old
+            → HasHandled past n true self.old self.new) }
+        ensures stopped { IfErr result (λ cause. (past : List Node) (n : Node)
+            → IsSourceIn past n source self.old
+            → CopyStopped cause past n self.old self.new) }
         ensures works { OnOk result (self.new.failed ≡ false) }
         ensures leaves { Leaves 0 self.old self.new }
     {
@@ -226,23 +207,6 @@ impl<F: Flash> Core<F> {
         };
         let copied = self.tree.cleaning_copy(source)?;
         self.append(Room::Copy, &copied.with(version, 0, 0))
-    }
-
-    /// The nodes of the oldest sector, read from the device. Those with data share its bytes, which
-    /// go with the last of them. Memory: nothing is changed.
-    fn oldest_nodes(&mut self) -> Result<Vec<Node>, Cause>
-        requires working { self.old.failed ≡ false }
-        requires some { 1 ≤ self.old.index.held }
-        ensures read { IfOk result
-            (λ nodes. (nodes.items ≡ map (λ p. p.node) (oldest_in self.old.image self.old.index))
-            × (self.new ≡ self.old)) }
-        ensures refused { IfErr result
-            (λ cause. (past : List Node) → RepresentsWorking past self.old
-            → RefusedAt cause past past self.old self.new) }
-        ensures causes { IfErr result (λ cause. (cause ≡ Cause.Memory) ⊎ (cause ≡ Cause.Device)) }
-        ensures leaves { Leaves 0 self.old self.new }
-    {
-        self.log.oldest_shared_nodes(self.alloc)
     }
 
     /// Erases the oldest sector. Precondition: it is dead, and not the tail.

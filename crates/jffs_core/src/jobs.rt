@@ -2,6 +2,7 @@
 
 ghost use Rattle.std.specs.Prelude.{◌≡◌, ◌≤◌, List, false, IfOk, OnOk, IfErr};
 ghost use Rattle.jffs_log.specs.Volume.{sector_bytes};
+ghost use Rattle.jffs_core.specs.CoreState.{SameButReads};
 ghost use Rattle.jffs_core.specs.Jobs.{wants_cleaning, ReadRefused};
 
 use crate::mounted_core::Core;
@@ -31,13 +32,17 @@ impl<F: Flash> Core<F> {
     pub fn oldest_image(&mut self) -> Result<Vec<u8>, Cause>
         requires some { self.old.failed ≡ false → 1 ≤ self.old.index.held }
         ensures same { self.new
-            ≡ record self.old { failed = self.new.failed; faults = self.new.faults } }
+            ≡ record self.old {
+              failed = self.new.failed;
+              faults = self.new.faults;
+              reads_left = self.new.reads_left;
+            } }
         ensures stands { (mounted past : List Node) → Represents mounted past self.old
             → Represents mounted past self.new }
         ensures bytes { IfOk result
             (λ bytes. bytes.items
             ≡ sector_bytes self.old.index.sector_size self.old.index.first self.old.image) }
-        ensures works { OnOk result ((self.new.failed ≡ false) × (self.new ≡ self.old)) }
+        ensures works { OnOk result ((self.new.failed ≡ false) × SameButReads self.old self.new) }
         ensures refused { IfErr result (λ cause. ReadRefused cause self.old self.new) }
     {
         if self.log.failed() {

@@ -38,6 +38,7 @@ impl<F: Flash> Model for Core<F> {
       failed_erases = c.log.device.failed_erases;
       erase_failed = c.log.erase_failed;
       wear = c.log.wear;
+      reads_left = c.log.reads_left;
       index = c.log.index;
       tree = c.tree;
       limits = c.limits;

@@ -15,6 +15,7 @@ mod refusals;
 mod session;
 mod sweeps;
 mod unchanged;
+mod unread;
 mod versions;
 mod wear;
 mod wishes;

@@ -1,5 +1,5 @@
 -- A device of which each byte can be read only so often.
-use Rattle.std.specs.Prelude.{ℕ, List, length, get_or, replicate}
+use Rattle.std.specs.Prelude.{ℕ, List, length, replicate}
 use Rattle.jffs_flash.specs.Device.{Device}
 
 -- the device inside, which never fails, how often each of its bytes can still be read, and how many
@@ -17,11 +17,3 @@ limited_to reads device =
 -- the device as its callers see it
 abbrev pub limited_device : Limited → Device
 limited_device limited = record limited.inner { faults = limited.faults }
-
--- how often a byte can still be read, by this list
-abbrev pub left_in : List ℕ → ℕ → ℕ
-left_in left i = get_or left i 0
-
--- how often each byte of the device can still be read
-abbrev pub left_of : Limited → ℕ → ℕ
-left_of limited = left_in limited.left

@@ -88,6 +88,7 @@ impl<F: Flash> DoomingFlash<F> {
             (F.wear self.new.inner) }
         ensures worn { Wears no_erase 0 (without_dooms self.old.dooms (F.wear self.old.inner))
             (without_dooms self.new.dooms (F.wear self.new.inner)) }
+        ensures unread { F.reads_left self.new.inner ≡ F.reads_left self.old.inner }
     {
         let Some(at) = self.doom_at(sector) else {
             return Ok(());
@@ -147,6 +148,7 @@ impl<F: Flash> Flash for DoomingFlash<F> {
         ensures worn { Wears (one_erase sector) 0
             (without_dooms self.old.dooms (F.wear self.old.inner))
             (without_dooms self.new.dooms (F.wear self.new.inner)) }
+        ensures unread { F.reads_left self.new.inner ≡ F.reads_left self.old.inner }
     {
         self.doom(sector)?;
         self.inner.erase(sector)

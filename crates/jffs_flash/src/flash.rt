@@ -1,6 +1,6 @@
 //! What a flash device promises.
 
-ghost use Rattle.std.specs.Prelude.{◌≡◌, ℕ, ◌+◌, ◌<◌, ◌≤◌, length, OnOk};
+ghost use Rattle.std.specs.Prelude.{◌≡◌, ℕ, ◌+◌, ◌<◌, ◌≤◌, List, [], length, OnOk};
 ghost use Rattle.jffs_flash.specs.Image.{window};
 ghost use Rattle.jffs_flash.specs.Device.{Device, IsWhole, Reads, Programs, Erases};
 ghost use Rattle.jffs_flash.specs.ReadsLeft.{TakesReads};
@@ -25,9 +25,9 @@ pub trait Flash {
     // The device as its callers see it.
     ghost device: { Self → Device };
 
-    // How often the byte at each index can still be read before a read of it may fail. A device
-    // that promises nothing of the kind says 0.
-    ghost reads_left: { Self → ℕ → ℕ } = { λ _ _. 0 };
+    // How often the byte at each index can still be read before a read of it may fail: not once
+    // where the list is too short. A device that promises nothing of the kind has an empty one.
+    ghost reads_left: { Self → List ℕ } = { λ _. [] };
 
     // What the device counts of the erases and programs that it was called for. A device that
     // counts nothing says 0 for ever.
@@ -66,19 +66,22 @@ pub trait Flash {
     ///
     /// After a failure some bits of the range may not be cleared yet: none that was zero is one,
     /// and none that should stay one is zero. Outside the range nothing changes, whether the call
-    /// failed or not. A device that counts what is programmed counts these bytes at most.
+    /// failed or not. A device that counts what is programmed counts these bytes at most. No byte
+    /// is read.
     fn program(&mut self, at: u32, bytes: &[u8]) -> Result<(), FlashFault>
         requires { at + length bytes.now ≤ length (device self.old).image }
         ensures device { Programs at bytes.now result (device self.old) (device self.new) }
-        ensures worn { Wears no_erase (length bytes.now) (wear self.old) (wear self.new) };
+        ensures worn { Wears no_erase (length bytes.now) (wear self.old) (wear self.new) }
+        ensures unread { reads_left self.new ≡ reads_left self.old };
 
     /// Erases a sector, counted from 0: each of its bytes becomes [`ERASED_BYTE`]. Precondition:
     /// the device has that sector.
     ///
     /// After a failure that sector may hold any bytes. The rest of the image is the same either
-    /// way. A device that counts its erases counts one of this sector at most.
+    /// way. A device that counts its erases counts one of this sector at most. No byte is read.
     fn erase(&mut self, sector: u32) -> Result<(), FlashFault>
         requires { sector < (device self.old).sectors }
         ensures device { Erases sector result (device self.old) (device self.new) }
-        ensures worn { Wears (one_erase sector) 0 (wear self.old) (wear self.new) };
+        ensures worn { Wears (one_erase sector) 0 (wear self.old) (wear self.new) }
+        ensures unread { reads_left self.new ≡ reads_left self.old };
 }

@@ -1,7 +1,7 @@
 //! Flash that fails from a chosen call on.
 
 ghost use Rattle.std.specs.Prelude.{◌≡◌, ◌+◌, ◌<◌, ◌≤◌, ◌↔◌, ◌&&◌, length, OnOk, OnErr, IsErr};
-ghost use Rattle.std.specs.Prelude.{IsTrue, MatchResult};
+ghost use Rattle.std.specs.Prelude.{[], IsTrue, MatchResult};
 ghost use Rattle.jffs_flash.specs.Device.{Reads, Programs, Erases};
 ghost use Rattle.jffs_flash.specs.ReadsLeft.{TakesReads};
 ghost use Rattle.jffs_flash.specs.Wear.{Wears, uncounted, no_erase, one_erase};
@@ -195,7 +195,7 @@ impl Flash for FuseFlash {
         ensures device { Reads result (seen_device self.old) (seen_device self.new) }
         ensures filled { OnOk result
             (buffer.new ≡ window at (length buffer.old) self.old.inner.image) }
-        ensures left { TakesReads at (length buffer.old) result (λ _. 0) (λ _. 0) }
+        ensures left { TakesReads at (length buffer.old) result [] [] }
         ensures unworn { uncounted ≡ uncounted }
     {
         if self.fused == Fused::Writes {

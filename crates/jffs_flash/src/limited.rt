@@ -1,7 +1,7 @@
 //! Flash of which each byte can be read only so often.
 
 ghost use Rattle.std.specs.Prelude.{◌≡◌, ◌+◌, ◌≤◌, ◌↔◌, length, IfOk, IsTrue};
-ghost use Rattle.jffs_flash.specs.Limited.{limited_to, limited_device, left_in, left_of};
+ghost use Rattle.jffs_flash.specs.Limited.{limited_to, limited_device};
 ghost use Rattle.jffs_flash.specs.ReadsLeft.{HasSpent, TakesOne};
 
 use crate::flash::{Flash, FlashFault};
@@ -49,7 +49,7 @@ impl LimitedFlash {
 /// Whether some byte of the range can't be read once more.
 fn is_spent(left: &[u8], at: usize, len: usize) -> bool
     requires { at + len ≤ length left.now }
-    ensures { IsTrue result ↔ HasSpent (left_in left.now) at len }
+    ensures { IsTrue result ↔ HasSpent left.now at len }
 {
     for i in at..at + len {
         if left[i] == 0 {
@@ -62,7 +62,7 @@ fn is_spent(left: &[u8], at: usize, len: usize) -> bool
 /// Counts a read of the range.
 fn take_one(left: &mut [u8], at: usize, len: usize)
     requires { at + len ≤ length left.old }
-    ensures taken { TakesOne at len (left_in left.old) (left_in left.new) }
+    ensures taken { TakesOne at len left.old left.new }
     ensures length { length left.new ≡ length left.old }
 {
     for i in at..at + len {
@@ -73,7 +73,7 @@ fn take_one(left: &mut [u8], at: usize, len: usize)
 impl Flash for LimitedFlash {
     ghost device = { limited_device };
 
-    ghost reads_left = { left_of };
+    ghost reads_left = { λ f. f.left };
 
     fn sectors(&self) -> u32 {
         self.inner.sectors()

@@ -13,7 +13,7 @@ ghost use Rattle.jffs_index.specs.Shown.{tree_tested, fits_node, fits as step_fi
 use crate::outcomes::Outcomes;
 use crate::step::Step;
 use jffs_node::{Kind, Name, NoMemory, Node, Path};
-use jffs_tree::{NewNode, Outcome, Tree};
+use jffs_tree::{CopySource, NewNode, Outcome, Tree};
 use std::alloc::{AllocError, Global};
 use std::marker::Model;
 
@@ -123,7 +123,7 @@ impl View {
         requires live { holds_version self.now.tree source.now.inode source.now.version ≡ true }
         ensures { IfOk result (λ new. new ≡ copy_for (state_in self.now.tree) source.now) }
     {
-        self.tree.cleaning_copy(source)
+        self.tree.cleaning_copy(CopySource::of(source))
     }
 
     /// How the latest request of that sender with that number was answered, if it was.

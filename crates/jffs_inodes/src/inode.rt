@@ -160,20 +160,19 @@ impl Inode {
     /// What stands now where a record's data were written, if it is one fragment, as it is until a
     /// later write or a truncate cuts it. (A write that is refused for memory may have cut it too,
     /// and has changed no byte.) None for a record without data.
-    pub fn whole_data(&self, node: &Node) -> Option<&Bytes>
+    pub fn whole_data(&self, offset: u32, len: usize) -> Option<&Bytes>
         ensures long { IfSome result
-            (λ bytes. (length bytes.now ≡ dsize node.now) × (length bytes.now ≤ file_max)) }
+            (λ bytes. (length bytes.now ≡ len) × (length bytes.now ≤ file_max)) }
         ensures inside { IfSome result
-            (λ bytes. node.now.offset + length bytes.now ≤ length self.now.entry.bytes) }
+            (λ bytes. offset + length bytes.now ≤ length self.now.entry.bytes) }
         ensures stands { IfSome result
-            (λ bytes. take (length bytes.now) (drop node.now.offset self.now.entry.bytes)
-            ≡ bytes.now) }
+            (λ bytes. take (length bytes.now) (drop offset self.now.entry.bytes) ≡ bytes.now) }
     {
-        if node.bytes.is_empty() {
+        if len == 0 {
             return None;
         }
-        let fragment = self.fragments.get(node.offset)?;
-        if fragment.bytes.len() == node.bytes.len() {
+        let fragment = self.fragments.get(offset)?;
+        if fragment.bytes.len() == len {
             Some(&fragment.bytes)
         } else {
             None

@@ -16,8 +16,7 @@ use Rattle.jffs_tree.specs.Check.{each_fits, check}
 use Rattle.jffs_tree.specs.After.{can_apply}
 use Rattle.jffs_log.specs.declared.salvaging.Salvaged.{Salvaged}
 use Rattle.jffs_log.specs.Image.{Sector, Placed, sector_of, placed_from, records_in, turned, starts, oldest_of, log_of, nodes_of, past_of}
-use Rattle.jffs_log.specs.LogIndex.{ref_of}
-use Rattle.jffs_log.specs.Salvage.{readable_in, version_at, Sifted, sift, sifted, IsSalvaged, IsWhole}
+use Rattle.jffs_log.specs.Salvage.{readable_in, version_at, saved_of, Sifted, sift, sifted, IsSalvaged, IsWhole}
 use Rattle.jffs_log.specs.Scan.{Scanned, versions_rise, scan}
 use Rattle.jffs_tree.specs.Check.{keeps_form}
 use Rattle.jffs_log.specs.Volume.{split, sectors_in}
@@ -202,6 +201,6 @@ saved_whole count len image made scanned b h is =
     let tree = ap (λ (t : Scanned). t.tree) (ok_same _ scanned (sym (histories_are_scanned count len image (past_of scanned.log) (mounts_are_histories count len image scanned bytes is)) ∙ is)) in
     record {
       tree = h.records.tree ∙ ap (λ (x : Sifted). tree_of (past_of x.taken)) all ∙ tree;
-      taken = h.records.taken ∙ ap (λ (x : Sifted). map ref_of x.taken) all;
-      left_out = h.records.left_out ∙ ap (λ (x : Sifted). map ref_of x.left_out) all;
+      taken = h.records.taken ∙ ap (λ (x : Sifted). map saved_of x.taken) all;
+      left_out = h.records.left_out ∙ ap (λ (x : Sifted). map saved_of x.left_out) all;
     }

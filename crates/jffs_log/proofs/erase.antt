@@ -3,6 +3,6 @@ pub mod Erased
 pub mod ErasedIndex
 pub mod OldestAsked
 pub mod OldestDead
-pub mod OldestNodes
+pub mod OldestRefs
 pub mod Wear
 pub mod WearOverSessions

@@ -9,3 +9,4 @@ pub mod ScanLog
 pub mod ScanNumbers
 pub mod ScanSectors
 pub mod Showing
+pub mod Small

@@ -1,12 +1,13 @@
 -- What a log keeps in memory of its device.
 use Rattle.std.specs.Prelude.{◌≡◌, ◌⊎◌, ℕ, ◌*◌, true, List, [], ◌∷◌, ◌++◌, length, map, filter}
-use Rattle.std.specs.Prelude.{flat_map, sum_by, None, Bool, ◌&&◌, ◌==◌, if◌then◌else◌}
+use Rattle.std.specs.Prelude.{flat_map, sum, sum_by, None, Bool, ◌&&◌, ◌==◌, if◌then◌else◌}
 use Rattle.jffs_inodes.specs.Inodes.{Tree}
 use Rattle.jffs_tree.specs.Origin.{is_live}
 use Rattle.jffs_tree.specs.Look.{holds_version}
+use Rattle.jffs_tree.specs.declared.cleaning.CopySource.{CopySource}
 use Rattle.std.specs.List.{AllByRecursion, last_or}
 use Rattle.jffs_node.specs.declared.node.Node.{Node}
-use Rattle.jffs_node.specs.Record.{record_len}
+use Rattle.jffs_node.specs.Record.{record_len, dsize}
 use Rattle.jffs_flash.specs.Sizes.{is_geometry}
 use Rattle.jffs_log.specs.declared.log_index.RecordRef.{RecordRef}
 use Rattle.jffs_log.specs.declared.log_index.LogIndex.{LogIndex}
@@ -22,10 +23,17 @@ abbrev pub ref_of : Placed → RecordRef
 ref_of p = record {
   version = p.node.version;
   inode = p.node.inode;
+  data_offset = p.node.offset;
+  data_len = dsize p.node;
   length = record_len p.node;
   sector = p.sector;
   offset = p.offset;
 }
+
+-- what cleaning knows of it
+abbrev pub source_in : RecordRef → CopySource
+source_in k =
+    record { inode = k.inode; version = k.version; offset = k.data_offset; len = k.data_len }
 
 -- the sector that was begun last has that many bytes used and that many erased
 pub record HasTail (count len : ℕ) (image : List ℕ) (held : List (ℕ × Sector))
@@ -80,6 +88,12 @@ lives_in tree p = holds_version tree p.node.inode p.node.version
 -- the lengths of those records that live in the tree
 abbrev pub weight_in : Tree → List Placed → ℕ
 weight_in tree log = sum_by (λ p. record_len p.node) (filter (lives_in tree) log)
+
+-- the lengths of the live records of an inode together
+abbrev pub live_bytes_in : Tree → ℕ → List RecordRef → ℕ
+live_bytes_in tree i records =
+    sum (map (λ k. k.length)
+    (filter (λ k. (k.inode == i) && holds_version tree i k.version) records))
 
 -- how many records of a sector live in the tree
 abbrev pub live_in : ℕ → Tree → List Placed → ℕ

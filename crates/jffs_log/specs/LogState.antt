@@ -28,11 +28,12 @@ use Rattle.jffs_log.specs.Erasable.{MayErase}
 use Rattle.jffs_log.specs.Volume.{sectors_in}
 use Rattle.jffs_log.specs.Wear.{sector_after}
 
--- its device, what that counts of its wear, what is known of it in memory, whether a call of the
--- device failed, and whether that was an erase
+-- its device, what that counts of its wear, how often each byte of it can still be read, what is
+-- known of it in memory, whether a call of the device failed, and whether that was an erase
 pub record LogState : Type 0 where
   pub device : Device
   pub wear : Wear
+  pub reads_left : List ℕ
   pub index : LogIndex
   pub failed : Bool
   pub erase_failed : Bool
@@ -82,6 +83,7 @@ is_clean_log s = is_clean (sectors_in s.index.sectors s.index.sector_size s.devi
 pub record IsSameLog (old new : LogState) : Type 0 where
   pub device : Unchanged old.device new.device
   pub wear : new.wear ≡ old.wear
+  pub unread : new.reads_left ≡ old.reads_left
   pub index : IsSameLogIndex old.index new.index
   pub failed : new.failed ≡ old.failed
   pub erase_failed : new.erase_failed ≡ old.erase_failed
@@ -166,6 +168,10 @@ pub record EraseFailed (tree : Tree) (why : Cause) (old new : LogState) : Type 0
   pub erases : new.index.erases ≡ one_erase_more old.index
   pub may : (past : List Node) → tree ≡ tree_of past → HasHistory past old
       → MayErase old.index.sectors old.index.sector_size old.device.image past old.index.first
+
+-- bytes were read, and nothing else has changed
+abbrev pub SameButReads : LogState → LogState → Type 0
+SameButReads old new = new ≡ record old { reads_left = new.reads_left }
 
 -- A read of the device failed: no byte has changed.
 pub record ReadFailed (old new : LogState) : Type 0 where

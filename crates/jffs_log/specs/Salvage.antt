@@ -8,14 +8,15 @@ use Rattle.std.specs.Ordering.{nat_cmp}
 use Rattle.jffs_node.specs.declared.read.Read.{Read}
 use Rattle.jffs_node.specs.declared.read.Read.TheVariants.{Free, Bad}
 use Rattle.jffs_node.specs.declared.read.Why.{Why}
+use Rattle.jffs_node.specs.Record.{record_len}
 use Rattle.jffs_node.specs.Reading.{reading_len}
 use Rattle.jffs_tree.specs.Origin.{tree_of}
 use Rattle.jffs_tree.specs.After.{can_apply}
 use Rattle.jffs_log.specs.declared.salvaging.CutSector.{CutSector}
+use Rattle.jffs_log.specs.declared.salvaging.SavedRecord.{SavedRecord}
 use Rattle.jffs_log.specs.declared.salvaging.Salvaged.{Salvaged}
 use Rattle.jffs_log.specs.Image.{Sector, Placed, records_in, past_of}
 use Rattle.jffs_log.specs.Volume.{sectors_in}
-use Rattle.jffs_log.specs.LogIndex.{ref_of}
 use Rattle.jffs_log.specs.Scan.{Scanned}
 
 -- the records of all sectors, of each those before its first that isn't closed and lawful
@@ -45,11 +46,21 @@ sift s p =
 abbrev pub sifted : List Placed → Sifted
 sifted ordered = fold sift (record { taken = []; left_out = [] }) ordered
 
+-- what is said of a record that was found
+abbrev pub saved_of : Placed → SavedRecord
+saved_of p = record {
+  version = p.node.version;
+  inode = p.node.inode;
+  length = record_len p.node;
+  sector = p.sector;
+  offset = p.offset;
+}
+
 -- this was made of those that were sifted
 pub record IsMadeOf (s : Sifted) (made : Salvaged) : Type 0 where
   pub tree : made.tree ≡ tree_of (past_of s.taken)
-  pub taken : made.taken.items ≡ map ref_of s.taken
-  pub left_out : made.left_out.items ≡ map ref_of s.left_out
+  pub taken : made.taken.items ≡ map saved_of s.taken
+  pub left_out : made.left_out.items ≡ map saved_of s.left_out
 
 abbrev pub cut_at : ℕ → ℕ → Option Why → CutSector
 cut_at sector offset why = record { sector = sector; offset = offset; why = why }
@@ -73,5 +84,5 @@ pub record IsSalvaged (count len : ℕ) (image : List ℕ) (made : Salvaged) : T
 -- all of the log that a scan finds
 pub record IsWhole (scanned : Scanned) (made : Salvaged) : Type 0 where
   pub tree : made.tree ≡ scanned.tree
-  pub taken : made.taken.items ≡ map ref_of scanned.log
+  pub taken : made.taken.items ≡ map saved_of scanned.log
   pub left_out : made.left_out.items ≡ []

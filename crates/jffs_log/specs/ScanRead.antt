@@ -1,12 +1,12 @@
 -- What a scan reads of the sectors, and where the log begins among them.
-use Rattle.std.specs.Prelude.{◌≡◌, ◌⊎◌, ℕ, ◌+◌, ◌/◌, ◌<◌, ◌≤◌, not, List, length, drop, get_or}
+use Rattle.std.specs.Prelude.{◌≡◌, ◌⊎◌, ℕ, ◌+◌, ◌/◌, ◌^◌, ◌<◌, ◌≤◌, not, List, length, drop, get_or}
 use Rattle.std.specs.Prelude.{sum_by, Option}
 use Rattle.std.specs.Prelude.{Some, None, Result, Ok, Err, IsTrue, if◌then◌else◌}
 use Rattle.std.specs.List.{list_any, enumerate_from, AllByRecursion}
 use Rattle.jffs_node.specs.Record.{record_len, is_lawful}
 use Rattle.jffs_node.specs.Reading.{reading, reading_len, found}
 use Rattle.jffs_flash.specs.Device.{Device as FlashDevice}
-use Rattle.jffs_flash.specs.ReadsLeft.{HasSpent}
+use Rattle.jffs_flash.specs.ReadsLeft.{HasSpent, left_at}
 use Rattle.jffs_log.specs.declared.sector.SectorRead.TheInside.{Inside}
 use Rattle.jffs_log.specs.declared.sector.TheConstants.{RECORDS_PER_SECTOR}
 use Rattle.jffs_log.specs.declared.scanning.ScanWhy.{ScanWhy}
@@ -28,6 +28,11 @@ sector_read s = (
 pub record IsRead (s : Inside) : Type 0 where
   pub filled : s.used ≡ sum_by record_len s.nodes.items
   pub lawful : AllByRecursion (λ n. IsTrue (is_lawful n)) s.nodes.items
+
+-- its number, and where each of its records stands, are small
+pub record IsSmall (s : ℕ × Sector) : Type 0 where
+  pub number : s.0 < 2 ^ 16
+  pub used : sum_by record_len s.1.reading.nodes < 2 ^ 16
 
 -- the bytes of a sector after its records
 abbrev pub rest_of : List ℕ → List ℕ
@@ -86,6 +91,7 @@ pub record HasRead (s : ℕ × Sector) (number : ℕ) (bytes : List ℕ) : Type 
 
 -- The range was read once at most: the bytes outside it can be read as often as before, and the
 -- call failed only where some byte inside it could not be read once more.
-pub record IsReadOnce (at len : ℕ) (before after : FlashDevice) (old new : ℕ → ℕ) : Type 0 where
-  pub rest : after.faults ≡ before.faults → (i : ℕ) → (i < at) ⊎ (at + len ≤ i) → old i ≤ new i
+pub record IsReadOnce (at len : ℕ) (before after : FlashDevice) (old new : List ℕ) : Type 0 where
+  pub rest : after.faults ≡ before.faults → (i : ℕ) → (i < at) ⊎ (at + len ≤ i)
+      → left_at old i ≤ left_at new i
   pub fails : before.faults < after.faults → 1 ≤ len → HasSpent old at len

@@ -58,7 +58,7 @@ fn stands_there(records: &VecDeque<RecordRef>, sector: u32, version: u32, inode:
         × (k.version ≡ version) × (k.inode ≡ inode) }
 {
     match record_of(records, version) {
-        Some(entry) => entry.sector == sector && entry.version == version && entry.inode == inode,
+        Some(entry) => entry.is_in(sector) && entry.version == version && entry.inode == inode,
         None => false,
     }
 }
@@ -93,10 +93,8 @@ fn all_before(
         && option_map_or (λ p. nat_lt k.version p.0) next true)
         (take_while (λ k. k.sector == sector) records.now.items) }
 {
-    records
-        .iter()
-        .take_while(|entry| entry.sector == sector)
-        .all(|entry| first <= entry.version && is_before(next, entry.version))
+    records.iter().take_while(|entry| entry.is_in(sector)).all(|entry| first <= entry.version
+        && is_before(next, entry.version))
 }
 
 /// Whether a version is below the next live one, where there is one.
@@ -116,6 +114,6 @@ fn none_lives(records: &VecDeque<RecordRef>, sector: u32, tree: &Tree) -> bool
 {
     records
         .iter()
-        .take_while(|entry| entry.sector == sector)
+        .take_while(|entry| entry.is_in(sector))
         .all(|entry| !tree.live(entry.inode, entry.version))
 }

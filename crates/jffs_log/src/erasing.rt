@@ -27,6 +27,7 @@ impl<F: Flash> Log<F> {
         ensures done { OnOk result (ErasedOldest tree.now self.old self.new) }
         ensures failed { IfErr result (λ cause. EraseFailed tree.now cause self.old self.new) }
         ensures worn { WearsOldest self.old self.new }
+        ensures unread { self.new.reads_left ≡ self.old.reads_left }
     {
         let index = &mut self.index;
         index.erases = index.erases.saturating_add(1);
@@ -50,7 +51,7 @@ fn forget_sector(records: &mut VecDeque<RecordRef>, sector: u32)
     ensures { records.new.items ≡ from_other sector records.old.items }
 {
     while let Some(entry) = records.front() {
-        if entry.sector != sector {
+        if !entry.is_in(sector) {
             break;
         }
         records.pop_front();

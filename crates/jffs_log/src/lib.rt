@@ -37,7 +37,7 @@ pub use log::{Log, sector_after};
 pub use log_index::{LogIndex, RecordRef};
 pub use place::Place;
 pub use room::Room;
-pub use salvaging::{CutSector, Salvaged, salvage};
+pub use salvaging::{CutSector, Salvaged, SavedRecord, salvage};
 pub use scanning::{Mounted, ScanFault, ScanWhy, scan};
 pub use sector::RECORDS_PER_SECTOR;
 pub use writing::RECORD_MAX;

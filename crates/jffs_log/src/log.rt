@@ -39,6 +39,7 @@ impl<F: Flash> Model for Log<F> {
     ghost view = { λ l. record {
       device = F.device l.flash;
       wear = F.wear l.flash;
+      reads_left = F.reads_left l.flash;
       index = l.index;
       failed = l.failed;
       erase_failed = l.erase_failed;
@@ -48,6 +49,7 @@ impl<F: Flash> Model for Log<F> {
         IsLog (record {
           device = F.device l.flash;
           wear = F.wear l.flash;
+          reads_left = F.reads_left l.flash;
           index = l.index;
           failed = l.failed;
           erase_failed = l.erase_failed;
@@ -208,6 +210,7 @@ impl<F: Flash> Log<F> {
             < deque_capacity self.old.index.records }
         ensures done { OnOk result (Appended room node.now self.old self.new) }
         ensures failed { IfErr result (λ cause. AppendFailed node.now cause self.old self.new) }
+        ensures unread { self.new.reads_left ≡ self.old.reads_left }
     {
         // Brings in that the length of a sector fits.
         let _size = self.index.sector_size;
@@ -230,6 +233,7 @@ impl<F: Flash> Log<F> {
             < deque_capacity self.old.index.records }
         ensures done { OnOk result (AppendedAt place node.now self.old self.new) }
         ensures failed { IfErr result (λ cause. AppendFailed node.now cause self.old self.new) }
+        ensures unread { self.new.reads_left ≡ self.old.reads_left }
     {
         let index = &mut self.index;
         let len = record_len(node);
@@ -239,9 +243,11 @@ impl<F: Flash> Log<F> {
                 index.records.push_back_reserved(RecordRef {
                     version: node.version,
                     inode: node.inode,
-                    length: len,
-                    sector: place.sector,
-                    offset: place.offset,
+                    data_offset: node.offset,
+                    data_len: node.bytes.len() as u16,
+                    length: len as u16,
+                    sector: place.sector as u16,
+                    offset: place.offset as u16,
                 });
                 index.held = place.held;
                 index.tail = place.sector;

@@ -1,20 +1,49 @@
 //! What is kept in memory of a log.
 
+ghost use Rattle.std.specs.Prelude.{◌≡◌, ◌==◌};
+ghost use Rattle.jffs_log.specs.LogIndex.{source_in};
+
+use jffs_tree::CopySource;
 use std::collections::VecDeque;
 
-/// What is kept of a record in memory: none of its bytes.
+/// What is kept of a record in memory: none of its bytes. It takes 20 bytes.
 #[derive(Clone, Copy, Debug, PartialEq, Eq)]
 pub struct RecordRef {
     /// The version of its node.
     pub version: u32,
     /// The inode that its node is about.
     pub inode: u32,
+    /// Where its data begin in the file, in bytes.
+    pub data_offset: u32,
+    /// How many bytes of data it has.
+    pub data_len: u16,
     /// How many bytes it takes.
-    pub length: u32,
+    pub length: u16,
     /// The sector in which it stands.
-    pub sector: u32,
+    pub sector: u16,
     /// Where it begins there, in bytes.
-    pub offset: u32,
+    pub offset: u16,
+}
+
+impl RecordRef {
+    /// Whether it stands in the sector with this number.
+    pub(crate) fn is_in(&self, sector: u32) -> bool
+        ensures { result ≡ (self.now.sector == sector) }
+    {
+        u32::from(self.sector) == sector
+    }
+
+    /// What cleaning knows of the record.
+    pub(crate) fn source(&self) -> CopySource
+        ensures { result ≡ source_in self.now }
+    {
+        CopySource {
+            inode: self.inode,
+            version: self.version,
+            offset: self.data_offset,
+            len: usize::from(self.data_len),
+        }
+    }
 }
 
 /// What is known of the device: its sizes, the ring of sectors that hold the log, the sector

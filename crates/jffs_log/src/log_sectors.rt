@@ -2,7 +2,7 @@
 
 ghost use Rattle.std.specs.Prelude.{◌≡◌, ℕ, List, ◌+◌, ◌*◌, ◌<◌, ◌≤◌, ◌^◌, true, not, ◌++◌, None};
 ghost use Rattle.std.specs.Prelude.{option_copied, length, map, filter, flat_map, IfOk, IfErr};
-ghost use Rattle.std.specs.List.{list_any, last_or};
+ghost use Rattle.std.specs.List.{list_any, last_or, AllByRecursion};
 ghost use Rattle.jffs_flash.specs.Device.{Unchanged};
 ghost use Rattle.jffs_flash.specs.ReadsLeft.{FailsWhereSpent};
 ghost use Rattle.jffs_log.specs.Image.{Sector, sector_of, records_in, turned, is_erased_option};
@@ -13,7 +13,7 @@ ghost use Rattle.jffs_log.specs.Scan.{first_bad};
 ghost use Rattle.jffs_log.specs.LogIndex.{ref_of};
 ghost use Rattle.jffs_log.specs.ScanRead.{oldest_sector, AreRead, HasRead, IsUnread, bad_in};
 ghost use Rattle.jffs_log.specs.ScanRead.{number_of_tail, used_of_tail};
-ghost use Rattle.jffs_log.specs.ScanRead.{IsReadOnce};
+ghost use Rattle.jffs_log.specs.ScanRead.{IsReadOnce, IsSmall};
 ghost use Rattle.jffs_log.specs.Shown.{IsAmong, shown_image, shown_bytes};
 
 use crate::log_index::RecordRef;
@@ -254,6 +254,7 @@ pub(crate) fn list_records(
     alloc: Global,
     held: &[SectorRead],
 ) -> Result<VecDeque<RecordRef>, AllocError>
+    requires { AllByRecursion IsSmall held.now }
     ensures { IfOk result (λ records. records.items ≡ map ref_of (flat_map records_in held.now)) }
 {
     let mut records = VecDeque::new(alloc);

@@ -1,22 +1,23 @@
 //! The sector that was begun first.
 
-ghost use Rattle.std.specs.Prelude.{◌≡◌, ◌≤◌, ◌/◌, ◌↔◌, ◌==◌, false, map, IsTrue, IfOk, OnOk};
-ghost use Rattle.std.specs.Prelude.{IfErr, nat_lt};
-ghost use Rattle.std.specs.List.{list_any, take_while};
-ghost use Rattle.jffs_node.specs.declared.layout.TheConstants.{HEADER_LEN};
+ghost use Rattle.std.specs.Prelude.{◌≡◌, ◌<◌, ◌≤◌, ◌/◌, ◌↔◌, ◌==◌, false, length, get_or, IsTrue};
+ghost use Rattle.std.specs.Prelude.{IfOk, OnOk, IfErr};
+ghost use Rattle.std.specs.List.{take_while};
+ghost use Rattle.jffs_tree.specs.Decide.{source_of};
+ghost use Rattle.jffs_log.specs.Image.{nodes_of};
 
 use crate::log::{Log, failure};
 use crate::log_index::RecordRef;
-use crate::sector::{RECORDS_PER_SECTOR, read_sector, shared_nodes};
+use crate::sector::RECORDS_PER_SECTOR;
 use jffs_flash::{ERASED_BYTE, Flash};
-use jffs_node::{HEADER_LEN, Node};
-use jffs_tree::{Cause, Tree};
+use jffs_tree::{Cause, CopySource, Tree};
 use std::alloc::Global;
 use std::collections::VecDeque;
 
 impl<F: Flash> Log<F> {
+    ghost use Rattle.jffs_node.specs.declared.node.Node.{Node};
     ghost use Rattle.jffs_log.specs.LogIndex.{oldest_in};
-    ghost use Rattle.jffs_log.specs.LogState.{OldestIsDead, ReadStopped};
+    ghost use Rattle.jffs_log.specs.LogState.{OldestIsDead, SameButReads, ReadStopped};
     ghost use Rattle.jffs_log.specs.Volume.{sector_bytes};
 
     /// How many sectors the device has.
@@ -76,7 +77,7 @@ impl<F: Flash> Log<F> {
             (λ bytes. bytes.items
             ≡ sector_bytes self.old.index.sector_size self.old.index.first
             self.old.device.image) }
-        ensures same { OnOk result (self.new ≡ self.old) }
+        ensures same { OnOk result (SameButReads self.old self.new) }
         ensures stopped { IfErr result (λ cause. ReadStopped cause self.old self.new) }
     {
         let sector_size = self.index.sector_size;
@@ -87,61 +88,38 @@ impl<F: Flash> Log<F> {
         }
     }
 
-    /// The nodes of the oldest sector in their order, read from the device. Precondition: no call
-    /// of the device failed, and the log has a sector.
-    ///
-    /// `Memory` if allocation failed: nothing is changed. `Device` if the read failed: no byte is
-    /// changed, and the log is failed from then on.
-    pub fn oldest_nodes(&mut self, alloc: Global) -> Result<Vec<Node>, Cause>
-        requires working { self.old.failed ≡ false }
-        requires some { 1 ≤ self.old.index.held }
-        ensures nodes { IfOk result
-            (λ nodes. nodes.items
-            ≡ map (λ p. p.node) (oldest_in self.old.device.image self.old.index)) }
-        ensures same { OnOk result (self.new ≡ self.old) }
-        ensures stopped { IfErr result (λ cause. ReadStopped cause self.old self.new) }
+    /// How many records stand in the sector that was begun first. Takes no memory. Precondition: no
+    /// call of the device failed.
+    pub fn oldest_count(&self) -> usize
+        requires working { self.now.failed ≡ false }
+        ensures { result ≡ length (oldest_in self.now.device.image self.now.index) }
     {
-        let bytes = self.oldest_image(alloc)?;
-        let read = read_sector(alloc, self.index.first, &bytes)?;
-        Ok(read.into_nodes())
+        count_of(&self.index.records, self.index.first)
     }
 
-    /// As `oldest_nodes`, but no data are copied: the nodes share one block, which holds the whole
-    /// sector and stays in memory as long as one of them. So they are for a caller that drops them
-    /// all together, as cleaning does. Where no record of the sector has data, nothing is shared,
-    /// and no memory is asked for a block. Precondition: no call of the device failed, and the log
-    /// has a sector.
-    ///
-    /// `Memory` if allocation failed, or if the block had as many owners as can be counted, and a
-    /// sector never has so many records: nothing is changed. `Device` if the read failed: no byte
-    /// is changed, and the log is failed from then on.
-    pub fn oldest_shared_nodes(&mut self, alloc: Global) -> Result<Vec<Node>, Cause>
-        requires working { self.old.failed ≡ false }
-        requires some { 1 ≤ self.old.index.held }
-        ensures nodes { IfOk result
-            (λ nodes. nodes.items
-            ≡ map (λ p. p.node) (oldest_in self.old.device.image self.old.index)) }
-        ensures same { OnOk result (self.new ≡ self.old) }
-        ensures stopped { IfErr result (λ cause. ReadStopped cause self.old self.new) }
+    /// What cleaning knows of a record of the sector that was begun first, by its number there.
+    /// Takes no memory, and reads nothing of the device. Preconditions: no call of the device
+    /// failed, and the sector has that record.
+    pub fn oldest_source(&self, at: usize) -> CopySource
+        requires working { self.now.failed ≡ false }
+        requires inside { at < length (oldest_in self.now.device.image self.now.index) }
+        ensures { (none : Node) → result
+            ≡ source_of
+            (get_or (nodes_of (oldest_in self.now.device.image self.now.index)) at none) }
     {
-        if !any_has_data(&self.index.records, self.index.first) {
-            return self.oldest_nodes(alloc);
-        }
-        let bytes = self.oldest_image(alloc)?;
-        // Brings in that the length of a sector fits.
-        let _size = self.index.sector_size;
-        Ok(shared_nodes(alloc, bytes)?)
+        let Some(entry) = self.index.records.get(at) else {
+            unreachable!()
+        };
+        entry.source()
     }
 }
 
-/// Whether a record that stands before the first one of another sector has data: it is longer than
-/// a header.
-fn any_has_data(records: &VecDeque<RecordRef>, sector: u32) -> bool
-    ensures { result ≡ list_any (λ k. nat_lt HEADER_LEN k.length)
-        (take_while (λ k. k.sector == sector) records.now.items) }
+/// How many records stand before the first one of another sector.
+fn count_of(records: &VecDeque<RecordRef>, sector: u32) -> usize
+    ensures { result ≡ length (take_while (λ k. k.sector == sector) records.now.items) }
 {
     records
         .iter()
-        .take_while(|entry| entry.sector == sector)
-        .any(|entry| HEADER_LEN < entry.length as usize)
+        .take_while(|entry| entry.is_in(sector))
+        .count()
 }

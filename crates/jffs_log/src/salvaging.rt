@@ -6,12 +6,10 @@ ghost use Rattle.std.specs.List.{enumerate_from};
 ghost use Rattle.jffs_node.specs.Record.{record_len as length_of};
 ghost use Rattle.jffs_log.specs.Image.{records_in, placed_from};
 ghost use Rattle.jffs_log.specs.Volume.{split, sectors_in};
-ghost use Rattle.jffs_log.specs.LogIndex.{ref_of};
 ghost use Rattle.jffs_log.specs.Salvage.{AreInOrder, Sifted, sift as sifted_by, sifted, IsMadeOf};
-ghost use Rattle.jffs_log.specs.Salvage.{cut_in, IsSalvaged, IsWhole};
+ghost use Rattle.jffs_log.specs.Salvage.{cut_in, saved_of, IsSalvaged, IsWhole};
 ghost use Rattle.jffs_log.specs.Scan.{Scanned, scan};
 
-use crate::log_index::RecordRef;
 use crate::sector::{SectorRead, read_sector};
 use jffs_node::{NoMemory, Node, Read, Why, record_len};
 use jffs_tree::Tree;
@@ -29,6 +27,21 @@ pub struct CutSector {
     pub why: Option<Why>,
 }
 
+/// A record that was found in an image, of whatever size.
+#[derive(Clone, Copy, Debug, PartialEq, Eq)]
+pub struct SavedRecord {
+    /// The version of its node.
+    pub version: u32,
+    /// The inode that its node is about.
+    pub inode: u32,
+    /// How many bytes it takes.
+    pub length: u32,
+    /// The sector in which it stands.
+    pub sector: u32,
+    /// Where it begins there, in bytes.
+    pub offset: u32,
+}
+
 /// What is saved of an image, and what is not.
 #[derive(Drop)]
 pub struct Salvaged {
@@ -36,9 +49,9 @@ pub struct Salvaged {
     /// inode's directory may be missing, and two inodes may have one name.
     pub tree: Tree,
     /// The records that were taken, by their versions.
-    pub taken: Vec<RecordRef>,
+    pub taken: Vec<SavedRecord>,
     /// The records that the tree of those before them didn't allow, by their versions.
-    pub left_out: Vec<RecordRef>,
+    pub left_out: Vec<SavedRecord>,
     /// The sectors that were not read to an end of erased bytes, by their numbers.
     pub cut: Vec<CutSector>,
 }
@@ -79,10 +92,10 @@ impl FoundRecord {
     }
 
     /// What is kept of it.
-    fn reference(&self) -> RecordRef
-        ensures { result ≡ ref_of self.now }
+    fn reference(&self) -> SavedRecord
+        ensures { result ≡ saved_of self.now }
     {
-        RecordRef {
+        SavedRecord {
             version: self.node.version,
             inode: self.node.inode,
             length: record_len(&self.node),

@@ -6,10 +6,10 @@ ghost use Rattle.std.specs.List.{AllByRecursion};
 ghost use Rattle.jffs_node.specs.Record.{is_lawful, record_len as length_of};
 ghost use Rattle.jffs_log.specs.Image.{sector_of, records_in, placed_from};
 ghost use Rattle.jffs_log.specs.LogIndex.{ref_of};
-ghost use Rattle.jffs_log.specs.ScanRead.{IsSpelled};
+ghost use Rattle.jffs_log.specs.ScanRead.{IsSpelled, IsSmall};
 
 use crate::log_index::RecordRef;
-use jffs_node::{Bytes, NoMemory, Node, Read, decode, decode_shared, is_erased, record_len};
+use jffs_node::{NoMemory, Node, Read, decode, is_erased, record_len};
 use std::alloc::{AllocError, Global};
 use std::collections::VecDeque;
 use std::marker::Model;
@@ -93,11 +93,10 @@ impl SectorRead {
 
     /// Adds what is kept of the records. If allocation fails, some of them are added.
     pub(crate) fn list_records(&self, records: &mut VecDeque<RecordRef>) -> Result<(), AllocError>
+        requires { IsSmall self.now }
         ensures { OnOk result
             (records.new.items ≡ records.old.items ++ map ref_of (records_in self.now)) }
     {
-        // Brings in that the used bytes fit.
-        let _used = self.used;
         list_nodes(self.number, &self.nodes, records)
     }
 }
@@ -108,7 +107,7 @@ fn list_nodes(
     nodes: &[Node],
     records: &mut VecDeque<RecordRef>,
 ) -> Result<(), AllocError>
-    requires { sum_by length_of nodes.now < 2 ^ 32 }
+    requires { (sector < 2 ^ 16) × (sum_by length_of nodes.now < 2 ^ 16) }
     ensures { OnOk result
         (records.new.items ≡ records.old.items ++ map ref_of (placed_from sector 0 nodes.now)) }
 {
@@ -118,9 +117,11 @@ fn list_nodes(
         records.push_back(RecordRef {
             version: node.version,
             inode: node.inode,
-            length,
-            sector,
-            offset,
+            data_offset: node.offset,
+            data_len: node.bytes.len() as u16,
+            length: length as u16,
+            sector: sector as u16,
+            offset: offset as u16,
         })?;
         offset += length;
     }
@@ -154,31 +155,4 @@ pub(crate) fn read_sector(alloc: Global, number: u32, sector: &[u8]) -> Result<S
             }
         }
     }
-}
-
-/// The nodes of the records that `read_sector` reads. Their data share the sector's block, which
-/// stays in memory as long as one of them.
-///
-/// `NoMemory` if allocation failed, or where the block has as many owners as can be counted.
-pub(crate) fn shared_nodes(alloc: Global, sector: Vec<u8>) -> Result<Vec<Node>, NoMemory>
-    requires { length sector.items < 2 ^ 32 }
-    ensures { IfOk result (λ nodes. nodes.items ≡ (sector_of sector.items).reading.nodes) }
-{
-    let sector = Bytes::from_vec(sector)?;
-    nodes_within(alloc, &sector)
-}
-
-/// The nodes of a sector's records, up to the first that is not closed and lawful.
-fn nodes_within(alloc: Global, sector: &Bytes) -> Result<Vec<Node>, NoMemory>
-    requires { length sector.now < 2 ^ 32 }
-    ensures { IfOk result (λ nodes. nodes.items ≡ (sector_of sector.now).reading.nodes) }
-{
-    let record_max = sector.len() as u32 / RECORDS_PER_SECTOR;
-    let mut nodes = Vec::new(alloc);
-    let mut used = 0u32;
-    'nodes: while let Read::Closed(node, len) = decode_shared(sector, used as usize, record_max)? {
-        nodes.push(node)?;
-        used += len;
-    }
-    Ok(nodes)
 }

@@ -3,6 +3,7 @@
 ghost use Rattle.std.specs.Prelude.{◌≡◌, ◌<◌, ◌^◌, ◌==◌, ◌&&◌, false, List, length, map, filter};
 ghost use Rattle.std.specs.Prelude.{sum};
 ghost use Rattle.jffs_tree.specs.Look.{holds_version};
+ghost use Rattle.jffs_log.specs.LogIndex.{live_bytes_in};
 
 use crate::log::Log;
 use crate::log_index::RecordRef;
@@ -30,6 +31,14 @@ impl<F: Flash> Log<F> {
             → HasHistory past self.now → result ≡ weight past }
     {
         weight_of(&self.index.records, tree)
+    }
+
+    /// The lengths of the records of an inode that live in the tree of all nodes together, in
+    /// bytes. Takes no memory, and goes through all records of the log.
+    pub fn live_bytes(&self, inode: u32, tree: &Tree) -> u64
+        ensures { result ≡ live_bytes_in tree.now inode self.now.index.records.items }
+    {
+        live_bytes_of(&self.index.records, inode, tree)
     }
 
     /// How many records of this sector live in the tree of all nodes; 0 where the log has no such
@@ -66,6 +75,18 @@ fn weight_of(records: &VecDeque<RecordRef>, tree: &Tree) -> u64
     weight
 }
 
+/// The sum of the lengths of those records of an inode that live in the tree.
+fn live_bytes_of(records: &VecDeque<RecordRef>, inode: u32, tree: &Tree) -> u64
+    requires { length records.now.items < 2 ^ 32 }
+    ensures { result ≡ live_bytes_in tree.now inode records.now.items }
+{
+    records
+        .iter()
+        .filter(|record| record.inode == inode && tree.live(inode, record.version))
+        .map(length_of)
+        .sum()
+}
+
 /// How many bytes a record takes.
 fn length_of(entry: &RecordRef) -> u64
     ensures length { result ≡ entry.now.length }
@@ -83,6 +104,6 @@ pub(crate) fn count_in(records: &VecDeque<RecordRef>, sector: u32, tree: &Tree) 
 {
     records
         .iter()
-        .filter(|entry| entry.sector == sector && tree.live(entry.inode, entry.version))
+        .filter(|entry| entry.is_in(sector) && tree.live(entry.inode, entry.version))
         .count() as u32
 }

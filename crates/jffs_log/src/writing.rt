@@ -1,12 +1,13 @@
 //! A record is written in two programs: with its gate open, and then the gate.
 
-ghost use Rattle.std.specs.Prelude.{◌+◌, ◌≤◌, length};
+ghost use Rattle.std.specs.Prelude.{◌≡◌, ◌+◌, ◌≤◌, length, replicate};
+ghost use Rattle.jffs_flash.specs.Image.{erased_byte};
 ghost use Rattle.jffs_flash.specs.Wear.{Wears, no_erase};
 ghost use Rattle.jffs_node.specs.Record.{record_len as length_of};
 ghost use Rattle.jffs_log.specs.Gate.{AreErased, MayWrite, ProgramsErased, Writes};
 
 use jffs_flash::{Flash, FlashFault};
-use jffs_node::{GATE_AT, GATE_CLOSED, GATE_OPEN, Node, encode_into, record_len};
+use jffs_node::{ERASED, GATE_AT, GATE_CLOSED, Node, encode_open_into, record_len};
 
 /// The longest record, in bytes: a quarter of the largest sector.
 pub const RECORD_MAX: usize = 4096;
@@ -27,6 +28,7 @@ pub(crate) fn write_record<F: Flash>(flash: &mut F, at: u32, node: &Node) -> Res
     requires { MayWrite at node.now (F.device flash.old).image }
     ensures written { Writes at node.now result (F.device flash.old) (F.device flash.new) }
     ensures worn { Wears no_erase (length_of node.now + 1) (F.wear flash.old) (F.wear flash.new) }
+    ensures unread { F.reads_left flash.new ≡ F.reads_left flash.old }
 {
     // A buffer is filled before a record is made in it, so a short record gets a small one.
     let len = record_len(node) as usize;
@@ -54,11 +56,13 @@ fn write_in<const SIZE: usize, F: Flash>(
     requires size { SIZE ≤ RECORD_MAX }
     ensures written { Writes at node.now result (F.device flash.old) (F.device flash.new) }
     ensures worn { Wears no_erase (length_of node.now + 1) (F.wear flash.old) (F.wear flash.new) }
+    ensures unread { F.reads_left flash.new ≡ F.reads_left flash.old }
 {
-    write_through(flash, &mut [GATE_OPEN; SIZE], at, node)
+    write_through(flash, &mut [ERASED; SIZE], at, node)
 }
 
-/// Writes the record of a node, which is made in the first bytes of a buffer.
+/// Writes the record of a node, which is made in the first bytes of a buffer. Precondition: each
+/// byte of the buffer is as an erase leaves it.
 fn write_through<F: Flash>(
     flash: &mut F,
     buffer: &mut [u8],
@@ -67,12 +71,13 @@ fn write_through<F: Flash>(
 ) -> Result<(), FlashFault>
     requires may { MayWrite at node.now (F.device flash.old).image }
     requires long { length_of node.now ≤ length buffer.old }
+    requires erased { buffer.old ≡ replicate (length buffer.old) erased_byte }
     ensures written { Writes at node.now result (F.device flash.old) (F.device flash.new) }
     ensures worn { Wears no_erase (length_of node.now + 1) (F.wear flash.old) (F.wear flash.new) }
+    ensures unread { F.reads_left flash.new ≡ F.reads_left flash.old }
 {
     let record = &mut buffer[..record_len(node) as usize];
-    encode_into(node, record);
-    record[GATE_AT] = GATE_OPEN;
+    encode_open_into(node, record);
     program_erased(flash, at, record)?;
     flash.program(at + GATE_AT as u32, &[GATE_CLOSED])
 }
@@ -83,6 +88,7 @@ fn program_erased<F: Flash>(flash: &mut F, at: u32, bytes: &[u8]) -> Result<(), 
     ensures programmed { ProgramsErased at bytes.now result (F.device flash.old)
         (F.device flash.new) }
     ensures worn { Wears no_erase (length bytes.now) (F.wear flash.old) (F.wear flash.new) }
+    ensures unread { F.reads_left flash.new ≡ F.reads_left flash.old }
 {
     flash.program(at, bytes)?;
     Ok(())

@@ -5,7 +5,7 @@ use crate::tests::{append, apply, erase, mount};
 use jffs_flash::MemoryFlash;
 use jffs_log::{Log, Mounted, RECORD_MAX, RecordRef, Room};
 use jffs_node::{Bytes, HEADER_LEN, Kind, Name, Node, record_len};
-use jffs_tree::{Cause, Tree};
+use jffs_tree::{Cause, CopySource, Tree};
 use std::alloc::{AllocError, Global};
 use std::process::Abort;
 use std::test::Fail as TestFail;
@@ -101,6 +101,17 @@ fn fill(
     panic!(rt; "the sectors don't fill")
 }
 
+/// What cleaning knows of a record of the log, by its number.
+fn source_at(log: &Log<MemoryFlash>, at: usize) -> Option<CopySource> {
+    let record = log.records().get(at)?;
+    Some(CopySource {
+        inode: record.inode,
+        version: record.version,
+        offset: record.data_offset,
+        len: usize::from(record.data_len),
+    })
+}
+
 /// Copies what lives in the oldest sector; returns the version that comes next.
 fn copy_live(
     rt: &(impl Abort + AllocGlobal),
@@ -108,11 +119,14 @@ fn copy_live(
     tree: &mut Tree,
     first: u32,
 ) -> Result<u32, TestFail> {
-    assert!(rt; !log.failed() && log.held() >= 1);
     let mut version = first;
-    for node in &log.oldest_nodes(rt.alloc())? {
-        if tree.live(node.inode, node.version) {
-            let copy = tree.cleaning_copy(node)?.with(version, 0, 0);
+    assert!(rt; !log.failed());
+    for at in 0..log.oldest_count() {
+        let Some(source) = source_at(log, at) else {
+            break;
+        };
+        if tree.live(source.inode, source.version) {
+            let copy = tree.cleaning_copy(source)?.with(version, 0, 0);
             put_copy(rt, log, tree, &copy)?;
             version = version.saturating_add(1);
         }
@@ -127,7 +141,7 @@ fn standing(log: &Log<MemoryFlash>, tree: &Tree, alloc: Global) -> Result<Before
     image.extend_from_slice(log.flash().bytes())?;
     let mut kept = Vec::new(alloc);
     for record in log.records().iter() {
-        if record.sector != sector {
+        if u32::from(record.sector) != sector {
             kept.push(*record)?;
         }
     }
@@ -232,7 +246,7 @@ impl Before {
     pub(super) fn finds(&self, rt: &(impl Abort + AllocGlobal), mounted: &Mounted<MemoryFlash>) {
         let mut at = 0usize;
         for record in mounted.log.records().iter() {
-            if record.sector != self.sector {
+            if u32::from(record.sector) != self.sector {
                 assert_eq!(rt; Some(*record), self.kept.get(at).copied());
                 at = at.saturating_add(1);
             }

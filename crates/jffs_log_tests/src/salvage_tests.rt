@@ -7,7 +7,7 @@ use crate::scan_tests::{
 };
 use crate::tests::mount;
 use jffs_flash::MemoryFlash;
-use jffs_log::{CutSector, Mounted, RecordRef, Salvaged, salvage};
+use jffs_log::{CutSector, Mounted, Salvaged, SavedRecord, salvage};
 use jffs_node::{Kind, Name, Node, Why};
 use jffs_tree::Tree;
 use std::alloc::Global;
@@ -23,7 +23,7 @@ struct Seen {
     cut: Option<CutSector>,
 }
 
-fn digits(records: &[RecordRef]) -> u32 {
+fn digits(records: &[SavedRecord]) -> u32 {
     let mut digits = 0u32;
     for found in records {
         digits = digits.wrapping_mul(10).wrapping_add(found.version);

@@ -342,10 +342,13 @@ fn a_torn_tail_is_not_clean_and_has_no_room(rt: HostRuntime) -> Result<(), TestF
 /// How many sectors the log holds, and sector, offset and length of its newest record.
 fn ends_with(rt: &impl Abort, log: &Log<MemoryFlash>, held: u32, newest: (u32, u32, u32)) {
     assert_eq!(rt; log.held(), held);
-    let last = log
-        .records()
-        .back()
-        .map(|last| (last.sector, last.offset, last.length));
+    let last = log.records().back().map(|last| {
+        (
+            u32::from(last.sector),
+            u32::from(last.offset),
+            u32::from(last.length),
+        )
+    });
     assert_eq!(rt; last, Some(newest));
 }
 

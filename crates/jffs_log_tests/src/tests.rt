@@ -3,8 +3,8 @@
 
 use jffs_flash::{Fail, Flash, FuseFlash, Fused, MemoryFlash};
 use jffs_log::{Log, Mounted, RECORD_MAX, Room, scan};
-use jffs_node::{Bytes, Kind, Name, Node, encode_into, is_lawful, record_len};
-use jffs_tree::{Cause, Tree};
+use jffs_node::{Bytes, HEADER_LEN, Kind, Name, Node, Read, decode, record_len};
+use jffs_tree::{Cause, CopySource, Tree};
 use std::alloc::{AllocError, Global};
 use std::process::Abort;
 use std::test::Fail as TestFail;
@@ -287,43 +287,38 @@ fn varied(alloc: Global, version: u32) -> Result<Node, AllocError> {
     Ok(node)
 }
 
-/// The record of a node that was read.
-fn spelled(rt: &impl Abort, alloc: Global, node: &Node) -> Result<Vec<u8>, AllocError> {
-    assert!(rt; is_lawful(node) && node.bytes.len() <= RECORD_MAX);
-    let mut record = vec![in alloc; 0u8; record_len(node) as usize]?;
-    encode_into(node, &mut record);
-    Ok(record)
+/// What cleaning knows of a record of the oldest sector, of a device that works.
+fn source_at<F: Flash>(rt: &impl Abort, log: &Log<F>, at: usize) -> CopySource {
+    assert!(rt; !log.failed());
+    assert!(rt; at < log.oldest_count());
+    log.oldest_source(at)
 }
 
-/// The oldest sector's nodes are the same, to each byte, whether they share its bytes or not;
-/// returns how many there are.
-fn oldest_are_alike(
+/// The oldest sector's records are those that its own bytes say; returns how many there are.
+fn oldest_are_known(
     rt: &(impl Abort + AllocGlobal),
     log: &mut Log<MemoryFlash>,
 ) -> Result<usize, TestFail> {
-    assert!(rt; !log.failed() && log.held() >= 1);
-    let copied = log.oldest_nodes(rt.alloc())?;
-    let shared = log.oldest_shared_nodes(rt.alloc())?;
-    assert_eq!(rt; shared.len(), copied.len());
-    for (one, other) in copied.iter().zip(shared.iter()) {
-        let wanted = spelled(rt, rt.alloc(), one)?;
-        assert_eq!(rt; spelled(rt, rt.alloc(), other)?, wanted);
+    let image = oldest_image(rt, log)?;
+    let record_max = log.record_max();
+    let mut known = 0usize;
+    let mut rest = image.as_slice();
+    for _record in 0..image.len() / HEADER_LEN {
+        let Read::Closed(node, len) = decode(rt.alloc(), rest, record_max)? else {
+            break;
+        };
+        assert_eq!(rt; source_at(rt, log, known), CopySource::of(&node));
+        known = known.saturating_add(1);
+        rest = rest.get(len as usize..).unwrap_or(&[]);
     }
-    share_one_block(rt, &shared);
-    Ok(shared.len())
+    assert!(rt; !log.failed());
+    assert_eq!(rt; log.oldest_count(), known);
+    Ok(known)
 }
 
-/// Where two nodes or more have data, none of them has a block of its own.
-fn share_one_block(rt: &impl Abort, nodes: &[Node]) {
-    let with_data = nodes.iter().filter(|node| !node.bytes.is_empty()).count();
-    for node in nodes {
-        assert!(rt; with_data < 2 || node.bytes.is_empty() || !node.bytes.is_unique());
-    }
-}
-
-/// Appends versions on erased sectors of this size, and compares the oldest sector's nodes after
-/// each; returns how many there were at most.
-fn most_alike(
+/// Appends versions on erased sectors of this size, and compares what is known of the oldest sector
+/// with its bytes after each; returns how many records there were at most.
+fn most_known(
     rt: &(impl Abort + AllocGlobal),
     sector_size: u32,
     versions: u32,
@@ -338,7 +333,7 @@ fn most_alike(
         let node = varied(rt.alloc(), version)?;
         append(rt, &mut log, &tree, &node)?;
         apply(rt, &mut tree, &node)?;
-        most = oldest_are_alike(rt, &mut log)?.max(most);
+        most = oldest_are_known(rt, &mut log)?.max(most);
         if is_oldest_dead(rt, &log, &tree) {
             erase(rt, &mut log, &tree)?;
         }
@@ -347,39 +342,30 @@ fn most_alike(
 }
 
 #[test]
-fn the_oldest_nodes_are_the_same_with_shared_data(rt: HostRuntime) -> Result<(), TestFail> {
-    assert_eq!(rt; most_alike(&rt, 1024, 60)?, 5);
-    assert_eq!(rt; most_alike(&rt, 16_384, 30)?, 29);
+fn the_oldest_records_are_those_of_its_bytes(rt: HostRuntime) -> Result<(), TestFail> {
+    assert_eq!(rt; most_known(&rt, 1024, 60)?, 5);
+    assert_eq!(rt; most_known(&rt, 16_384, 30)?, 29);
     Ok(())
 }
 
-/// The oldest sector's nodes, of a device that works.
-fn oldest_shared<F: Flash>(
-    rt: &(impl Abort + AllocGlobal),
-    log: &mut Log<F>,
-) -> Result<Vec<Node>, Cause> {
-    assert!(rt; !log.failed() && log.held() >= 1);
-    log.oldest_shared_nodes(rt.alloc())
-}
-
-/// A mount reads six sectors, and the seventh read is the last that the device allows.
+/// A mount reads six sectors, and the device allows no more reads.
 #[test]
-fn the_oldest_nodes_take_one_read(rt: HostRuntime) -> Result<(), TestFail> {
+fn the_oldest_records_are_known_without_a_read(rt: HostRuntime) -> Result<(), TestFail> {
     for amount in [0, 5] {
-        let fuse = FuseFlash::new(with_amount(&rt, amount)?, 7, Fused::All, Fail::Nothing);
-        let Mounted { mut log, .. } = mount(&rt, fuse);
-        assert_eq!(rt; oldest_shared(&rt, &mut log)?.len(), 1);
-        let read = oldest_shared(&rt, &mut log);
-        assert_eq!(rt; read.err(), Some(Cause::Device));
+        let fuse = FuseFlash::new(with_amount(&rt, amount)?, 6, Fused::All, Fail::Nothing);
+        let Mounted { log, .. } = mount(&rt, fuse);
+        let node = written(rt.alloc(), 1, amount)?;
+        assert_eq!(rt; source_at(&rt, &log, 0), CopySource::of(&node));
+        assert!(rt; !log.failed() && log.oldest_count() == 1);
     }
     Ok(())
 }
 
 #[test]
-fn a_failed_read_of_the_oldest_nodes_stops_the_log(rt: HostRuntime) -> Result<(), TestFail> {
+fn a_failed_read_of_the_oldest_sector_stops_the_log(rt: HostRuntime) -> Result<(), TestFail> {
     let fuse = FuseFlash::new(with_first(&rt)?, 6, Fused::All, Fail::Nothing);
     let Mounted { mut log, .. } = mount(&rt, fuse);
-    let read = oldest_shared(&rt, &mut log);
+    let read = oldest_image(&rt, &mut log);
     assert_eq!(rt; read.err(), Some(Cause::Device));
     assert!(rt; log.failed());
     Ok(())

@@ -1,7 +1,7 @@
 //! How often each version is live, kept under the changes of a tree and never counted anew.
 
 ghost use Rattle.std.specs.Prelude.{◌≡◌, ◌+◌, ◌-◌, ◌<◌, ◌≤◌, ◌^◌, ℕ, [], true, false, min, IfSome};
-ghost use Rattle.std.specs.Prelude.{◌⊎◌, IfNone, IfOk, IfErr, OnOk, OnErr, nat_lt, slice_get};
+ghost use Rattle.std.specs.Prelude.{◌⊎◌, All, IfNone, IfOk, IfErr, OnOk, OnErr, nat_lt, slice_get};
 ghost use Rattle.std.specs.Option.{option_map_or};
 ghost use Rattle.jffs_marks.specs.Marks.{AreKept, HaveMore, SameMarks, mark_key, mark_of, marks_of};
 ghost use Rattle.jffs_marks.specs.Marks.{IsKeyAt, BelongsAt, SplitsAt, IsPlaceWithin, mark_cmp};
@@ -201,7 +201,8 @@ impl Marks {
 
     /// Drops all spent entries.
     fn drop_spent(&mut self)
-        ensures { SameMarks self.old self.new }
+        ensures same { SameMarks self.old self.new }
+        ensures live { All (λ e. 0 < e.1) self.new }
     {
         self.counts.retain(|entry| entry.1 > 0);
     }

@@ -1,6 +1,6 @@
 //! The data of nodes, which stand in memory once: who needs them again shares them.
 
-ghost use Rattle.std.specs.Prelude.{◌≡◌, ◌<◌, ◌≤◌, length, slice_range, IfOk, OnErr};
+ghost use Rattle.std.specs.Prelude.{◌≡◌, ◌<◌, length, IfOk, OnErr};
 
 use bytes::Bytes;
 use std::alloc::{AllocError, Global};
@@ -26,15 +26,4 @@ pub fn shared(source: &Bytes) -> Result<Bytes, AllocError>
     ensures refused { OnErr result (0 < length source.now) }
 {
     source.slice(0..source.len())
-}
-
-/// The data from position `start` up to `end`, for one more owner. No byte is copied.
-///
-/// `AllocError` where the data have as many owners as can be counted; it never comes for no bytes.
-pub(crate) fn part_of(source: &Bytes, start: usize, end: usize) -> Result<Bytes, AllocError>
-    requires { (start ≤ end) × (end ≤ length source.now) }
-    ensures part { IfOk result (λ b. b ≡ slice_range source.now start end) }
-    ensures refused { OnErr result (0 < length (slice_range source.now start end)) }
-{
-    source.slice(start..end)
 }

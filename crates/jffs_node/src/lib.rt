@@ -17,7 +17,6 @@ mod numbers;
 mod path;
 mod read;
 mod record;
-mod sharing;
 mod words;
 
 ghost use Rattle.jffs_node.specs.Rows.{Spellings, Readings, SizeReadings, Paths};
@@ -32,8 +31,7 @@ pub use name::{NAME_MAX, Name};
 pub use node::{FILE_MAX, FIRST_INODE, Kind, Node, ROOT_INODE};
 pub use path::{PATH_DEPTH_MAX, Path, PathFault};
 pub use read::{NoMemory, Read, Why};
-pub use record::{encode_into, record_len};
-pub use sharing::decode_shared;
+pub use record::{encode_into, encode_open_into, record_len};
 
 /// Records are spelled as on two written examples.
 pub fn examples_are_spelled()

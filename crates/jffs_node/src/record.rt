@@ -1,13 +1,16 @@
 //! The bytes of a record.
 
 ghost use Rattle.jffs_node.specs.declared.name.TheConstants.{NAME_MAX};
-ghost use Rattle.std.specs.Prelude.{◌≡◌, ◌+◌, ◌<◌, ◌≤◌, ◌^◌, ◌++◌, length, take, replicate, IsTrue};
-ghost use Rattle.jffs_node.specs.Record.{record_len as length_of, header, name_bytes};
+ghost use Rattle.jffs_node.specs.declared.layout.TheConstants.{ERASED, GATE_AT, HEADER_LEN};
+ghost use Rattle.std.specs.Prelude.{◌≡◌, ◌+◌, ◌<◌, ◌≤◌, ◌^◌, ◌++◌, length, take, set, replicate};
+ghost use Rattle.std.specs.Prelude.{IsTrue};
+ghost use Rattle.jffs_node.specs.Record.{record_len as length_of, dsize, header, name_bytes};
 ghost use Rattle.jffs_node.specs.Record.{kind_byte as byte_of_kind, flags_byte as byte_of_flags};
-ghost use Rattle.jffs_node.specs.Record.{form_number as number_of_form, spelling, is_lawful};
+ghost use Rattle.jffs_node.specs.Record.{form_number as number_of_form, is_lawful};
+ghost use Rattle.jffs_node.specs.Record.{spelling, spelling_open, fields};
 ghost use Rattle.jffs_node.specs.Name.{padded_name};
 
-use crate::layout::{ERASED, FIRST_FORM, GATE_CLOSED, MAGIC, SECOND_FORM};
+use crate::layout::{ERASED, FIRST_FORM, GATE_CLOSED, GATE_OPEN, HEADER_LEN, MAGIC, SECOND_FORM};
 use crate::name::NAME_MAX;
 use crate::node::{Kind, Node};
 use crate::numbers::len_with_data;
@@ -23,36 +26,51 @@ pub fn record_len(node: &Node) -> u32
 }
 
 /// Writes the closed record of a node into `out`. Preconditions: the node is lawful, and `out` has
-/// as many bytes as its record. To program the record with an open gate, change the byte at
-/// [`GATE_AT`](crate::GATE_AT).
+/// as many bytes as its record.
 pub fn encode_into(node: &Node, out: &mut [u8])
     requires lawful { IsTrue (is_lawful node.now) }
     requires long { length out.old ≡ length_of node.now }
     ensures { out.new ≡ spelling node.now }
 {
-    let at = put_numbers(node, out);
-    let at = put_name(node, out, at);
-    let at = put(out, at, node.bytes.as_slice());
-    let rest = out.len() - at;
-    fill(out, at, rest, ERASED);
+    let end = HEADER_LEN + node.bytes.len();
+    put_fields(node, GATE_CLOSED, &mut out[..end]);
+    out[end..].fill(ERASED);
 }
 
-/// The numbers of a closed record stand in its first 44 bytes.
-fn put_numbers(node: &Node, out: &mut [u8]) -> usize
+/// Writes the record of a node into `out` with its gate open, as it is programmed before the gate.
+/// Preconditions: the node is lawful, and `out` has as many bytes as its record, each as an erase
+/// leaves it.
+pub fn encode_open_into(node: &Node, out: &mut [u8])
+    requires lawful { IsTrue (is_lawful node.now) }
+    requires erased { out.old ≡ replicate (length_of node.now) ERASED }
+    ensures { out.new ≡ spelling_open node.now }
+{
+    let end = HEADER_LEN + node.bytes.len();
+    put_fields(node, GATE_OPEN, &mut out[..end]);
+}
+
+/// All of a record but what fills it up.
+fn put_fields(node: &Node, gate: u8, out: &mut [u8])
+    requires lawful { IsTrue (is_lawful node.now) }
+    requires long { length out.old ≡ HEADER_LEN + dsize node.now }
+    ensures { out.new ≡ fields gate node.now }
+{
+    let at = put_numbers(node, gate, out);
+    let at = put_name(node, out, at);
+    put(out, at, node.bytes.as_slice());
+}
+
+/// The numbers of a record stand in its first 44 bytes, the gate among them.
+fn put_numbers(node: &Node, gate: u8, out: &mut [u8]) -> usize
     requires lawful { IsTrue (is_lawful node.now) }
     requires long { 44 ≤ length out.old }
     ensures at { result ≡ 44 }
     ensures length { length out.new ≡ length out.old }
-    ensures front { take 44 out.new ≡ header node.now }
+    ensures front { take 44 out.new ≡ set (header node.now) GATE_AT gate }
 {
     let amount = node.bytes.as_slice().len() as u32;
     let name_len = bytes_of_name(node).len() as u8;
-    let kind = [
-        kind_byte(node.kind),
-        flags_byte(node),
-        name_len,
-        GATE_CLOSED,
-    ];
+    let kind = [kind_byte(node.kind), flags_byte(node), name_len, gate];
     let at = put(out, 0, &MAGIC);
     let at = put(out, at, &kind);
     let at = put(out, at, &node.inode.to_be_bytes());

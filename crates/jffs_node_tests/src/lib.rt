@@ -2,6 +2,4 @@
 #![tactic(auto)]
 
 #[cfg(test)]
-mod shared_tests;
-#[cfg(test)]
 mod tests;

@@ -10,31 +10,26 @@ use std::cmp::Ordering;
 use std::process::Abort;
 use std::test::Fail;
 
-pub(super) const SECTOR: usize = 1024;
+const SECTOR: usize = 1024;
 
-pub(super) const RECORD_MAX: u32 = 256;
+const RECORD_MAX: u32 = 256;
 
 /// `hello` is written into `/f`, as the second record of a volume.
-pub(super) const HELLO: [u8; 72] = [
+const HELLO: [u8; 72] = [
     0x4A, 0x46, 0x46, 0x31, 0x01, 0x00, 0x01, 0x00, 0, 0, 0, 2, 0, 0, 0, 1, 0, 0, 0, 2, 0, 0, 0, 0,
     0, 0, 0, 5, 0, 0, 0, 0, 0, 1, 0, 2, 0, 0, 0, 2, 0, 0, 0, 5, 0x66, 0, 0, 0, 0, 0, 0, 0, 0, 0, 0,
     0, 0, 0, 0, 0, 0, 0, 0, 0, 0x68, 0x65, 0x6C, 0x6C, 0x6F, 0xFF, 0xFF, 0xFF,
 ];
 
 /// The record of a session that only unmounts.
-pub(super) const UNMOUNT: [u8; 64] = [
+const UNMOUNT: [u8; 64] = [
     0x4A, 0x46, 0x46, 0x31, 0x03, 0x00, 0x00, 0x00, 0, 0, 0, 0, 0, 0, 0, 0, 0, 0, 0, 1, 0, 0, 0, 0,
     0, 0, 0, 0, 0, 0, 0, 0, 0, 0x0A, 0, 1, 0, 0, 0, 1, 0, 0, 0, 0, 0, 0, 0, 0, 0, 0, 0, 0, 0, 0, 0,
     0, 0, 0, 0, 0, 0, 0, 0, 0,
 ];
 
 /// A sector that begins with these bytes, one of them changed, and is erased after them.
-pub(super) fn sector_with(
-    alloc: Global,
-    front: &[u8],
-    at: usize,
-    byte: u8,
-) -> Result<Vec<u8>, AllocError> {
+fn sector_with(alloc: Global, front: &[u8], at: usize, byte: u8) -> Result<Vec<u8>, AllocError> {
     let mut sector = Vec::with_capacity(alloc, SECTOR)?;
     sector.extend_from_slice(front)?;
     if at < sector.len() {

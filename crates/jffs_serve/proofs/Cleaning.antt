@@ -16,7 +16,7 @@ use Rattle.jffs_serve.specs.declared.copies.Copying.{Copying}
 use Rattle.jffs_serve.specs.declared.jobs.JobEnd.{JobEnd}
 use Rattle.jffs_serve.specs.Copies.{AreSome, HandsIn}
 use Rattle.jffs_serve.specs.Copying.{copies_of, nodes_in, wish_of}
-use Rattle.jffs_serve.specs.Cleaning.{bytes_of, images_of, Round, wishes_in, HasSeen, Cleans}
+use Rattle.jffs_serve.specs.Cleaning.{bytes_of, images_of, Round, wishes_in, SawMeanwhile, DoesRounds}
 use Rattle.jffs_serve.proofs.Copying.{some_mapped, some_along, some_of_some}
 
 abbrev rounds_of : Option (Vec ℕ) → Tree → List Round
@@ -38,18 +38,18 @@ one_at_most : (image : Option (Vec ℕ)) (tree : Tree) → length (rounds_of ima
 one_at_most None tree = omega arith
 one_at_most (Some image) tree = omega arith
 
-round_seen : (before now : History) (image : Option (Vec ℕ)) (tree : Tree) → HasSeen before now tree → AllByRecursion (λ (r : Round). HasSeen before now r.tree) (rounds_of image tree)
+round_seen : (before now : History) (image : Option (Vec ℕ)) (tree : Tree) → SawMeanwhile before now tree → AllByRecursion (λ (r : Round). SawMeanwhile before now r.tree) (rounds_of image tree)
 round_seen before now None tree seen = tt
 round_seen before now (Some image) tree seen = (seen, tt)
 
-seen_since : (before middle now : History) (rounds : List Round) → BeginsWith now middle → AllByRecursion (λ (r : Round). HasSeen before middle r.tree) rounds → AllByRecursion (λ (r : Round). HasSeen before now r.tree) rounds
+seen_since : (before middle now : History) (rounds : List Round) → BeginsWith now middle → AllByRecursion (λ (r : Round). SawMeanwhile before middle r.tree) rounds → AllByRecursion (λ (r : Round). SawMeanwhile before now r.tree) rounds
 seen_since before middle now [] more seen = tt
 seen_since before middle now (r ∷ rounds) more seen =
     let first = seen.0 in
     ((first.0, first.1, begins_trans now middle first.0 more first.2, first.3), seen_since before middle now rounds more seen.1)
 
 -- more rounds are allowed
-pub cleans_within : (few many : ℕ) (old new : JobEnd) (before now : History) (accepted accepted' : List Request) → few ≤ many → Cleans few old new before now accepted accepted' → Cleans many old new before now accepted accepted'
+pub cleans_within : (few many : ℕ) (old new : JobEnd) (before now : History) (accepted accepted' : List Request) → few ≤ many → DoesRounds few old new before now accepted accepted' → DoesRounds many old new before now accepted accepted'
 cleans_within few many old new before now accepted accepted' more did = record {
   rounds = did.rounds;
   few = let f = did.few in omega (arith, more, f);
@@ -61,11 +61,11 @@ cleans_within few many old new before now accepted accepted' more did = record {
 -- one round more, with an image or without
 pub cleans_more :
     (limit : ℕ) (old mid new : JobEnd) (before middle now : History) (a b c : List Request) (image : Option (Vec ℕ)) (wishes : List Wish)
-    → Cleans limit old mid before middle a b
+    → DoesRounds limit old mid before middle a b
     → received new.consumer ≡ received mid.consumer ++ images_of image
     → BeginsWith middle before → BeginsWith now middle
     → HandsIn wishes b c → AreSome wishes (asked_in image (view_of now).tree)
-    → Cleans (limit + 1) old new before now a c
+    → DoesRounds (limit + 1) old new before now a c
 cleans_more limit old mid new before middle now a b c image wishes did took begins grows hands some =
     let tree : Tree = (view_of now).tree in
     let last = rounds_of image tree in
@@ -81,7 +81,7 @@ cleans_more limit old mid new before middle now a b c image wishes did took begi
       taken = took ∙ (ap₂ (λ (xs ys : List (Vec ℕ)). xs ++ ys) did.taken (images_are image tree)
           ∙ (append_assoc (received old.consumer) (map image_in did.rounds) (map image_in last)
           ∙ ap (λ (xs : List (Vec ℕ)). received old.consumer ++ xs) (sym (map-append image_in did.rounds last))));
-      seen = each_append (λ (r : Round). HasSeen before now r.tree) did.rounds last (seen_since before middle now did.rounds grows did.seen)
+      seen = each_append (λ (r : Round). SawMeanwhile before now r.tree) did.rounds last (seen_since before middle now did.rounds grows did.seen)
           (round_seen before now image tree (now, begins_trans now middle before grows begins, begins_self now, refl));
       asked = (
         did.asked.0 ++ hands.0,

@@ -5,7 +5,7 @@ use Rattle.jffs_node.specs.declared.node.Node.{Node}
 use Rattle.jffs_tree.specs.declared.wish.Cause.{Cause}
 use Rattle.jffs_tree.specs.declared.wish.Cause.TheVariants as causes
 use Rattle.jffs_log.specs.LogIndex.{HasSizes}
-use Rattle.jffs_core.specs.CoreState.{CoreState, IsSameButCapacity}
+use Rattle.jffs_core.specs.CoreState.{CoreState, IsSameButCapacity, SameButReads}
 use Rattle.jffs_core.specs.History.{MayFollow}
 use Rattle.jffs_core.specs.Past.{RepresentsWorking, Represents, HasFailed, OrOneMore}
 use Rattle.jffs_core.specs.Calls.{FailsIn, ProgramsOnce}
@@ -119,9 +119,23 @@ wanted_works core wanted = not-true core.failed (and_parts (not core.failed) _ w
 unchanged : (old new : CoreState) → new ≡ old → KeepsHistory old new
 unchanged old new same = subst (KeepsHistory old) (sym same) (same_but_capacity old old refl)
 
+-- bytes were read of a core that works
+read_only : (old new : CoreState) → old.failed ≡ false → SameButReads old new → ((mounted past : List Node) → Represents mounted past old → Represents mounted past new) → KeepsHistory old new
+read_only old new works same stands = subst (KeepsHistory old) (sym same) (record {
+  sizes = (refl, refl);
+  erases = erased_same 0 old (record old { reads_left = new.reads_left }) refl (uses_none old (record old { reads_left = new.reads_left }) refl refl refl refl refl (λ k. omega arith));
+  closed = λ is. (is, refl, refl);
+  failed = λ f. absurd (both_ways old.failed works f);
+  faults = λ w past k. refl;
+  two = λ w past k two. two;
+  fails = λ w f. absurd (both_ways old.failed w f);
+  programs = λ mounted past s. omega arith;
+  stands = λ mounted past s. subst (Represents mounted past) same (stands mounted past s);
+})
+
 -- a read failed of a core that had worked
 read_failed :
-    (old new : CoreState) → old.failed ≡ false → new ≡ record old { failed = new.failed; faults = new.faults } → new.failed ≡ true → old.faults < new.faults → new.erase_failed ≡ false
+    (old new : CoreState) → old.failed ≡ false → new ≡ record old { failed = new.failed; faults = new.faults; reads_left = new.reads_left } → new.failed ≡ true → old.faults < new.faults → new.erase_failed ≡ false
     → ((mounted past : List Node) → Represents mounted past old → Represents mounted past new) → KeepsHistory old new
 read_failed old new works same now risen intact stands =
     let left : (past : List Node) → RepresentsWorking past old → HasFailed (λ n. ⊥) past new = λ past k. subst (HasFailed (λ n. ⊥) past) (sym same) (record {
@@ -132,7 +146,7 @@ read_failed old new works same now risen intact stands =
     }) in
     record {
       sizes = subst (λ (c : CoreState). HasSizes old.index.sectors old.index.sector_size c.index) (sym same) (refl, refl);
-      erases = erased_same 0 old new (ap (λ (c : CoreState). c.index) same) (subst (UsesDevice old) (sym same) (uses_none old (record old { failed = new.failed; faults = new.faults }) refl refl refl refl refl (λ k. omega arith)));
+      erases = erased_same 0 old new (ap (λ (c : CoreState). c.index) same) (subst (UsesDevice old) (sym same) (uses_none old (record old { failed = new.failed; faults = new.faults; reads_left = new.reads_left }) refl refl refl refl refl (λ k. omega arith)));
       closed = λ is. (ap (λ (c : CoreState). c.closed) same ∙ is, ap (λ (c : CoreState). c.index) same, ap (λ (c : CoreState). c.image) same);
       failed = λ f. absurd (both_ways old.failed works f);
       faults = λ w past k. absurd (both_ways new.failed w now);
@@ -144,10 +158,10 @@ read_failed old new works same now risen intact stands =
 
 -- the oldest sector was read, or not
 pub read_kept :
-    {A : Type 0} (old new : CoreState) (result : Result A Cause) → old.failed ≡ false → new ≡ record old { failed = new.failed; faults = new.faults }
-    → OnOk result ((new.failed ≡ false) × (new ≡ old)) → IfErr result (λ cause. ReadRefused cause old new)
+    {A : Type 0} (old new : CoreState) (result : Result A Cause) → old.failed ≡ false → new ≡ record old { failed = new.failed; faults = new.faults; reads_left = new.reads_left }
+    → OnOk result ((new.failed ≡ false) × SameButReads old new) → IfErr result (λ cause. ReadRefused cause old new)
     → ((mounted past : List Node) → Represents mounted past old → Represents mounted past new) → KeepsHistory old new
-read_kept old new (Ok bytes) works same ok refused stands = unchanged old new ok.1
+read_kept old new (Ok bytes) works same ok refused stands = read_only old new works ok.1 stands
 read_kept old new (Err cause) works same ok refused stands = by_cause cause refused
   where
     by_cause : (cause : Cause) → ReadRefused cause old new → KeepsHistory old new

@@ -39,7 +39,7 @@ shows_step shown old new step tells shows = ⊎_elim
 pub tree_along : (a b c : CoreState) → KeepsTree a b → KeepsTree b c → KeepsTree a c
 tree_along a b c h k = λ works. let later = k works in let first = h later.0 in (first.0, later.1 ∙ first.1)
 
-pub read_tree : (old new : CoreState) → old.failed ≡ false → new ≡ record old { failed = new.failed; faults = new.faults } → KeepsTree old new
+pub read_tree : (old new : CoreState) → old.failed ≡ false → new ≡ record old { failed = new.failed; faults = new.faults; reads_left = new.reads_left } → KeepsTree old new
 read_tree old new worked same = λ works. (worked, ap (λ (c : CoreState). c.tree) same)
 
 capacity_tree : (old new : CoreState) → IsSameButCapacity old new → KeepsTree old new

@@ -33,17 +33,17 @@ abbrev pub wishes_in : Round → List Wish
 wishes_in r = map wish_of (copies_of r.tree (nodes_in r.image.items))
 
 -- one who knew the first history and knows the second now has seen this tree meanwhile
-abbrev pub HasSeen : History → History → Tree → Type 0
-HasSeen before now tree = (seen : History) × BeginsWith seen before × BeginsWith now seen
+abbrev pub SawMeanwhile : History → History → Tree → Type 0
+SawMeanwhile before now tree = (seen : History) × BeginsWith seen before × BeginsWith now seen
     × (tree ≡ (view_of seen).tree)
 
 -- So many rounds had an image at most, each the one that was sent next, and looked once. What was
 -- handed in are copies of what lived there, each of them once at most, in order.
-pub record Cleans (limit : ℕ) (old new : JobEnd) (before now : History)
+pub record DoesRounds (limit : ℕ) (old new : JobEnd) (before now : History)
     (accepted accepted' : List Request) : Type 0 where
   pub rounds : List Round
   pub few : length rounds ≤ limit
   pub taken : received new.consumer
       ≡ received old.consumer ++ map (λ (r : Round). r.image) rounds
-  pub seen : AllByRecursion (λ (r : Round). HasSeen before now r.tree) rounds
+  pub seen : AllByRecursion (λ (r : Round). SawMeanwhile before now r.tree) rounds
   pub asked : HandsIn (flat_map wishes_in rounds) accepted accepted'

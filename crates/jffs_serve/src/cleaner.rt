@@ -7,7 +7,7 @@ ghost use Rattle.jffs_index.specs.Histories.{BeginsWith, view_of};
 ghost use Rattle.jffs_index.specs.Ends.{known, index_of};
 ghost use Rattle.jffs_serve.specs.Copies.{HandsInCopies, HandsIn, AreSome, AddsSome};
 ghost use Rattle.jffs_serve.specs.Copying.{copies_of, nodes_in, wish_of};
-ghost use Rattle.jffs_serve.specs.Cleaning.{Cleans, bytes_of};
+ghost use Rattle.jffs_serve.specs.Cleaning.{DoesRounds, bytes_of};
 
 use crate::copies::{Copying, add_copies, nodes_of};
 use crate::jobs::JobEnd;
@@ -55,7 +55,7 @@ pub fn clean_loop<R: Wait, H: Hand>(
     ensures end { (H.sender hand.new ≡ H.sender hand.old) × (H.line hand.new ≡ H.line hand.old) }
     ensures reader { (index_of reader.new ≡ index_of reader.old)
         × BeginsWith (known reader.new) (known reader.old) }
-    ensures cleans { Cleans limit jobs.old jobs.new (known reader.old) (known reader.new)
+    ensures cleans { DoesRounds limit jobs.old jobs.new (known reader.old) (known reader.new)
         (H.accepted hand.old) (H.accepted hand.new) }
 {
     clean_until(rt, alloc, jobs, reader, hand, limit, &Ended::new())
@@ -75,7 +75,7 @@ pub fn clean_until<R: Wait, H: Hand>(
     ensures end { (H.sender hand.new ≡ H.sender hand.old) × (H.line hand.new ≡ H.line hand.old) }
     ensures reader { (index_of reader.new ≡ index_of reader.old)
         × BeginsWith (known reader.new) (known reader.old) }
-    ensures cleans { Cleans limit jobs.old jobs.new (known reader.old) (known reader.new)
+    ensures cleans { DoesRounds limit jobs.old jobs.new (known reader.old) (known reader.new)
         (H.accepted hand.old) (H.accepted hand.new) }
 {
     let mut pauses = Pauses::up_to(IDLE_SLEEP_MAX);

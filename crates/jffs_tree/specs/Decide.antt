@@ -19,6 +19,7 @@ use Rattle.jffs_tree.specs.declared.wish.Cause.TheVariants.{FileLong, NotEmpty, 
 use Rattle.jffs_tree.specs.declared.wish.Cause.TheVariants.{InodesSpent, VersionsSpent}
 use Rattle.jffs_tree.specs.declared.wish.Limits.{Limits}
 use Rattle.jffs_tree.specs.declared.wish.NewNode.{NewNode}
+use Rattle.jffs_tree.specs.declared.cleaning.CopySource.{CopySource}
 use Rattle.jffs_inodes.specs.Held.{Entry, Held, is_current}
 use Rattle.jffs_tree.specs.State.{State, at, resolve, is_directory_in, state_of_past}
 use Rattle.jffs_inodes.specs.Inodes.{Tree}
@@ -257,10 +258,19 @@ with n version writer seq = record {
   bytes = n.bytes;
 }
 
--- The copy that cleaning makes of a live node: it says anew what the file has now where the source
--- wrote, up to the file's end.
+-- what cleaning knows of a node's record
+abbrev pub source_of : Node → CopySource
+source_of n =
+    record { inode = n.inode; version = n.version; offset = n.offset; len = dsize n }
+
+-- The copy that cleaning makes of a live record: it says anew what the file has now where the
+-- source wrote, up to the file's end.
+abbrev pub copy_of_source : State → CopySource → NewNode
+copy_of_source s source =
+    let e = entry_of s source.inode in
+    let offset = min source.offset (length e.bytes) in
+    copy_node source.inode e offset (take source.len (drop offset e.bytes))
+
+-- the copy of a node's record
 abbrev pub cleaning_copy : State → Node → NewNode
-cleaning_copy s n =
-    let e = entry_of s n.inode in
-    let offset = min n.offset (length e.bytes) in
-    copy_node n.inode e offset (take (dsize n) (drop offset e.bytes))
+cleaning_copy s n = copy_of_source s (source_of n)

@@ -1,7 +1,7 @@
 -- The index of children: for each inode where it stands, in the order of directory, name and inode.
 use Rattle.std.specs.Prelude.{◌≡◌, ℕ, Bool, true, false, not, ◌&&◌, ◌==◌, List, [], ◌∷◌, flat_map}
-use Rattle.std.specs.Prelude.{Option, Some, None, option_map, bytes_eq, if◌then◌else◌}
-use Rattle.std.specs.List.{list_any}
+use Rattle.std.specs.Prelude.{Option, Some, None, IsSome, option_map, bytes_eq, if◌then◌else◌}
+use Rattle.std.specs.List.{list_any, AllByRecursion}
 use Rattle.std.specs.Option.{option_map_or, option_to_list, option_cmp}
 use Rattle.std.specs.Ordering.{ordering_then, nat_cmp}
 use Rattle.std.specs.Cmp.Lexicographic.{slice_cmp}
@@ -44,6 +44,10 @@ stands_at tree q = option_map_or (λ h. (h.entry.parent == q.0) && is_named h.en
 -- The index has just the keys where the inodes of the tree stand.
 abbrev pub IsIndexOf : Tree → List ChildKey → Type 0
 IsIndexOf tree keys = (q : ChildKey) → has_child keys q ≡ stands_at tree q
+
+-- each key has a name
+abbrev pub HaveNames : List ChildKey → Type 0
+HaveNames keys = AllByRecursion (λ q. IsSome q.1) keys
 
 -- what a key says of a directory: a name with its inode, or nothing
 abbrev pub name_under : ℕ → ChildKey → List (List ℕ × ℕ)

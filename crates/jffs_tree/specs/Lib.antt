@@ -6,6 +6,7 @@ pub mod After
 pub mod Index
 pub mod Indexed
 pub mod Look
+pub mod Listing
 pub mod Laws
 pub mod Examples
 pub mod Deciding

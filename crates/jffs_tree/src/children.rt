@@ -1,16 +1,20 @@
 //! The index of children, by which a name is found without a walk over all inodes.
 
 ghost use Rattle.std.specs.Prelude.{◌≡◌, ◌==◌, ◌&&◌, ◌≤◌, ℕ, true, false, Some, None, Option};
-ghost use Rattle.std.specs.Prelude.{IfSome, IfNone, IfOk};
+ghost use Rattle.std.specs.Prelude.{IfSome, IfNone, IfOk, ◌<◌, ◌^◌};
 ghost use Rattle.std.specs.List.Sorted.{IsStrictlySortedBy};
 ghost use Rattle.std.specs.Option.{option_map_or};
 ghost use Rattle.jffs_tree.specs.Index.{ChildKey, has_child, is_named, names_under};
 ghost use Rattle.jffs_tree.specs.Index.{key_cmp, namesakes, apart_from};
 ghost use Rattle.jffs_tree.specs.Look.{name_cmp};
+ghost use Rattle.jffs_tree.specs.Index.{HaveNames};
+ghost use Rattle.jffs_tree.specs.Listing.{is_past};
+ghost use Rattle.std.specs.List.{find};
 
 use jffs_node::Name;
 use std::alloc::{AllocError, Global};
 use std::collections::BTreeSet;
+use std::ops::Bound;
 
 /// A directory, a name in it and the inode that stands there. A key without a name is before
 /// all names of its directory.
@@ -70,6 +74,42 @@ pub(crate) fn names_of(
         }
     }
     Ok(names)
+}
+
+/// The first name in a directory whose key is after the one of this name and inode.
+pub(crate) fn name_past(
+    children: &BTreeSet<ChildKey>,
+    parent: u32,
+    name: Option<Name>,
+    inode: u32,
+) -> Option<(Name, u32)>
+    requires named { HaveNames children.now.keys }
+    ensures first { result
+        ≡ find (is_past (parent, name, inode)) (names_under parent children.now.keys) }
+    ensures ordered { IsStrictlySortedBy key_cmp children.now.keys }
+    ensures fits { IfSome result (λ found. found.1 < 2 ^ 32) }
+{
+    let from = (parent, name, inode);
+    let mut rest = children.range((Bound::Excluded(from), Bound::Unbounded));
+    let Some(key) = rest.next() else {
+        return None;
+    };
+    let (directory, found, inode) = *key;
+    if directory != parent {
+        return None;
+    }
+    match found {
+        Some(name) => Some(entry(name, inode)),
+        None => None,
+    }
+}
+
+/// A name with its inode.
+fn entry(name: Name, inode: u32) -> (Name, u32)
+    ensures is { result ≡ (name, inode) }
+    ensures fits { inode < 2 ^ 32 }
+{
+    (name, inode)
 }
 
 /// The same keys once more.

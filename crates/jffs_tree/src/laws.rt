@@ -7,6 +7,7 @@ ghost use Rattle.jffs_tree.specs.Laws.{ErasingKeepsOrigins, RulesGiveOrigins, Er
 ghost use Rattle.jffs_tree.specs.Laws.{BytesComeFromOrigins, TreesStepByNodes, TreesTestAsNodes};
 ghost use Rattle.jffs_tree.specs.Laws.{DecidesByTree, AcceptedCopiesAreTrue, CleaningCopiesAreTrue};
 ghost use Rattle.jffs_tree.specs.Done.{DecidedIsDone, NewInodesAreFree};
+ghost use Rattle.jffs_tree.specs.Listing.{ListingsAreOne, NamesBegin, NamesFollow};
 ghost use Rattle.jffs_tree.specs.Examples.{Overwriting, Truncating, Copying, Removing};
 ghost use Rattle.jffs_tree.specs.Examples.{Doing};
 
@@ -65,4 +66,12 @@ pub fn decisions_hold()
 pub fn decided_is_done()
     ensures done { DecidedIsDone }
     ensures free { NewInodesAreFree }
+{}
+
+/// Who begins with the first name of a directory, and goes on from each to the first after it, goes
+/// through its listing.
+pub fn names_follow()
+    ensures one { ListingsAreOne }
+    ensures begin { NamesBegin }
+    ensures follow { NamesFollow }
 {}

@@ -22,10 +22,11 @@ mod names;
 mod tree;
 mod wish;
 
+pub use cleaning::CopySource;
 pub use deciding::decided_nodes_keep_rules;
 pub use laws::{
     bytes_come_from_origins, decided_is_done, decisions_hold, erasing_keeps_tree,
-    examples_are_decided, tree_of_none, trees_step_by_nodes, trees_test_as_nodes,
+    examples_are_decided, names_follow, tree_of_none, trees_step_by_nodes, trees_test_as_nodes,
     true_copies_keep_state,
 };
 pub use tree::Tree;

@@ -1,13 +1,14 @@
 //! Wishes one by one on a tree, without a log.
 //! Offsets, sizes and contents are worked out on paper from docs/FORMAT.md, section 8.
 
+mod listing;
 mod live;
 mod look_ups;
 mod wishes;
 
 use crate::tests::wishes::{path, wish_of};
 use jffs_node::{Kind, Name, NoMemory, Node};
-use jffs_tree::{Cause, Limits, Tree, Wish};
+use jffs_tree::{Cause, CopySource, Limits, Tree, Wish};
 use std::alloc::{AllocError, Global};
 use std::process::Abort;
 use std::test::Fail;
@@ -226,9 +227,9 @@ fn cleaned(session: &Session, source: &Node) -> Result<Node, Fail> {
     if !session.tree.live(source.inode, source.version) {
         return Err("it isn't live".into());
     }
-    let copied = match session.tree.cleaning_copy(source) {
+    let copied = match session.tree.cleaning_copy(CopySource::of(source)) {
         Ok(copied) => copied,
-        Err(NoMemory) => session.tree.cleaning_copy(source)?,
+        Err(NoMemory) => session.tree.cleaning_copy(CopySource::of(source))?,
     };
     Ok(copied.with(session.next_version.unwrap_or(0), 0, 0))
 }

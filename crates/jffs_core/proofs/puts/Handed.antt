@@ -11,7 +11,7 @@ use Rattle.jffs_flash.specs.Image.{IsHalfErased}
 use Rattle.jffs_log.specs.declared.log_index.LogIndex.{LogIndex}
 use Rattle.jffs_log.specs.LogIndex.{layout_in, HasSizes}
 use Rattle.jffs_log.specs.Erasable.{MayErase}
-use Rattle.jffs_log.specs.LogState.{LogState, ErasedOldest, EraseFailed, ReadFailed, ReadStopped}
+use Rattle.jffs_log.specs.LogState.{LogState, ErasedOldest, EraseFailed, ReadFailed, ReadStopped, SameButReads}
 use Rattle.jffs_core.specs.CoreState.{CoreState}
 use Rattle.jffs_core.specs.History.{IsOwnCopy}
 use Rattle.jffs_core.specs.Past.{IsPast, HasFailed, HasLogIndex, WasErasing}
@@ -107,7 +107,7 @@ abbrev Known : LogState → Tree → Limits → Bool → Type 0
 Known log tree limits clean = HasLogIndex log.failed log.device.sectors log.device.sector_size log.device.image log.index tree limits clean
 
 -- It is known after a read too.
-pub read_known : {A : Type 0} (r : Result A Cause) (old new : LogState) (tree : Tree) (limits : Limits) (clean : Bool) → OnOk r (new ≡ old) → IfErr r (λ why. ReadStopped why old new) → Known old tree limits clean → Known new tree limits clean
+pub read_known : {A : Type 0} (r : Result A Cause) (old new : LogState) (tree : Tree) (limits : Limits) (clean : Bool) → OnOk r (SameButReads old new) → IfErr r (λ why. ReadStopped why old new) → Known old tree limits clean → Known new tree limits clean
 read_known (Ok x) old new tree limits clean same stopped h = subst (λ (l : LogState). Known l tree limits clean) (sym same) h
 read_known (Err why) old new tree limits clean same stopped h = read_refused (λ c. Known new tree limits clean) old new
     (λ same. subst (λ (l : LogState). Known l tree limits clean) (sym same) h)

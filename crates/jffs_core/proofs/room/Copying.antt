@@ -3,7 +3,7 @@ use Rattle.std.proofs.Common.{◌≡◌, ◌⊎◌, inl, inr, ℕ, zero, suc, �
 use Rattle.std.specs.List.{AllByRecursion}
 use Rattle.std.specs.Int.{from_bool}
 use Rattle.std.proofs.Math.Seq.{take-suc}
-use Rattle.std.proofs.lemmas.List.{append-nil, take-append-drop}
+use Rattle.std.proofs.lemmas.List.{append-nil, length-map, take-append-drop}
 use Rattle.std.proofs.lemmas.Bool.{and_parts, and_from, both_ways, false_from_ne_true}
 use Rattle.jffs_node.specs.declared.node.Node.{Node}
 use Rattle.jffs_node.specs.Record.{record_len, dsize, fits_rest}
@@ -11,7 +11,7 @@ use Rattle.jffs_node.proofs.Each.{each_at}
 use Rattle.jffs_tree.specs.declared.wish.Cause.{Cause}
 use Rattle.jffs_tree.specs.declared.wish.Cause.TheVariants as causes
 use Rattle.jffs_tree.specs.Laws.{NoneLive}
-use Rattle.jffs_log.specs.Image.{nodes_of}
+use Rattle.jffs_log.specs.Image.{Placed, nodes_of}
 use Rattle.jffs_log.specs.LogIndex.{HasSizes, layout_in, oldest_in, lives_in}
 use Rattle.jffs_log.specs.Cleaning.{GcState, handled, handled_each, copy_has_room, copies_have_room, oldest_records, erase_oldest, stands_from}
 use Rattle.jffs_log.specs.RoomLaws.{Among}
@@ -32,6 +32,10 @@ use Rattle.jffs_core.specs.Erases.{Leaves}
 use Rattle.jffs_core.proofs.room.Erasing.{leaves_all}
 use Rattle.jffs_core.proofs.answers.Full.{sizes_low}
 use Rattle.jffs_core.proofs.room.Sweeping.{erase_refused, oldest_is}
+
+-- the records of the oldest sector
+abbrev pub the_oldest : CoreState → List Node
+the_oldest c = oldest_records (layout_in c.image c.index).sectors
 
 -- The first k of the oldest sector's records were handled.
 pub record IsCopying (nodes : List Node) (k copies : ℕ) (old now : CoreState) : Type 0 where
@@ -158,7 +162,7 @@ copying_has_room nodes past after k copies node cause old middle new known oldes
   wants = record {
     at_turn = without;
     to_copy = λ e. (node, subst (Among node) oldest (subst (λ n. Among n nodes) (sym is) (at_among nodes k node below)), stopped.live);
-    version = λ e. inr (stopped.version e);
+    version = stopped.version;
   };
 }
   where
@@ -177,6 +181,26 @@ copying_has_room nodes past after k copies node cause old middle new known oldes
         let one = and_parts (copy_has_room node (handled_each z (take k nodes) s)) (copies_have_room z rest (handled z node (handled_each z (take k nodes) s))) parts.1 in
         both_ways _ (ap (copy_has_room node) (sym h.turn) ∙ stopped.no_room e) one.0)
 
+-- The oldest sector holds what it held, whichever of its records were handled.
+pub oldest_still : (nodes past after : List Node) (copies : ℕ) (old middle : CoreState) → 2 ≤ length (layout_in old.image old.index).sectors → HasCopied nodes past after copies old middle
+    → nodes_of (oldest_in middle.image middle.index) ≡ oldest_records (layout_in old.image old.index).sectors
+oldest_still nodes past after copies old middle several h =
+    oldest_is middle.image middle.index ∙ ap (λ (s : GcState). oldest_records s.log.sectors) h.turn ∙ (oldest_stays old.index.sector_size nodes (gc_state past old) several).0
+
+-- how many there are
+pub oldest_many : (c : CoreState) → length (oldest_in c.image c.index) ≡ length (oldest_records (layout_in c.image c.index).sectors)
+oldest_many c = sym (length-map (oldest_in c.image c.index) (λ (p : Placed). p.node)) ∙ ap (λ (ns : List Node). length ns) (oldest_is c.image c.index)
+
+abbrev pub node_at : (xs : List Node) (i : ℕ) → i < length xs → Node
+node_at [] i below = absurd (omega arith)
+node_at (x ∷ xs) zero below = x
+node_at (x ∷ xs) (suc i) below = node_at xs i (omega arith)
+
+pub at_node : (xs : List Node) (i : ℕ) (d : Node) (below : i < length xs) → node_at xs i below ≡ get_or xs i d
+at_node [] i d below = absurd (omega arith)
+at_node (x ∷ xs) zero d below = refl
+at_node (x ∷ xs) (suc i) d below = at_node xs i d (omega arith)
+
 -- Once all were handled none of them is live.
 module _ (nodes past after : List Node) (copies : ℕ) (old middle : CoreState) (known : RepresentsWorking past old) (oldest : nodes ≡ oldest_records (layout_in old.image old.index).sectors)
     (several : 2 ≤ length (layout_in old.image old.index).sectors) (h : HasCopied nodes past after copies old middle) where
@@ -187,7 +211,7 @@ module _ (nodes past after : List Node) (copies : ℕ) (old middle : CoreState) 
   still_several = subst (λ (s : GcState). 2 ≤ length s.log.sectors) (sym h.turn) stays.1
 
   still_oldest : nodes_of (oldest_in middle.image middle.index) ≡ nodes
-  still_oldest = oldest_is middle.image middle.index ∙ ap (λ (s : GcState). oldest_records s.log.sectors) h.turn ∙ stays.0 ∙ sym oldest
+  still_oldest = oldest_still nodes past after copies old middle several h ∙ sym oldest
 
   now_dead : AllByRecursion (λ p. lives_in middle.tree p ≡ false) (oldest_in middle.image middle.index)
   now_dead =

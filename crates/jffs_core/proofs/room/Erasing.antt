@@ -145,10 +145,11 @@ leaves_all most c = record {
   sizes = (refl, refl);
   erases = omega arith;
   device = uses_nothing c;
+  unread = refl;
 }
 
 pub leaves_more : (few most : ℕ) (old new : CoreState) → few ≤ most → Leaves few old new → Leaves most old new
-leaves_more few most old new more h = record { same = h.same; sizes = h.sizes; erases = let e = h.erases in omega arith; device = h.device }
+leaves_more few most old new more h = record { same = h.same; sizes = h.sizes; erases = let e = h.erases in omega arith; device = h.device; unread = h.unread }
 
 -- Two calls, of which the first didn't fail.
 pub leaves_within : (first second most : ℕ) (old middle new : CoreState) → new.index.erases ≤ old.index.erases + most → middle.failed ≡ false → Leaves first old middle → Leaves second middle new → Leaves most old new
@@ -157,6 +158,7 @@ leaves_within first second most old middle new few works a b = record {
   sizes = (a.sizes.0 ∙ b.sizes.0, a.sizes.1 ∙ b.sizes.1);
   erases = few;
   device = uses_along old middle new (λ w. works) a.device b.device;
+  unread = b.unread ∙ a.unread;
 }
 
 pub leaves_along : (first second most : ℕ) (old middle new : CoreState) → first + second ≤ most → middle.failed ≡ false → Leaves first old middle → Leaves second middle new → Leaves most old new
@@ -164,28 +166,30 @@ leaves_along first second most old middle new more works a b =
     let x = a.erases in let y = b.erases in leaves_within first second most old middle new (omega arith) works a b
 
 -- The oldest sector was to be erased.
-pub leaves_one : (old seen new : CoreState) → old ≡ seen → SameAnswers old new → HasSizes old.index.sectors old.index.sector_size new.index → new.index.erases ≤ old.index.erases + 1 → UsesDevice old new → Leaves 1 seen new
-leaves_one old seen new is same sizes erases device = subst (λ (c : CoreState). Leaves 1 c new) is (record { same = same; sizes = sizes; erases = erases; device = device })
+pub leaves_one : (old seen new : CoreState) → old ≡ seen → SameAnswers old new → HasSizes old.index.sectors old.index.sector_size new.index → new.index.erases ≤ old.index.erases + 1 → UsesDevice old new → new.reads_left ≡ old.reads_left → Leaves 1 seen new
+leaves_one old seen new is same sizes erases device unread = subst (λ (c : CoreState). Leaves 1 c new) is (record { same = same; sizes = sizes; erases = erases; device = device; unread = unread })
 
 -- Memory was reserved for the log of a core, and perhaps a record was appended.
 pub leaves_kept :
     (old seen new : CoreState) (middle : LogState) (bytes : ℕ) → old ≡ seen → SameAnswers old new
     → IsSameLogIndex old.index middle.index → middle.device.failed_erases ≡ old.failed_erases → middle.erase_failed ≡ old.erase_failed → middle.wear ≡ old.wear
-    → KeepsNumbers middle.index new.index → new.failed_erases ≡ middle.device.failed_erases → new.erase_failed ≡ middle.erase_failed → Wears no_erase bytes middle.wear new.wear → Leaves 0 seen new
-leaves_kept old seen new middle bytes is same s failed flag wear k more_failed more_flag worn = subst (λ (c : CoreState). Leaves 0 c new) is (record {
+    → KeepsNumbers middle.index new.index → new.failed_erases ≡ middle.device.failed_erases → new.erase_failed ≡ middle.erase_failed → Wears no_erase bytes middle.wear new.wear → new.reads_left ≡ old.reads_left → Leaves 0 seen new
+leaves_kept old seen new middle bytes is same s failed flag wear k more_failed more_flag worn unread = subst (λ (c : CoreState). Leaves 0 c new) is (record {
   same = same;
   sizes = (sym s.sectors ∙ k.sizes.0, sym s.sector_size ∙ k.sizes.1);
   erases = let e = s.erases in let f = k.erases in omega arith;
   device = uses_none old new (sym k.sizes.0 ∙ s.sectors) (k.first ∙ s.first) (k.erases ∙ s.erases) (more_failed ∙ failed) (more_flag ∙ flag)
       (λ k. let none : no_erase k ≡ 0 = refl in let more = worn.erased k in let before = ap (λ (w : Wear). erases_at w k) wear in omega arith);
+  unread = unread;
 })
 
-pub leaves_reserved : (old seen new : CoreState) → old ≡ seen → SameAnswers old new → IsSameLogIndex old.index new.index → new.failed_erases ≡ old.failed_erases → new.erase_failed ≡ old.erase_failed → new.wear ≡ old.wear → Leaves 0 seen new
-leaves_reserved old seen new is same s failed flag wear = subst (λ (c : CoreState). Leaves 0 c new) is (record {
+pub leaves_reserved : (old seen new : CoreState) → old ≡ seen → SameAnswers old new → IsSameLogIndex old.index new.index → new.failed_erases ≡ old.failed_erases → new.erase_failed ≡ old.erase_failed → new.wear ≡ old.wear → new.reads_left ≡ old.reads_left → Leaves 0 seen new
+leaves_reserved old seen new is same s failed flag wear unread = subst (λ (c : CoreState). Leaves 0 c new) is (record {
   same = same;
   sizes = (sym s.sectors, sym s.sector_size);
   erases = let e = s.erases in omega arith;
   device = uses_none old new s.sectors s.first s.erases failed flag (λ k. let e = ap (λ (w : Wear). erases_at w k) wear in omega arith);
+  unread = unread;
 })
 
 -- No more sectors are erased than hold the log.
@@ -211,6 +215,7 @@ answer_bounded old middle new q o few h kept most =
       };
       for_wish = omega arith;
       few = omega arith;
+      unread = ap (λ (c : CoreState). c.reads_left) kept ∙ h.unread;
     }
 
 -- Dead sectors are erased one after another.

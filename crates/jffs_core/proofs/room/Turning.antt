@@ -5,6 +5,7 @@ use Rattle.std.proofs.lemmas.Bool.{or_left}
 use Rattle.jffs_node.specs.declared.node.Node.{Node}
 use Rattle.jffs_node.proofs.Each.{each_front}
 use Rattle.jffs_tree.specs.declared.wish.Cause.{Cause}
+use Rattle.jffs_log.specs.declared.room.Room.TheVariants as rooms
 use Rattle.jffs_log.specs.LogIndex.{HasSizes, layout_in}
 use Rattle.jffs_log.specs.Work.{live_and_free}
 use Rattle.jffs_log.specs.Cleaning.{used, GcState, cleaned, copies_have_room, fresh_has_room, handled_each, oldest_records, room_made}
@@ -16,10 +17,12 @@ use Rattle.jffs_log.proofs.rooms.WorkOfTurns.{IsTurning as MayCopy, IsSpent, spe
 use Rattle.jffs_core.specs.CoreState.{CoreState}
 use Rattle.jffs_core.specs.Run.{OnlyCopies}
 use Rattle.jffs_core.specs.History.{IsOwnCopy}
-use Rattle.jffs_core.specs.Past.{RepresentsWorking, gc_state}
+use Rattle.jffs_core.specs.Past.{RepresentsWorking, gc_state, has_room_for}
 use Rattle.jffs_core.specs.Step.{room_can_be_made}
 use Rattle.jffs_core.specs.Calls.{WorksOn}
-use Rattle.jffs_core.specs.Cleaning.{HasCleaned, HasMadeRoom, MakingStopped, SectorStopped}
+use Rattle.jffs_core.specs.declared.cleaning.Cleaned.{Cleaned}
+use Rattle.jffs_core.specs.declared.cleaning.Cleaned.TheVariants.{Erased, OneSector}
+use Rattle.jffs_core.specs.Cleaning.{DidClean, HasCleaned, HasMadeRoom, MakingStopped, SectorStopped}
 use Rattle.jffs_core.proofs.answers.Lawful.{copies_along}
 use Rattle.jffs_core.proofs.answers.Refusing.{refused_along, works_along, works_still}
 use Rattle.jffs_core.specs.Erases.{Leaves}
@@ -39,13 +42,15 @@ pub record HasTurned (len left : ℕ) (past after : List Node) (old now : CoreSt
 pub record IsTurning (len left : ℕ) (old now : CoreState) : Type 0 where
   pub works : now.failed ≡ false
   pub few : left ≤ old.index.held
+  pub none : has_room_for now rooms.Fresh len ≡ false
   pub leaves : Leaves (old.index.held - left) old now
   pub done : (past : List Node) → RepresentsWorking past old → (after : List Node) × HasTurned len left past after old now
 
-pub turning_begins : (len left : ℕ) (c : CoreState) → c.failed ≡ false → left ≡ length (layout_in c.image c.index).sectors → left ≤ c.index.held → IsTurning len left c c
-turning_begins len left c works is few = record {
+pub turning_begins : (len left : ℕ) (c : CoreState) → c.failed ≡ false → has_room_for c rooms.Fresh len ≡ false → left ≡ length (layout_in c.image c.index).sectors → left ≤ c.index.held → IsTurning len left c c
+turning_begins len left c works none is few = record {
   works = works;
   few = few;
+  none = none;
   leaves = leaves_all (c.index.held - left) c;
   done = λ past known. (
     past,
@@ -142,3 +147,14 @@ full_has_several len after c known none =
     let six = low.0 in
     let all = known.sound.counted in
     omega arith
+
+-- so each turn cleans one of them
+pub turning_cleaned : (len left : ℕ) (done : Cleaned) (past after : List Node) (old middle new : CoreState) → HasSizes old.index.sectors old.index.sector_size middle.index → HasTurned len (suc left) past after old middle → fresh_has_room len (gc_state after middle) ≡ false
+    → DidClean done after middle new → (later : List Node) × HasTurned len left past later old new
+turning_cleaned len left (Erased sector copies) past after old middle new sizes h none did =
+    let later = did.2 in
+    (later.0, turning_goes_on len left copies past after later.0 old middle new sizes h none did.1 later.1)
+turning_cleaned len left OneSector past after old middle new sizes h none did =
+    let few = did.1 in
+    let several = full_has_several len after middle h.stands.represents none in
+    absurd (omega arith)

@@ -39,7 +39,7 @@ impl<F: Flash + Drop> Session<F> {
     fn records_in(&self, sector: u32) -> u64 {
         let mut count = 0u64;
         for record in self.core.log().records() {
-            if record.sector == sector {
+            if u32::from(record.sector) == sector {
                 count = count.saturating_add(1);
             }
         }

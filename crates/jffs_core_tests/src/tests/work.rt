@@ -35,7 +35,8 @@ fn newest(session: &Session<Metered>) -> Option<RecordRef> {
 /// The lengths of the live records, and what is free after the newest record.
 fn may_be_copied(session: &Session<Metered>) -> Option<u64> {
     let newest = newest(session)?;
-    let free = SECTOR_SIZE.saturating_sub(newest.offset.saturating_add(newest.length));
+    let end = u32::from(newest.offset).saturating_add(u32::from(newest.length));
+    let free = SECTOR_SIZE.saturating_sub(end);
     Some(session.live_weight()?.saturating_add(u64::from(free)))
 }
 

@@ -7,7 +7,7 @@ use Rattle.std.proofs.Math.Seq.{drop-cons}
 use Rattle.std.proofs.lemmas.Grind.{and_numeral}
 use Rattle.std.proofs.lemmas.List.{ext_get_or, get_or-replicate, length-replicate, length-set, length-take-le, set_split, set-append_left, set-append_right}
 use Rattle.jffs_node.specs.declared.node.Node.{Node}
-use Rattle.jffs_node.specs.Record.{spelling, record_len, is_lawful}
+use Rattle.jffs_node.specs.Record.{spelling, spelling_open, record_len, is_lawful}
 use Rattle.jffs_node.proofs.Found.{length_spelled}
 use Rattle.jffs_flash.specs.Image.{window, replaced, both_bits, programmed, IsBetween, AreBetween, IsHalfProgrammed}
 use Rattle.jffs_flash.proofs.Bits.{length-both_bits, get_or-both_bits}
@@ -73,61 +73,57 @@ replaced_inside at k g part image below fits =
     ∙ ap (λ i. front ++ set part i g ++ back) j
     ∙ ap (λ i. front ++ set part k g ++ drop (at + i) image) (sym (length-set part k g))
 
--- the record with an open gate
-abbrev pub opened : Node → List ℕ
-opened n = set (spelling n) 7 255
+pub length-open : (n : Node) → is_lawful n ≡ true → length (spelling_open n) ≡ record_len n
+length-open n lawful = length-set (spelling n) 7 255 ∙ length_spelled n lawful
 
-pub length-opened : (n : Node) → is_lawful n ≡ true → length (opened n) ≡ record_len n
-length-opened n lawful = length-set (spelling n) 7 255 ∙ length_spelled n lawful
-
-gate_closed : (n : Node) → set (opened n) 7 0 ≡ spelling n
+gate_closed : (n : Node) → set (spelling_open n) 7 0 ≡ spelling n
 gate_closed n = refl
 
-gate_set : (n : Node) (g : ℕ) → get_or (set (opened n) 7 g) 7 0 ≡ g
+gate_set : (n : Node) (g : ℕ) → get_or (set (spelling_open n) 7 g) 7 0 ≡ g
 gate_set n g = refl
 
 -- after the first program
-pub first_half : (at : ℕ) (n : Node) (image new : List ℕ) → is_lawful n ≡ true → window at (record_len n) image ≡ replicate (record_len n) 255 → IsHalfProgrammed at (opened n) image new → IsWritten at n image new
+pub first_half : (at : ℕ) (n : Node) (image new : List ℕ) → is_lawful n ≡ true → window at (record_len n) image ≡ replicate (record_len n) 255 → IsHalfProgrammed at (spelling_open n) image new → IsWritten at n image new
 first_half at n image new lawful erased h =
-    let long = length-opened n lawful in
-    let between = subst (λ (xs : List ℕ). AreBetween xs (opened n) h.left) (ap (λ k. window at k image) long ∙ erased) h.between in
-    let gate = between_at (replicate (record_len n) 255) (opened n) h.left 7 between (omega arith) in
+    let long = length-open n lawful in
+    let between = subst (λ (xs : List ℕ). AreBetween xs (spelling_open n) h.left) (ap (λ k. window at k image) long ∙ erased) h.between in
+    let gate = between_at (replicate (record_len n) 255) (spelling_open n) h.left 7 between (omega arith) in
     let ones : get_or {A = ℕ} (replicate (record_len n) 255) 7 0 ≡ 255 = get_or-replicate (record_len n) 7 255 0 (omega arith) in
     let is : get_or h.left 7 0 ≡ 255 = ones_stay (get_or h.left 7 0) (subst (λ o. IsBetween o 255 (get_or h.left 7 0)) ones gate) in
     record {
       part = h.left;
       rest = h.rest;
-      state = inr (between_long (replicate (record_len n) 255) (opened n) h.left between ∙ long, λ e. absurd (omega arith));
+      state = inr (between_long (replicate (record_len n) 255) (spelling_open n) h.left between ∙ long, λ e. absurd (omega arith));
     }
 
-inside_record : (at : ℕ) (n : Node) (image : List ℕ) (g : ℕ) → is_lawful n ≡ true → at + record_len n ≤ length image → replaced (at + 7) (g ∷ []) (replaced at (opened n) image) ≡ replaced at (set (opened n) 7 g) image
-inside_record at n image g lawful fits = let long = length-opened n lawful in replaced_inside at 7 g (opened n) image (omega arith) (omega arith)
+inside_record : (at : ℕ) (n : Node) (image : List ℕ) (g : ℕ) → is_lawful n ≡ true → at + record_len n ≤ length image → replaced (at + 7) (g ∷ []) (replaced at (spelling_open n) image) ≡ replaced at (set (spelling_open n) 7 g) image
+inside_record at n image g lawful fits = let long = length-open n lawful in replaced_inside at 7 g (spelling_open n) image (omega arith) (omega arith)
 
 one_byte : (at : ℕ) (image : List ℕ) → at < length image → window at 1 image ≡ get_or image at 0 ∷ []
 one_byte at image h = ap (λ (xs : List ℕ). take 1 xs) (drop-cons image at 0 h)
 
 -- after the second program
 pub second_whole : (at : ℕ) (n : Node) (image : List ℕ) → is_lawful n ≡ true → at + record_len n ≤ length image
-    → programmed (at + 7) (0 ∷ []) (replaced at (opened n) image) ≡ replaced at (spelling n) image
+    → programmed (at + 7) (0 ∷ []) (replaced at (spelling_open n) image) ≡ replaced at (spelling n) image
 second_whole at n image lawful fits =
-    let mid = replaced at (opened n) image in
-    let long = length-opened n lawful in
-    let same = length-replaced at (opened n) image (omega arith) in
+    let mid = replaced at (spelling_open n) image in
+    let long = length-open n lawful in
+    let same = length-replaced at (spelling_open n) image (omega arith) in
     ap (λ (xs : List ℕ). replaced (at + 7) (both_bits xs (0 ∷ [])) mid) (one_byte (at + 7) mid (omega arith))
     ∙ ap (λ b. replaced (at + 7) (b ∷ []) mid) (and_zero_r (get_or mid (at + 7) 0))
     ∙ inside_record at n image 0 lawful fits
 
-pub second_half : (at : ℕ) (n : Node) (image new : List ℕ) → is_lawful n ≡ true → at + record_len n ≤ length image → IsHalfProgrammed (at + 7) (0 ∷ []) (replaced at (opened n) image) new → IsWritten at n image new
+pub second_half : (at : ℕ) (n : Node) (image new : List ℕ) → is_lawful n ≡ true → at + record_len n ≤ length image → IsHalfProgrammed (at + 7) (0 ∷ []) (replaced at (spelling_open n) image) new → IsWritten at n image new
 second_half at n image new lawful fits h =
-    let long = length-opened n lawful in
+    let long = length-open n lawful in
     let g = get_or h.left 0 0 in
-    let one = one_left h.left (between_long (window (at + 7) 1 (replaced at (opened n) image)) (0 ∷ []) h.left h.between) in
+    let one = one_left h.left (between_long (window (at + 7) 1 (replaced at (spelling_open n) image)) (0 ∷ []) h.left h.between) in
     record {
-      part = set (opened n) 7 g;
-      rest = h.rest ∙ ap (λ (xs : List ℕ). replaced (at + 7) xs (replaced at (opened n) image)) one ∙ inside_record at n image g lawful fits;
+      part = set (spelling_open n) 7 g;
+      rest = h.rest ∙ ap (λ (xs : List ℕ). replaced (at + 7) xs (replaced at (spelling_open n) image)) one ∙ inside_record at n image g lawful fits;
       state = elim (eqb_tells g 0) [
-        | inl closed ↦ inl (ap (λ b. set (opened n) 7 b) closed.1 ∙ gate_closed n)
-        | inr open_gate ↦ inr (length-set (opened n) 7 g ∙ long, λ e. open_gate.1 (sym (gate_set n g) ∙ e))
+        | inl closed ↦ inl (ap (λ b. set (spelling_open n) 7 b) closed.1 ∙ gate_closed n)
+        | inr open_gate ↦ inr (length-set (spelling_open n) 7 g ∙ long, λ e. open_gate.1 (sym (gate_set n g) ∙ e))
       ];
     }
   where

@@ -1,5 +1,5 @@
 -- A record is written where the log puts it: into the tail, or into the next sector.
-use Rattle.std.proofs.Common.{◌≡◌, inl, inr, ℕ, ◌+◌, ◌-◌, ◌*◌, ◌/◌, ◌≤◌, ◌<◌, true, leb, List, [], ◌∷◌, ◌++◌, sym, ap, subst, ◌∙◌, arith}
+use Rattle.std.proofs.Common.{◌≡◌, ◌⊎◌, inl, inr, ℕ, ◌+◌, ◌-◌, ◌*◌, ◌/◌, ◌≤◌, ◌<◌, true, leb, List, [], ◌∷◌, ◌++◌, sym, ap, subst, ◌∙◌, arith}
 use Rattle.std.proofs.lemmas.Bool.{le-leb, lt-leb, cases_lt, and_from, or_right}
 use Rattle.jffs_node.specs.declared.node.Node.{Node}
 use Rattle.jffs_node.specs.Record.{record_len, dsize, spelling, is_lawful, is_unmount, fits_rest}
@@ -11,7 +11,7 @@ use Rattle.jffs_log.specs.declared.room.Room.{Room}
 use Rattle.jffs_log.specs.Ring.{IsAt}
 use Rattle.jffs_log.specs.Room.{tail_need}
 use Rattle.jffs_log.specs.Place.{IsPlace, end_of_tail, start_of}
-use Rattle.jffs_log.specs.LogIndex.{Describes, IsLogIndex, ref_of, layout_in, placed_at}
+use Rattle.jffs_log.specs.LogIndex.{Describes, HasTail, IsLogIndex, ref_of, layout_in, placed_at}
 use Rattle.jffs_log.specs.Gate.{IsWritten, MayWrite}
 use Rattle.jffs_log.specs.Cleaning.{layout_of, put, in_last}
 use Rattle.jffs_log.specs.Volume.{sectors_in}
@@ -21,6 +21,7 @@ use Rattle.jffs_log.proofs.ring.Layouts.{layout_tail, layout_next, put_in_tail, 
 use Rattle.jffs_log.proofs.rooms.Rooms.{described_room, described_free}
 use Rattle.jffs_log.proofs.append.Appended.{IsReady, Appended, Cut, logged, sizes_small, tail_ready, tail_appended, tail_cut, next_ready, next_appended, next_cut}
 use Rattle.jffs_log.proofs.append.Fits.{tail_fits, two_erased}
+use Rattle.jffs_log.proofs.append.Open.{room_is}
 
 -- a short record fits an erased sector
 next_fits : (n : Node) (len : ℕ) → record_len n ≤ len / 4 → fits_rest n.kind (dsize n) (len / 4) len ≡ true
@@ -33,6 +34,7 @@ next_fits n len short =
 pub record PutsAt (b : LogIndex) (image : List ℕ) (n : Node) (p : Place) : Type 0 where
   pub may : MayWrite (p.sector * b.sector_size + p.offset) n image
   pub fits : record_len n ≤ p.free
+  pub inside : p.offset + record_len n ≤ b.sector_size
   pub nodes : List (List Node)
   pub whole : Appended b.sectors b.sector_size image b.first p.held (p.free - record_len n) b.records.items n nodes p.sector p.offset
   pub layout : (r : Room) → IsPlace r (record_len n) b p
@@ -66,12 +68,21 @@ module _ (b : LogIndex) (image : List ℕ) (h : IsLogIndex image b) (n : Node) (
     | inr need ↦ let more = ap (λ (p : Place). p.held) (is.in_tail need) in absurd (omega arith)
   ]
 
+  -- the records of the tail and this one are no longer than a sector
+  end_inside : record_len n ≤ b.free → (b.free ≡ 0) ⊎ HasTail b.sectors b.sector_size image h.held b.tail b.used b.free → b.used + record_len n ≤ b.sector_size
+  end_inside fits (inl none) = let long = record_long n in absurd (omega arith)
+  end_inside fits (inr t) =
+      let whole = room_is b.sectors b.sector_size image t.last.0 t.nodes b.free t.opened in
+      let used = t.filled in
+      omega arith
+
   at_tail : fits_rest n.kind (dsize n) (b.sector_size / 4) b.free ≡ true → PutsAt b image n (end_of_tail b)
   at_tail fits =
       let all = tail_appended _ _ _ _ _ _ _ _ _ n h lawful fits in
       record {
         may = may_write b.tail b.used (tail_ready _ _ _ _ _ _ _ _ _ n h lawful fits);
         fits = rest_fits n.kind (dsize n) (b.sector_size / 4) b.free fits;
+        inside = end_inside (rest_fits n.kind (dsize n) (b.sector_size / 4) b.free fits) h.room;
         nodes = in_last n (logged b.sectors b.sector_size image);
         whole = all;
         layout = λ r is.
@@ -87,6 +98,7 @@ module _ (b : LogIndex) (image : List ℕ) (h : IsLogIndex image b) (n : Node) (
       record {
         may = may_write next 0 (next_ready _ _ _ _ _ _ _ _ next _ n h room at lawful fits);
         fits = rest_fits n.kind (dsize n) (b.sector_size / 4) b.sector_size fits;
+        inside = omega (arith, short);
         nodes = logged b.sectors b.sector_size image ++ (n ∷ []) ∷ [];
         whole = all;
         layout = λ r is.
@@ -109,12 +121,12 @@ puts s n p h here =
     ]
 
 -- the index with the record
-pub index_after : (b : LogIndex) (old new : List ℕ) (n : Node) (p : Place) → PutsAt b old n p → new ≡ replaced (p.sector * b.sector_size + p.offset) (spelling n) old → (len : ℕ) (items : List RecordRef) → len ≡ record_len n
-    → items ≡ b.records.items ++ record { version = n.version; inode = n.inode; length = len; sector = p.sector; offset = p.offset } ∷ []
+pub index_after : (b : LogIndex) (old new : List ℕ) (n : Node) (p : Place) → PutsAt b old n p → new ≡ replaced (p.sector * b.sector_size + p.offset) (spelling n) old → (len size : ℕ) (items : List RecordRef) → len ≡ record_len n → size ≡ dsize n
+    → items ≡ b.records.items ++ record { version = n.version; inode = n.inode; data_offset = n.offset; data_len = size; length = len; sector = p.sector; offset = p.offset } ∷ []
     → Describes b.sectors b.sector_size new b.first p.held p.sector (p.offset + len) (p.free - len) items
-index_after b old new n p made written len items is e =
+index_after b old new n p made written len size items is sized e =
     let listed : items ≡ b.records.items ++ ref_of (placed_at p.sector p.offset n) ∷ [] =
-    e ∙ ap (λ (k : ℕ). b.records.items ++ record { version = n.version; inode = n.inode; length = k; sector = p.sector; offset = p.offset } ∷ []) is in
+    e ∙ ap (λ (k : ℕ). b.records.items ++ record { version = n.version; inode = n.inode; data_offset = n.offset; data_len = size; length = k; sector = p.sector; offset = p.offset } ∷ []) is ∙ ap (λ (k : ℕ). b.records.items ++ record { version = n.version; inode = n.inode; data_offset = n.offset; data_len = k; length = record_len n; sector = p.sector; offset = p.offset } ∷ []) sized in
     subst (λ (xs : List ℕ). Describes b.sectors b.sector_size xs b.first p.held p.sector (p.offset + len) (p.free - len) items) (sym written)
     (subst (λ (k : ℕ). Describes b.sectors b.sector_size (replaced (p.sector * b.sector_size + p.offset) (spelling n) old) b.first p.held p.sector (p.offset + k) (p.free - k) items) (sym is)
     (subst (λ (rs : List RecordRef). Describes b.sectors b.sector_size (replaced (p.sector * b.sector_size + p.offset) (spelling n) old) b.first p.held p.sector (p.offset + record_len n) (p.free - record_len n) rs) (sym listed) made.whole.0))

@@ -42,7 +42,7 @@ others_left : (k : ℕ) (rest : List Numbered) → AllByRecursion (λ s. s.0 ≢
 others_left k [] h = refl
 others_left k (s ∷ rest) h = placed_left k s (flat_map records_in rest) s.1.reading.nodes h.0 (others_left k rest h.1)
 
-oldest_taken : (first : ℕ) (sectors : _) (held blank : List Numbered) → IsRing first sectors held blank → take_while (in_sector first) (map ref_of (flat_map records_in held)) ≡ map ref_of (records_in_first held)
+pub oldest_taken : (first : ℕ) (sectors : _) (held blank : List Numbered) → IsRing first sectors held blank → take_while (in_sector first) (map ref_of (flat_map records_in held)) ≡ map ref_of (records_in_first held)
 oldest_taken first sectors [] blank ring = refl
 oldest_taken first sectors (o ∷ rest) blank ring =
     let alone = oldest_alone first sectors o rest blank ring in

@@ -3,12 +3,12 @@ use Rattle.std.proofs.Common.{◌≡◌, ℕ, suc, ◌*◌, ◌<◌, ◌≤◌, 
 use Rattle.std.proofs.Math.Nat.{mul-le-mul_right}
 use Rattle.std.proofs.lemmas.Bool.{and_parts, eqb-true}
 use Rattle.std.specs.Prelude.{◌&&◌, nat_le}
-use Rattle.jffs_flash.specs.ReadsLeft.{HasSpent}
+use Rattle.jffs_flash.specs.ReadsLeft.{HasSpent, left_at}
 use Rattle.jffs_flash.specs.Sizes.{is_sector_size, is_geometry}
 use Rattle.jffs_flash.specs.declared.sizes.TheConstants.{MIN_SECTORS, MAX_SECTORS}
 
 -- A sector that is still to be read is as it was, and stands inside the device.
-pub sector_spent : (count k len : ℕ) (image : List ℕ) (old now : ℕ → ℕ) → length image ≡ count * len → k < count → ((i : ℕ) → k * len ≤ i → old i ≤ now i) → HasSpent now (k * len) len → HasSpent old 0 (length image)
+pub sector_spent : (count k len : ℕ) (image : List ℕ) (old now : List ℕ) → length image ≡ count * len → k < count → ((i : ℕ) → k * len ≤ i → left_at old i ≤ left_at now i) → HasSpent now (k * len) len → HasSpent old 0 (length image)
 sector_spent count k len image old now whole inside kept spent =
     let there : suc k * len ≤ count * len = mul-le-mul_right len inside in
     let most = kept spent.offset spent.from in

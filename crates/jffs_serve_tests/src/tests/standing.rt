@@ -37,7 +37,11 @@ pub(super) fn count_records(core: &Core<MemoryFlash>) -> usize {
 /// Where a record stands, and its version.
 fn record_at(core: &Core<MemoryFlash>, index: usize) -> Option<(u32, u32, u32)> {
     let record = core.log().records().get(index)?;
-    Some((record.sector, record.offset, record.version))
+    Some((
+        u32::from(record.sector),
+        u32::from(record.offset),
+        record.version,
+    ))
 }
 
 /// That the log has these records and no others.

@@ -50,7 +50,7 @@ still_in : (k : ChildKey) (keys ks : List ChildKey) → AllByRecursion (λ q. ha
 still_in k keys [] h = tt
 still_in k keys (x ∷ ks) h = (or_right (is_at (key_cmp x) k) (has_child keys x) h.0, still_in k keys ks h.1)
 
-own_keys : (ks : List ChildKey) → AllByRecursion (λ q. has_child ks q ≡ true) ks
+pub own_keys : (ks : List ChildKey) → AllByRecursion (λ q. has_child ks q ≡ true) ks
 own_keys [] = tt
 own_keys (k ∷ ks) = (or_left (is_at (key_cmp k) k) (has_child ks k) (own_key k), still_in k ks ks (own_keys ks))
 

@@ -1,6 +1,6 @@
 -- The names that the index has in a directory are those that a walk over the tree finds there.
 use Rattle.std.proofs.Common.{◌≡◌, ℕ, ◌+◌, Bool, true, false, cond, ◌&&◌, ◌||◌, eqb, T, IsTrue, List, [], ◌∷◌, map, get_or, Option, Some, None, Result, Ok, Err, refl, sym, ap, subst, ◌∙◌, ⊎_elim, arith, nat_cmp, bytes_eq}
-use Rattle.std.specs.List.{IsDistinct, list_any, filter}
+use Rattle.std.specs.List.{IsDistinct, list_any, filter, find}
 use Rattle.std.specs.List.Sorted.{IsStrictlySortedBy, IsPermutation, IsSorted}
 use Rattle.std.specs.Ordering.{is_eq, is_lt, eq_by_cmp, ordering_reverse}
 use Rattle.std.specs.Option.{option_map_or}
@@ -13,6 +13,7 @@ use Rattle.std.specs.BTreeMap.{is_at}
 use Rattle.std.specs.FinMap.Entries as entries
 use Rattle.std.proofs.lemmas.Bool.{cases_Bool, eqb-true, eq-eqb}
 use Rattle.std.proofs.lemmas.List.Folds.{list_any-append}
+use Rattle.std.proofs.lemmas.List.Sorted.{IsPermutation-refl}
 use Rattle.std.proofs.lemmas.Map.Keys.{IsDistinct-from_sorted, IsDistinct-cons, Less-from_sorted}
 use Rattle.std.proofs.lemmas.Slice.Eq.{bytes_eq-Decides}
 use Rattle.jffs_inodes.specs.Held.{Entry, Held}
@@ -21,17 +22,18 @@ use Rattle.jffs_inodes.specs.Inodes.{Tree, held_in}
 use Rattle.jffs_tree.specs.Origin.{state_in}
 use Rattle.jffs_tree.specs.Index.{ChildKey, key_cmp, has_child, stands_at, name_under, names_under, IsIndexOf}
 use Rattle.jffs_tree.specs.Look.{name_cmp, children, names_in}
+use Rattle.jffs_tree.specs.Listing.{IsFirst}
 use Rattle.jffs_tree.proofs.listing.KeyOrder.{same_key, own_key}
 use Rattle.jffs_marks.proofs.Order.{nat_tied, then_tied}
 use Rattle.jffs_tree.proofs.listing.Indexed.{names}
 use Rattle.jffs_marks.proofs.Maps.{behind, tail_sorted}
-use Rattle.jffs_tree.proofs.listing.Listed.{by_name}
+use Rattle.jffs_tree.proofs.listing.Listed.{by_name, names_rise}
 use Rattle.jffs_tree.proofs.listing.Members.{each_other, same_members}
 
 pub name_total : IsTotalOrder name_cmp
 name_total = then_total (on_total (λ (t : List ℕ × ℕ). t.0) nat_list_cmp_total) (on_total (λ (t : List ℕ × ℕ). t.1) nat_cmp_total)
 
-abbrev same_name : (List ℕ × ℕ) → (List ℕ × ℕ) → Bool
+abbrev pub same_name : (List ℕ × ℕ) → (List ℕ × ℕ) → Bool
 same_name a b = eq_by_cmp name_cmp a b
 
 pub name_tied : (a b : List ℕ × ℕ) → name_cmp a b ≡ Equal → a ≡ b
@@ -41,10 +43,10 @@ name_tied a b h =
     let y = nat_tied a.1 b.1 parts.1 in
     λ i. (x i, y i)
 
-tells : (a b : List ℕ × ℕ) → same_name a b ≡ true → a ≡ b
+pub tells : (a b : List ℕ × ℕ) → same_name a b ≡ true → a ≡ b
 tells a b h = name_tied a b ((Equal-is (name_cmp a b)).0 h)
 
-own : (a : List ℕ × ℕ) → same_name a a ≡ true
+pub own : (a : List ℕ × ℕ) → same_name a a ≡ true
 own a = ap is_eq (tied_itself name_total a)
 
 -- rising names don't fall
@@ -164,3 +166,32 @@ module _ (p : ℕ) where
 pub from_both : {X E : Type 0} (r : Result X E) (P Q R : X → Type 0) → ((x : X) → P x → Q x → R x) → IfOk r P → IfOk r Q → IfOk r R
 from_both (Ok x) P Q R f p q = f x p q
 from_both (Err e) P Q R f p q = tt
+
+rise_none : IsStrictlySortedBy name_cmp []
+unfolding IsStrictlySortedBy
+rise_none = tt
+
+-- a file has no names
+pub nothing_listed : (test : (List ℕ × ℕ) → Bool) (tree : Tree) (p : ℕ) → is_directory_in (state_in tree) p ≡ false → IsFirst test tree p None
+nothing_listed test tree p no_directory = record {
+  names = [];
+  listing = record {
+    all = subst (λ b. IsPermutation (cond b (children p (state_in tree)) []) []) (sym no_directory) (IsPermutation-refl []);
+    rising = rise_none;
+  };
+  is = refl;
+}
+
+-- the first name of a directory that passes a test, by what the index lists
+pub first_listed : (test past : (List ℕ × ℕ) → Bool) (p : ℕ) (tree seen : Tree) (keys : List ChildKey) (found : Option (List ℕ × ℕ)) → tree ≡ seen
+    → IsTrue (entries.is_sorted nat_cmp tree) → IsIndexOf tree keys → IsStrictlySortedBy key_cmp keys → is_directory_in (state_in seen) p ≡ true
+    → find past (names_under p keys) ≡ find test (names_under p keys) → found ≡ find past (names_under p keys) → IsFirst test seen p found
+first_listed test past p tree seen keys found view sorted index ordered is_dir same is =
+    let rising = names_rise p keys ordered in record {
+      names = names_under p keys;
+      listing = record {
+        all = lists_directory p tree seen keys (names_under p keys) view sorted index is_dir refl rising;
+        rising = rising;
+      };
+      is = is ∙ same;
+    }

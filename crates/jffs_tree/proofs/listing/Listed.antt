@@ -25,11 +25,11 @@ pub record IsFrom (p : ℕ) (keys : List ChildKey) : Type 0 where
   pub from : AllByRecursion (λ k. is_gt (key_cmp (p, None, 0) k) ≡ false) keys
 
 module _ (p : ℕ) where
-  other_name : (k : ChildKey) → eqb k.0 p ≡ false → name_under p k ≡ []
+  pub other_name : (k : ChildKey) → eqb k.0 p ≡ false → name_under p k ≡ []
   other_name k e = ap (λ b. cond b (option_to_list (option_map (λ name. (name, k.2)) k.1)) []) e
 
   -- after a key of a later directory there is none of this one
-  later : (k : ChildKey) (ks : List ChildKey) → is_gt (key_cmp (p, None, 0) k) ≡ false → eqb k.0 p ≡ false → AllByRecursion (λ y. key_cmp k y ≡ Less) ks → names_under p ks ≡ []
+  pub later : (k : ChildKey) (ks : List ChildKey) → is_gt (key_cmp (p, None, 0) k) ≡ false → eqb k.0 p ≡ false → AllByRecursion (λ y. key_cmp k y ≡ Less) ks → names_under p ks ≡ []
   later k [] from other above = refl
   later k (y ∷ ys) from other above =
       ap (λ xs. xs ++ names_under p ys) (other_name y apart) ∙ later k ys from other above.1
@@ -46,7 +46,7 @@ module _ (p : ℕ) where
   pub behind_first : (left : List ChildKey) (k : ChildKey) (ks : List ChildKey) → left ≡ k ∷ ks → IsFrom p left → IsFrom p ks
   behind_first left k ks is from = let f = subst (λ xs. IsFrom p xs) is from in record { rising = sorted_tail key_cmp k ks f.rising; from = f.from.1 }
 
-  one_more : (name : List ℕ) (k : ChildKey) → eqb k.0 p ≡ true → k.1 ≡ Some name → name_under p k ≡ (name, k.2) ∷ []
+  pub one_more : (name : List ℕ) (k : ChildKey) → eqb k.0 p ≡ true → k.1 ≡ Some name → name_under p k ≡ (name, k.2) ∷ []
   one_more name k at is =
       ap (λ b. cond b (option_to_list (option_map (λ x. (x, k.2)) k.1)) []) at
       ∙ ap (λ o. option_to_list (option_map (λ x. (x, k.2)) o)) is

@@ -37,7 +37,7 @@ module _ {X : Type 0} (same : X → X → Bool) where
         (cases_Bool (same x y))
 
     -- without that member the members are the same again
-    others : (x : X) (xs zs : List X) → IsDistinct same (x ∷ xs) → IsDistinct same (x ∷ zs) → ((q : X) → list_any (same q) (x ∷ xs) ≡ list_any (same q) (x ∷ zs))
+    pub others : (x : X) (xs zs : List X) → IsDistinct same (x ∷ xs) → IsDistinct same (x ∷ zs) → ((q : X) → list_any (same q) (x ∷ xs) ≡ list_any (same q) (x ∷ zs))
         → (q : X) → list_any (same q) xs ≡ list_any (same q) zs
     others x xs zs d e h q = ⊎_elim
         (λ it.

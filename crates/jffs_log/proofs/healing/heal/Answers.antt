@@ -8,5 +8,5 @@ pub invariant_of-mounted : goal.invariant_of-mounted
 invariant_of-mounted g c =
     let e = c.in-Ok.ensures in
     let index = c.in-Ok.field-0.found.index in
-    let P : Device → Type 0 = λ d. IsLog (record { device = d; wear = g.F.Flash.wear c.find_healed.new.flash; index = index; failed = false; erase_failed = false }) in
+    let P : Device → Type 0 = λ d. IsLog (record { device = d; wear = g.F.Flash.wear c.find_healed.new.flash; reads_left = g.F.Flash.reads_left c.find_healed.new.flash; index = index; failed = false; erase_failed = false }) in
     subst P (sym e.same) (log_holds _ e.found.sizes e.found.index (λ works. refl))

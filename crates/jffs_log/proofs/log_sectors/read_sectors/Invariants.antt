@@ -1,4 +1,5 @@
 use Rattle.std.proofs.Common.{◌≡◌, ℕ, ◌*◌, ◌≤◌, length}
+use Rattle.jffs_flash.specs.ReadsLeft.{left_at}
 use Rattle.jffs_log.specs.ScanRead.{AreRead}
 use Rattle.jffs_log.specs.Shown.{shown_image}
 use Rattle.jffs_log.proofs.log_sectors.read_sectors.Given as goal
@@ -11,5 +12,5 @@ invariant-loop-sector g l = record {
   device : g.F.Flash.device l.flash ≡ g.F.Flash.device l.fn.flash;
   unworn : g.F.Flash.wear l.flash ≡ g.F.Flash.wear l.fn.flash;
   buffer : length l.buffer.items ≡ l.sector_size;
-  left : (i : ℕ) → l.sector * l.sector_size ≤ i → g.F.Flash.reads_left l.fn.flash i ≤ g.F.Flash.reads_left l.flash i;
+  left : (i : ℕ) → l.sector * l.sector_size ≤ i → left_at (g.F.Flash.reads_left l.fn.flash) i ≤ left_at (g.F.Flash.reads_left l.flash) i;
 }

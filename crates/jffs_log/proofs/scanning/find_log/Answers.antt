@@ -11,7 +11,7 @@ use Rattle.jffs_log.specs.declared.scanning.ScanWhy.TheVariants.{Geometry, BadTr
 use Rattle.jffs_log.specs.Image.{records_in, free_of_tail, is_clean_tail}
 use Rattle.jffs_log.specs.LogIndex.{ref_of}
 use Rattle.jffs_log.specs.Scan.{versions_rise, first_bad}
-use Rattle.jffs_log.specs.ScanRead.{number_of_tail, used_of_tail, oldest_sector, AreRead, IsReadFault}
+use Rattle.jffs_log.specs.ScanRead.{number_of_tail, used_of_tail, oldest_sector, AreRead, IsReadFault, IsSmall}
 use Rattle.jffs_log.specs.Room.{greatest_inode, limits as limits_after}
 use Rattle.jffs_log.specs.ScanFound.{IsCause, IsUnfound, last_version, nodes_held}
 use Rattle.jffs_flash.specs.Device.{Device as FlashDevice}
@@ -24,6 +24,7 @@ use Rattle.jffs_log.proofs.scans.MountHistory.{IsLawful}
 use Rattle.jffs_log.proofs.Results.{err_from}
 use Rattle.jffs_log.proofs.scans.ReadOnce.{sizes_some, sizes_room}
 use Rattle.jffs_log.proofs.scans.Showing.{length-shown}
+use Rattle.jffs_log.proofs.scans.Small.{held_small}
 use Rattle.jffs_log.proofs.scans.ScanSectors.{all_split}
 use Rattle.jffs_log.proofs.scans.ScanIndex.{described_is}
 use Rattle.jffs_log.proofs.scans.ScanFound.{answer, unmoved, cause_at, found_at, held_lawful, geometry_refused, read_refused, oldest_refused, order_refused, tree_refused, scan_is, IsAll, log_nodes, located_in, described_in, first_below, held_below, limits_are}
@@ -126,6 +127,11 @@ overflow_cast-index g c =
     let below = (first_below c.sectors-sectors.result _ _ c.in_ok-held.held.items c.in_ok-first.first (read_in c.args.shown (g.F.Flash.device c.args.flash.now) _ _ _ c.sector_size-sector_size.ensures c.in_ok-held.ensures.read) (begins _ _ _ c.in_ok-first.ensures c.deref.ensures.value)).0 in
     let few = (sizes_small c.sectors-sectors.result c.sector_size-sector_size.result (c.if-not-is_geometry.ensures.0 refl)).0 in
     omega arith
+
+pub list_records-requires : goal.list_records-requires
+list_records-requires g c =
+    subst (AllByRecursion IsSmall) (sym c.deref-4.ensures.value)
+    (held_small _ _ _ c.in_ok-held.held.items c.keep_log.new.found.items c.in_ok-first.first (c.if-not-is_geometry.ensures.0 refl) (read_in c.args.shown (g.F.Flash.device c.args.flash.now) _ _ _ c.sector_size-sector_size.ensures c.in_ok-held.ensures.read) c.keep_log.ensures)
 
 pub of-requires : goal.of-requires
 of-requires g c =

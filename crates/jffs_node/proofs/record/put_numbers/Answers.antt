@@ -11,7 +11,7 @@ pub returns-clause-front : goal.returns-clause-front
 returns-clause-front c =
     let n = c.args.node.now in
     let e1 : take c.put-at.result c.put-at.new.out ≡ magic = c.put-at.ensures.front in
-    let e2 = more _ _ _ _ (kind_byte n.kind ∷ flags_byte n ∷ length (name_bytes n) ∷ 0 ∷ []) c.put-at-2.ensures.front e1 (λ i. c.kind_byte.ensures i ∷ c.flags_byte.ensures i ∷ length (c.bytes_of_name.ensures.value i) ∷ 0 ∷ []) in
+    let e2 = more _ _ _ _ (kind_byte n.kind ∷ flags_byte n ∷ length (name_bytes n) ∷ c.args.gate ∷ []) c.put-at-2.ensures.front e1 (λ i. c.kind_byte.ensures i ∷ c.flags_byte.ensures i ∷ length (c.bytes_of_name.ensures.value i) ∷ c.args.gate ∷ []) in
     let e3 = more _ _ _ _ (to_be_bytes w32 n.inode) c.put-at-3.ensures.front e2 c.to_be_bytes.ensures in
     let e4 = more _ _ _ _ (to_be_bytes w32 n.parent) c.put-at-4.ensures.front e3 c.to_be_bytes-2.ensures in
     let e5 = more _ _ _ _ (to_be_bytes w32 n.version) c.put-at-5.ensures.front e4 c.to_be_bytes-3.ensures in

@@ -3,14 +3,14 @@ use Rattle.jffs_index.specs.Ends.{known}
 use Rattle.jffs_index.specs.Histories.{view_of}
 use Rattle.jffs_index.proofs.Kept.{begins_trans}
 use Rattle.jffs_serve.specs.Copying.{wish_of}
-use Rattle.jffs_serve.specs.Cleaning.{Cleans}
+use Rattle.jffs_serve.specs.Cleaning.{DoesRounds}
 use Rattle.jffs_serve.proofs.Cleaning.{cleans_more, cleans_within, hands_nothing, copies_asked}
 use Rattle.jffs_serve.proofs.cleaner.clean_until.Goals as goal
 use Rattle.jffs_serve.proofs.cleaner.clean_until.Goals.{After-look}
 
 -- a round in which nothing was handed in
 idle : (g : _) (c : After-look g)
-    → Cleans (c.loop-round._round + 1) c.args.jobs.now c.take-image.new.self (known c.args.reader.now) (known c.look.new.reader) (g.H.Hand.accepted c.args.hand.now) (g.H.Hand.accepted c.loop-round.hand)
+    → DoesRounds (c.loop-round._round + 1) c.args.jobs.now c.take-image.new.self (known c.args.reader.now) (known c.look.new.reader) (g.H.Hand.accepted c.args.hand.now) (g.H.Hand.accepted c.loop-round.hand)
 idle g c =
     let accepted = g.H.Hand.accepted c.loop-round.hand in
     cleans_more c.loop-round._round c.args.jobs.now c.loop-round.jobs c.take-image.new.self (known c.args.reader.now) (known c.loop-round.reader) (known c.look.new.reader)

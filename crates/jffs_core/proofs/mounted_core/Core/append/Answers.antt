@@ -97,7 +97,7 @@ returns-in_err-write_at-clause-refused g c =
 pub returns-in_err-reserve-clause-leaves : goal.returns-in_err-reserve-clause-leaves
 returns-in_err-reserve-clause-leaves g c =
     let same = c.in_err-reserve.ensures.same in
-    leaves_reserved _ _ _ c.self.view_is (record { answers = refl; capacity = refl; closed = refl }) same.index (ap (λ (d : Device). d.failed_erases) same.device) same.erase_failed same.wear
+    leaves_reserved _ _ _ c.self.view_is (record { answers = refl; capacity = refl; closed = refl }) same.index (ap (λ (d : Device). d.failed_erases) same.device) same.erase_failed same.wear same.unread
 
 pub invariant_of-self-in_err-apply : goal.invariant_of-self-in_err-apply
 invariant_of-self-in_err-apply g c =
@@ -109,21 +109,21 @@ invariant_of-self-in_err-apply g c =
 pub returns-in_err-apply-clause-leaves : goal.returns-in_err-apply-clause-leaves
 returns-in_err-apply-clause-leaves g c =
     let same = c.in_ok-reserve.ensures.same in
-    leaves_reserved _ _ _ c.self.view_is (record { answers = refl; capacity = refl; closed = refl }) same.index (ap (λ (d : Device). d.failed_erases) same.device) same.erase_failed same.wear
+    leaves_reserved _ _ _ c.self.view_is (record { answers = refl; capacity = refl; closed = refl }) same.index (ap (λ (d : Device). d.failed_erases) same.device) same.erase_failed same.wear same.unread
 
 pub returns-clause-leaves : goal.returns-clause-leaves
 returns-clause-leaves g c =
     let same = c.in_ok-reserve.ensures.same in
     let e = c.in_ok-write_at.ensures.done c.args.room (found g (goal.at.returns-clause-leaves g c).In_ok-reserve) in
     leaves_kept _ _ _ c.reserve.new.self _ c.self.view_is (record { answers = refl; capacity = refl; closed = refl }) same.index (ap (λ (d : Device). d.failed_erases) same.device) same.erase_failed same.wear
-    e.numbers (ap (λ (d : Device). d.failed_erases) e.works.device) e.works.no_erase_failed e.worn
+    e.numbers (ap (λ (d : Device). d.failed_erases) e.works.device) e.works.no_erase_failed e.worn (c.write_at.ensures.unread ∙ same.unread)
 
 pub returns-in_err-write_at-clause-leaves : goal.returns-in_err-write_at-clause-leaves
 returns-in_err-write_at-clause-leaves g c =
     let same = c.in_ok-reserve.ensures.same in
     let f = c.in_err-write_at.ensures.failed in
     leaves_kept _ _ _ c.reserve.new.self _ c.self.view_is (record { answers = refl; capacity = refl; closed = refl }) same.index (ap (λ (d : Device). d.failed_erases) same.device) same.erase_failed same.wear
-    f.numbers (no_erase_fails _ _ _ f.device) f.no_erase_failed f.worn
+    f.numbers (no_erase_fails _ _ _ f.device) f.no_erase_failed f.worn (c.write_at.ensures.unread ∙ same.unread)
 
 pub invariant_of-self-2 : goal.invariant_of-self-2
 invariant_of-self-2 g c =

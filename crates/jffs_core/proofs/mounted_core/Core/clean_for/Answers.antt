@@ -37,6 +37,25 @@ may g c past known =
 pub record_len-requires : goal.record_len-requires
 record_len-requires g c = let d = c.requires.decided in its_len d.past _ c.args.request.now c.args.node.now d.known d
 
+pub make_room-requires-clause-no_room : goal.make_room-requires-clause-no_room
+make_room-requires-clause-no_room g c = ap (has_room_for c.args.self.now rooms.Fresh) c.record_len.ensures ∙ c.requires.no_room
+
+pub returns-then-not-branch-clause-acted : goal.returns-then-not-branch-clause-acted
+returns-then-not-branch-clause-acted g c = λ past known.
+    let d = c.requires.decided in
+    let q = c.args.request.now in
+    let n = c.args.node.now in
+    let m = c.in_ok-make_room.ensures.made past known in
+    let h = m.1 in
+    let len = c.record_len.ensures in
+    let none : has_room_for c.make_room.new.self rooms.Fresh c.record_len.result ≡ false = c.in_ok-make_room.ensures.works.1 ∙ c.if-not-branch.true in
+    make_stopped past _ _ q c.requires.working known (IsOwnCopy m.0) n causes.NoSpace m.0 d (λ m2 own. (inl own, copies_follow m.0 m2 own)) c.requires.fresh c.requires.no_room h.copies (made_is_little c.record_len.result past m.0 _ c.make_room.new.self known h) h.stands
+    (λ is. (
+      turn_was_full c.record_len.result past m.0 _ c.make_room.new.self known h (subst (λ k. k ≤ c.args.self.now.index.sector_size / 4) (sym len) (its_short past _ q n known d)) none,
+      gets_made past _ q n known d m.0 c.make_room.new.self c.make_room.new.self c.record_len.result false len h (ap (has_room_for c.make_room.new.self rooms.Fresh) (sym len) ∙ none),
+      h.two,
+    ))
+
 pub returns-in_err-make_room-clause-acted : goal.returns-in_err-make_room-clause-acted
 returns-in_err-make_room-clause-acted g c = let p = err_from_is_err_and c.from_residual.result c.from_residual.ensures.1 in rw (p.1, p.2) λ past known.
     let d = c.requires.decided in
@@ -115,8 +134,8 @@ returns-in_err-append-clause-acted g c = let p = err_from_is_err_and c.from_resi
 
 pub returns-clause-leaves : goal.returns-clause-leaves
 returns-clause-leaves g c =
-    leaves_along _ 0 _ c.args.self.now c.make_room.new.self c.append.new.self (omega arith) c.in_ok-make_room.ensures.works c.make_room.ensures.leaves c.append.ensures.leaves
+    leaves_along _ 0 _ c.args.self.now c.make_room.new.self c.append.new.self (omega arith) c.in_ok-make_room.ensures.works.0 c.make_room.ensures.leaves c.append.ensures.leaves
 
 pub returns-in_err-append-clause-leaves : goal.returns-in_err-append-clause-leaves
 returns-in_err-append-clause-leaves g c =
-    leaves_along _ 0 _ c.args.self.now c.make_room.new.self c.append.new.self (omega arith) c.in_ok-make_room.ensures.works c.make_room.ensures.leaves c.append.ensures.leaves
+    leaves_along _ 0 _ c.args.self.now c.make_room.new.self c.append.new.self (omega arith) c.in_ok-make_room.ensures.works.0 c.make_room.ensures.leaves c.append.ensures.leaves

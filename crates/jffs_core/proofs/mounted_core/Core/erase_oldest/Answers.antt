@@ -88,8 +88,8 @@ returns-clause-leaves g c =
     either_way c.erase_oldest.result (ErasedOldest c.self.inside.tree old new) (λ why. EraseFailed c.self.inside.tree why old new) _
     (λ e.
     let sizes = e.sizes in
-    leaves_one _ _ _ c.self.view_is (record { answers = refl; capacity = refl; closed = refl }) e.sizes (let counted = e.erases in omega arith) (uses_one _ _ (sym sizes.0) e.first e.erases (ap (λ (d : Device). d.failed_erases) e.works.device) e.works.no_erase_failed c.erase_oldest.ensures.worn.erased))
-    (λ why f. leaves_one _ _ _ c.self.view_is (record { answers = refl; capacity = refl; closed = refl }) f.sizes (let counted = f.erases in omega arith) (uses_failed _ _ f.failed (ap (λ (d : Device). d.failed_erases) f.device.rest)))
+    leaves_one _ _ _ c.self.view_is (record { answers = refl; capacity = refl; closed = refl }) e.sizes (let counted = e.erases in omega arith) (uses_one _ _ (sym sizes.0) e.first e.erases (ap (λ (d : Device). d.failed_erases) e.works.device) e.works.no_erase_failed c.erase_oldest.ensures.worn.erased) c.erase_oldest.ensures.unread)
+    (λ why f. leaves_one _ _ _ c.self.view_is (record { answers = refl; capacity = refl; closed = refl }) f.sizes (let counted = f.erases in omega arith) (uses_failed _ _ f.failed (ap (λ (d : Device). d.failed_erases) f.device.rest)) c.erase_oldest.ensures.unread)
     c.erase_oldest.ensures.done c.erase_oldest.ensures.failed
 
 pub returns-clause-erases : goal.returns-clause-erases

@@ -13,6 +13,7 @@ use Rattle.jffs_log.specs.History.{KeepsRules}
 use Rattle.jffs_log.specs.LogState.{LogState, KeepsNumbers, HasHistory, MayAppendAt, AppendedAt, AppendFailed, log_records}
 use Rattle.jffs_log.proofs.Histories.{index_appends, index_cuts}
 use Rattle.jffs_log.proofs.Seen.{told, only_image, same_sizes, log_holds}
+use Rattle.jffs_log.proofs.append.Appended.{sizes_small}
 use Rattle.jffs_log.proofs.append.Putting.{PutsAt, puts, index_after}
 use Rattle.jffs_log.proofs.log.Log.write_at.Goals as goal
 use Rattle.jffs_log.proofs.log.Log.write_at.Goals.{After-record_len-len, After-push_back_reserved}
@@ -38,7 +39,13 @@ indexed : (g : _) (c : After-push_back_reserved g) → PutsAt c.self.inside.inde
     → Describes c.self.inside.index.sectors c.self.inside.index.sector_size (g.F.Flash.device c.write_record.new.flash).image c.self.inside.index.first c.args.place.held c.args.place.sector
     (c.args.place.offset + c.record_len-len.result) (c.args.place.free - c.record_len-len.result) c.push_back_reserved.new.self.items
 indexed g c made =
-    index_after c.self.inside.index _ _ c.args.node.now c.args.place made (ap (λ (d : Device). d.image) c.in-Ok.ensures.written) _ _ c.record_len-len.ensures c.push_back_reserved.ensures.items
+    index_after c.self.inside.index _ _ c.args.node.now c.args.place made (ap (λ (d : Device). d.image) c.in-Ok.ensures.written) _ _ _ c.record_len-len.ensures c.len.ensures.value c.push_back_reserved.ensures.items
+
+pub overflow_cast-place-in-Ok : goal.overflow_cast-place-in-Ok
+overflow_cast-place-in-Ok g c =
+    let inside = (made g (goal.at.overflow_cast-place-in-Ok g c).After-record_len-len).inside in
+    let small = (sizes_small c.self.inside.index.sectors c.self.inside.index.sector_size (told _ _ c.self.view_is c.self.invariant c.requires.working).sizes).1 in
+    omega arith
 
 pub overflow_mul-at : goal.overflow_mul-at
 overflow_mul-at g c = let may = (made g (goal.at.overflow_mul-at g c).After-record_len-len).may in omega (arith, may.free.inside, may.small)

@@ -1,1 +1,3 @@
 pub mod Handles
+pub mod Asking
+pub mod Places

@@ -1,12 +1,9 @@
 -- What cleaning comes to that may be.
-use Rattle.std.specs.Prelude.{◌≡◌, List, ℕ, Result, Ok, Err}
-use Rattle.jffs_node.specs.declared.node.Node.{Node}
+use Rattle.std.specs.Prelude.{◌≡◌, ℕ, Result, Ok, Err}
 use Rattle.jffs_tree.specs.declared.wish.Cause.{Cause}
 use Rattle.jffs_core.specs.declared.cleaning.Cleaned.{Cleaned}
 use Rattle.jffs_core.specs.declared.cleaning.Cleaned.TheVariants.{Erased, OneSector}
-use Rattle.jffs_core.specs.CoreState.{CoreState}
-use Rattle.jffs_core.specs.Past.{Represents}
-use Rattle.jffs_core.specs.Cleaning.{Cleans, Stops, ErasesDead, ErasingStopped}
+use Rattle.jffs_session.specs.Cleaned.{Cleaning, Erasing}
 use Rattle.jffs_c.specs.declared.code.Code.{Code}
 use Rattle.jffs_c.specs.declared.code.Code.TheVariants as code
 use Rattle.jffs_c.specs.declared.volume.Volume.{Volume}
@@ -18,13 +15,6 @@ code_of_cleaning (Ok (Erased sector copies)) = code.Done
 code_of_cleaning (Ok OneSector) = code.Nothing
 code_of_cleaning (Err cause) = code_of_cause cause
 
--- the core cleaned its oldest sector and answered this, in whatever history it had
-abbrev pub Cleaning : Result Cleaned Cause → CoreState → CoreState → Type 0
-Cleaning (Ok done) old new =
-    (mounted past : List Node) → Represents mounted past old → Cleans mounted past done old new
-Cleaning (Err cause) old new =
-    (mounted past : List Node) → Represents mounted past old → Stops mounted past cause old new
-
 -- the core was asked to clean its oldest sector, and the answer is the code of what it answered
 pub record CleansOldest (old new : Volume) (answer : Code) : Type 0 where
   pub ended : Result Cleaned Cause
@@ -35,12 +25,6 @@ pub record CleansOldest (old new : Volume) (answer : Code) : Type 0 where
 abbrev pub code_of_erasing : Result ℕ Cause → Code
 code_of_erasing (Ok count) = code.Done
 code_of_erasing (Err cause) = code_of_cause cause
-
--- the core erased dead sectors and answered this, in whatever history it had
-abbrev pub Erasing : Result ℕ Cause → CoreState → CoreState → Type 0
-Erasing (Ok count) old new =
-    (mounted past : List Node) → Represents mounted past old → ErasesDead mounted past count old new
-Erasing (Err cause) old new = ErasingStopped cause old new
 
 -- the core was asked to erase its dead sectors, and the answer is the code of what it answered
 pub record ErasesTheDead (old new : Volume) (answer : Code) : Type 0 where

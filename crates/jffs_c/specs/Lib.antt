@@ -8,3 +8,5 @@ pub mod Cleaned
 pub mod Seen
 pub mod Opened
 pub mod Told
+pub mod Numbered
+pub mod Volume

@@ -1,21 +1,21 @@
 -- What looks see.
 use Rattle.std.specs.Prelude.{◌≡◌, ◌≢◌, ◌⊎◌, ◌-◌, ◌<◌, ◌≤◌, ◌++◌, ℕ, true, false, List, length, IsUtf8}
-use Rattle.std.specs.Prelude.{map, sum, take, drop, min, slice_get, unwrap_or, Some, None, Ok, Err}
+use Rattle.std.specs.Prelude.{map, sum, take, drop, min, unwrap_or, Some, None, Ok, Err}
 use Rattle.std.specs.List.{filter}
-use Rattle.std.specs.List.Sorted.{IsPermutation, IsSorted}
 use Rattle.jffs_node.specs.Path.{path_of}
 use Rattle.jffs_node.specs.declared.path.PathFault.{PathFault}
 use Rattle.jffs_node.specs.declared.path.PathFault.TheVariants as fault
 use Rattle.jffs_tree.specs.State.{resolve, is_directory_in}
 use Rattle.jffs_inodes.specs.Inodes.{Tree}
 use Rattle.jffs_tree.specs.Origin.{state_in}
-use Rattle.jffs_tree.specs.Look.{bytes_in, size_of, names_in, name_cmp, holds_version}
+use Rattle.jffs_tree.specs.Look.{bytes_in, size_of, names_in, holds_version}
 use Rattle.jffs_log.specs.Room.{heavy}
 use Rattle.jffs_c.specs.declared.code.Code.{Code}
 use Rattle.jffs_c.specs.declared.code.Code.TheVariants as code
 use Rattle.jffs_c.specs.declared.looks.PathSight.{PathSight}
 use Rattle.jffs_c.specs.declared.looks.VolumeUsage.{VolumeUsage}
 use Rattle.jffs_c.specs.declared.volume.Volume.{Volume}
+use Rattle.jffs_c.specs.Numbered.{IsNumbered}
 
 -- the code of why bytes spell no path
 abbrev pub code_of_fault : PathFault → Code
@@ -89,13 +89,6 @@ pub record IsRead (bytes : List ℕ) (volume : Volume) (offset count : ℕ) (old
   pub counted : count ≡ min (length old) (length (bytes_in volume.core.tree inode) - offset)
   pub copied : new
       ≡ take count (drop offset (bytes_in volume.core.tree inode)) ++ drop count old
-
--- the name with this number in a directory, in the order of their bytes, and the inode there
-pub record IsNumbered (tree : Tree) (inode number : ℕ) (name : List ℕ) (found : ℕ) : Type 0 where
-  pub names : List (List ℕ × ℕ)
-  pub all : IsPermutation (names_in tree inode) names
-  pub ordered : IsSorted name_cmp names
-  pub numbered : slice_get names number ≡ Some (name, found)
 
 -- The name with this number in the directory at the path was copied into a buffer, and what stands
 -- there was seen.

@@ -32,9 +32,9 @@ impl Volume {
         match self.phase {
             Phase::Failed => Code::Failed,
             Phase::Ready => Code::Nothing,
-            Phase::Carrying => match self.core.log().flash().next() {
+            Phase::Carrying => match self.core().log().flash().next() {
                 None => Code::Nothing,
-                Some(next) => tell(next, self.core.log().sector_size(), call, buffer),
+                Some(next) => tell(next, self.core().log().sector_size(), call, buffer),
             },
         }
     }
@@ -52,7 +52,7 @@ impl Volume {
             Phase::Failed => Code::Failed,
             Phase::Ready => Code::Nothing,
             Phase::Carrying => {
-                self.core.log().flash().carried_out();
+                self.core().log().flash().carried_out();
                 self.turn();
                 Code::Done
             }
@@ -84,7 +84,7 @@ impl Volume {
         ensures { self.now.phase ≢ Phase.Carrying → result ≡ 0 }
     {
         match self.phase {
-            Phase::Carrying => u32::try_from(self.core.log().flash().left()).unwrap_or(u32::MAX),
+            Phase::Carrying => u32::try_from(self.core().log().flash().left()).unwrap_or(u32::MAX),
             Phase::Ready | Phase::Failed => 0,
         }
     }

@@ -10,12 +10,8 @@ ghost use Rattle.jffs_c.specs.Seen.{IsOfPaths, IsFaultOf};
 use crate::code::Code;
 use crate::volume::Volume;
 use jffs_core::Cleaned;
-use jffs_line::{CONTROL, Request};
 use jffs_node::{Path, copied};
 use jffs_tree::{Outcome, Wish};
-
-/// The sender's number in the records.
-const WRITER: u16 = 1;
 
 impl Volume {
     /// Makes a file without bytes. The causes of the core, and those of the path.
@@ -25,7 +21,7 @@ impl Volume {
             → AsksAt path.now Wish.Create self.old self.new result }
     {
         match self.path_to_change(path) {
-            Ok(path) => self.ask(WRITER, Wish::Create(path)),
+            Ok(path) => self.ask(Wish::Create(path)),
             Err(code) => code,
         }
     }
@@ -37,7 +33,7 @@ impl Volume {
             → AsksAt path.now Wish.MakeDir self.old self.new result }
     {
         match self.path_to_change(path) {
-            Ok(path) => self.ask(WRITER, Wish::MakeDir(path)),
+            Ok(path) => self.ask(Wish::MakeDir(path)),
             Err(code) => code,
         }
     }
@@ -49,7 +45,7 @@ impl Volume {
             → AsksAt path.now Wish.Remove self.old self.new result }
     {
         match self.path_to_change(path) {
-            Ok(path) => self.ask(WRITER, Wish::Remove(path)),
+            Ok(path) => self.ask(Wish::Remove(path)),
             Err(code) => code,
         }
     }
@@ -65,14 +61,11 @@ impl Volume {
             Err(code) => return code,
         };
         match copied(self.alloc, bytes) {
-            Ok(bytes) => self.ask(
-                WRITER,
-                Wish::Write {
-                    path,
-                    offset,
-                    bytes,
-                },
-            ),
+            Ok(bytes) => self.ask(Wish::Write {
+                path,
+                offset,
+                bytes,
+            }),
             Err(_) => Code::Memory,
         }
     }
@@ -84,7 +77,7 @@ impl Volume {
             → AsksAt path.now (λ p. Wish.Truncate p size) self.old self.new result }
     {
         match self.path_to_change(path) {
-            Ok(path) => self.ask(WRITER, Wish::Truncate { path, size }),
+            Ok(path) => self.ask(Wish::Truncate { path, size }),
             Err(code) => code,
         }
     }
@@ -100,7 +93,7 @@ impl Volume {
             Err(code) => return code,
         };
         match self.path_to_change(to) {
-            Ok(to) => self.ask(WRITER, Wish::Rename { from, to }),
+            Ok(to) => self.ask(Wish::Rename { from, to }),
             Err(code) => code,
         }
     }
@@ -111,7 +104,13 @@ impl Volume {
         ensures asked { blocked self.old.phase ≡ Ok tt
             → Asks Wish.Unmount self.old self.new result }
     {
-        self.ask(CONTROL, Wish::Unmount)
+        if let Err(code) = self.may_change() {
+            return code;
+        }
+        self.place = None;
+        let outcome = self.session.unmount();
+        self.turn();
+        answer_of(outcome)
     }
 
     /// Copies what lives in the oldest sector, and erases it. `Nothing` where the log has at most
@@ -124,7 +123,8 @@ impl Volume {
         if let Err(code) = self.may_change() {
             return code;
         }
-        let cleaned = self.core.clean_oldest();
+        self.place = None;
+        let cleaned = self.session.clean_oldest();
         self.turn();
         match cleaned {
             Ok(Cleaned::Erased { .. }) => Code::Done,
@@ -142,7 +142,8 @@ impl Volume {
         if let Err(code) = self.may_change() {
             return code;
         }
-        let erased = self.core.erase_dead();
+        self.place = None;
+        let erased = self.session.erase_dead();
         self.turn();
         match erased {
             Ok(_) => Code::Done,
@@ -150,8 +151,8 @@ impl Volume {
         }
     }
 
-    /// Has the core answer a request. `Memory` where there is none for its answer.
-    fn ask(&mut self, writer: u16, wish: Wish) -> Code
+    /// Has the core answer a request. `Memory` may also say that there was none for its answer.
+    fn ask(&mut self, wish: Wish) -> Code
         ensures held_back { IsHeldBack self.old self.new result }
         ensures asked { blocked self.old.phase ≡ Ok tt
             → Asks wish self.old self.new result }
@@ -159,11 +160,8 @@ impl Volume {
         if let Err(code) = self.may_change() {
             return code;
         }
-        let seq = self.seq.saturating_add(1);
-        let Ok(outcome) = self.core.ask(Request { writer, seq, wish }) else {
-            return Code::Memory;
-        };
-        self.seq = seq;
+        self.place = None;
+        let outcome = self.session.ask(wish);
         self.turn();
         answer_of(outcome)
     }

@@ -1,12 +1,13 @@
 //! What the functions of the header answer.
 
-ghost use Rattle.std.specs.Prelude.{◌≡◌};
+ghost use Rattle.std.specs.Prelude.{◌≡◌, IfSome};
 ghost use Rattle.jffs_c.specs.Codes.{number_of};
 
 use jffs_node::PathFault;
 use jffs_tree::Cause;
 
-/// What a function answers. In C it is a number: the place in this list, counted from 0.
+/// What a function answers. In C it is a number, which [`Code::number`] states for each: a new code
+/// gets the next one, and none is given anew.
 #[derive(Clone, Copy, Debug, PartialEq, Eq)]
 pub enum Code {
     Done,
@@ -45,7 +46,7 @@ pub enum Code {
     BadTree,
 }
 
-/// Each code, in the order of their numbers.
+/// Each code.
 const CODES: [Code; 31] = [
     Code::Done,
     Code::RootFixed,
@@ -82,8 +83,15 @@ const CODES: [Code; 31] = [
 
 impl Code {
     /// The code with this number; `None` where none has it.
-    pub(crate) fn of_number(number: u32) -> Option<Code> {
-        CODES.get(number as usize).copied()
+    pub(crate) fn of_number(number: u32) -> Option<Code>
+        ensures { IfSome result (λ code. number_of code ≡ number) }
+    {
+        for code in &CODES {
+            if code.number() == number {
+                return Some(*code);
+            }
+        }
+        None
     }
 
     /// Its number.

@@ -5,9 +5,11 @@ ghost use Rattle.jffs_core.specs.Jobs.{wants_cleaning};
 ghost use Rattle.jffs_c.specs.Blocked.{looks_blocked};
 ghost use Rattle.jffs_c.specs.Seen.{LeadsTo, LeadsNowhere, sight_in, IsSeen, IsRead, IsEntry};
 ghost use Rattle.jffs_c.specs.Seen.{IsUnreached, IsUnread, IsUntold, IsUsage};
+ghost use Rattle.jffs_c.specs.Volume.{IsPlaceAt, IsNoPlace};
 
 use crate::calls::put;
 use crate::code::Code;
+use crate::place::{Place, next_place, some_place};
 use crate::volume::Volume;
 use jffs_node::{FILE_MAX, NAME_MAX, PATH_DEPTH_MAX};
 use jffs_tree::Tree;
@@ -67,7 +69,7 @@ impl Volume {
     {
         self.may_look()?;
         let inode = self.inode_at(path)?;
-        Ok(sight_of(self.core.tree(), inode))
+        Ok(sight_of(self.tree(), inode))
     }
 
     /// Copies the bytes of a file from `offset` on, as many as there are and as `buffer` takes, and
@@ -84,7 +86,7 @@ impl Volume {
     {
         self.may_look()?;
         let inode = self.inode_at(path)?;
-        let tree = self.core.tree();
+        let tree = self.tree();
         if tree.is_directory(inode) {
             return Err(Code::IsDirectory);
         }
@@ -97,33 +99,60 @@ impl Volume {
     /// `Failed`, the path's faults, `NotFound`, `Nothing` where there are fewer names or this is a
     /// file, `BufferShort` where the buffer can't take the name, `Memory`.
     pub(crate) fn entry(
-        &self,
+        &mut self,
         path: &[u8],
         number: u32,
         buffer: &mut [u8],
     ) -> Result<(PathSight, usize), Code>
-        ensures held_back { IfErr (looks_blocked self.now.phase) (λ why. result ≡ Err why) }
+        ensures held_back { IfErr (looks_blocked self.old.phase) (λ why. result ≡ Err why) }
         ensures entry { IfOk result
-            (λ e. IsEntry path.now self.now number e.0 e.1 buffer.old buffer.new) }
-        ensures none { result ≡ Err Code.NotFound → LeadsNowhere path.now self.now }
+            (λ e. IsEntry path.now self.old number e.0 e.1 buffer.old buffer.new) }
+        ensures none { result ≡ Err Code.NotFound → LeadsNowhere path.now self.old }
         ensures refused { IfErr result
             (λ code. (code ≢ Code.Done) × (buffer.new ≡ buffer.old)) }
-        ensures why { looks_blocked self.now.phase ≡ Ok tt
-            → IfErr result (IsUntold path.now self.now number (length buffer.old)) }
+        ensures why { looks_blocked self.old.phase ≡ Ok tt
+            → IfErr result (IsUntold path.now self.old number (length buffer.old)) }
+        ensures kept { self.new ≡ self.old }
     {
         self.may_look()?;
         let inode = self.inode_at(path)?;
-        let tree = self.core.tree();
-        let Ok(names) = tree.names(inode) else {
-            return Err(Code::Memory);
-        };
-        let Some((name, found)) = names.get(number as usize) else {
-            return Err(Code::Nothing);
-        };
-        let bytes = name.bytes();
+        let place = self.place_at(inode, number)?;
+        let bytes = place.name.bytes();
         match put(bytes, buffer) {
-            Code::Done => Ok((sight_of(tree, *found), bytes.len())),
+            Code::Done => Ok((sight_of(self.tree(), place.inode), bytes.len())),
             _ => Err(Code::BufferShort),
+        }
+    }
+
+    /// The place of the name with this number in a directory, from which the next one is found.
+    fn place_at(&mut self, directory: u32, number: u32) -> Result<Place, Code>
+        ensures there { IfOk result (IsPlaceAt self.old.core.tree directory number) }
+        ensures none { IfErr result (IsNoPlace self.old.core.tree directory number) }
+        ensures kept { self.new ≡ self.old }
+    {
+        let found = self.find_place(directory, number);
+        if let Ok(place) = &found {
+            self.place = Some(*place);
+        }
+        found
+    }
+
+    /// The place of the name with this number. `Nothing` where there are fewer names; `Memory`, but
+    /// not of the first name, nor of the one that was told last, nor of the one after that.
+    fn find_place(&self, directory: u32, number: u32) -> Result<Place, Code>
+        ensures there { IfOk result (IsPlaceAt self.now.core.tree directory number) }
+        ensures none { IfErr result (IsNoPlace self.now.core.tree directory number) }
+    {
+        let Some(place) = self.place else {
+            return some_place(self.tree(), directory, number);
+        };
+        if place.directory != directory || place.number > number {
+            return some_place(self.tree(), directory, number);
+        }
+        match number - place.number {
+            0 => Ok(place),
+            1 => next_place(self.tree(), place),
+            _ => some_place(self.tree(), directory, number),
         }
     }
 
@@ -136,7 +165,7 @@ impl Volume {
     {
         self.may_look()?;
         Ok(Longest {
-            write: self.core.limits().data_max,
+            write: self.core().limits().data_max,
             path: PATH_TEXT_MAX,
             name: NAME_MAX as u32,
             depth: PATH_DEPTH_MAX as u32,
@@ -152,13 +181,13 @@ impl Volume {
         ensures answered { looks_blocked self.now.phase ≡ Ok tt → IsOk result }
     {
         self.may_look()?;
-        let log = self.core.log();
+        let log = self.core().log();
         Ok(VolumeUsage {
             sectors: log.sectors(),
             sector_size: log.sector_size(),
             erased: log.erased(),
             records: u32::try_from(log.records().len()).unwrap_or(u32::MAX),
-            weight: log.live_weight(self.core.tree()),
+            weight: log.live_weight(self.tree()),
             sure: log.sure_weight(),
         })
     }
@@ -172,7 +201,7 @@ impl Volume {
         ensures answered { looks_blocked self.now.phase ≡ Ok tt → IsOk result }
     {
         self.may_look()?;
-        Ok(self.core.wants_cleaning())
+        Ok(self.core().wants_cleaning())
     }
 
     /// Whether the log ends with an unmount node, and nothing was programmed after it. `Failed`.
@@ -183,7 +212,7 @@ impl Volume {
         ensures answered { looks_blocked self.now.phase ≡ Ok tt → IsOk result }
     {
         self.may_look()?;
-        Ok(self.core.clean())
+        Ok(self.core().clean())
     }
 
     /// The inode at a path. The path's faults, `NotFound`.
@@ -194,7 +223,7 @@ impl Volume {
         ensures why { IfErr result (IsUnreached path.now self.now) }
     {
         let path = self.path(path)?;
-        match self.core.tree().resolve(&path) {
+        match self.tree().resolve(&path) {
             Some(inode) => Ok(inode),
             None => Err(Code::NotFound),
         }

@@ -6,11 +6,11 @@ ghost use Rattle.jffs_c.specs.Opened.{number_of_rule, told_of, told_plainly};
 
 use crate::code::Code;
 use crate::volume::Volume;
-use jffs_core::Core;
 use jffs_flash::{MemoryFlash, is_geometry};
 use jffs_log::ScanWhy;
 use jffs_node::Why;
 use jffs_queue::HandedFlash;
+use jffs_session::Session;
 use std::alloc::Global;
 
 /// What a refused volume is refused for. All are 0 but for `BadRecord`.
@@ -47,7 +47,7 @@ pub(crate) fn open(alloc: Global, bytes: &[u8], sector_size: u32) -> Result<Box<
         return Err(plain(Code::Memory));
     };
     let medium = MemoryFlash::from_bytes(sectors, sector_size, bytes);
-    match Core::open(alloc, HandedFlash::new(alloc, medium)) {
+    match Session::open(alloc, HandedFlash::new(alloc, medium)) {
         Ok(opened) => match Box::new(alloc, Volume::new(alloc, opened)) {
             Ok(volume) => Ok(volume),
             Err(_) => Err(plain(Code::Memory)),

@@ -298,6 +298,42 @@ fn each_of_300_names_is_told(rt: HostRuntime) -> Result<(), TestFail> {
     told
 }
 
+/// Names one after another, the same one twice, one before it, one far after it, names of another
+/// directory between them, and each change between two of them.
+const IN_TURNS: &str = "mkdir /d : Done
+    create /d/b : Done
+    create /d/d : Done
+    create /d/f : Done
+    mkdir /e : Done
+    create /e/x : Done
+    entry /d 0 1 : [b] 1 file 0
+    entry /d 1 1 : [d] 1 file 0
+    entry /d 1 1 : [d] 1 file 0
+    entry /e 1 1 : [.] 77 Nothing
+    entry /e 0 1 : [x] 1 file 0
+    entry /d 2 1 : [f] 1 file 0
+    entry /d 3 1 : [.] 77 Nothing
+    entry /d 2 0 : [] 77 BufferShort
+    entry /d 0 1 : [b] 1 file 0
+    create /d/a : Done
+    entry /d 1 1 : [b] 1 file 0
+    create /d/c : Done
+    entry /d 2 1 : [c] 1 file 0
+    remove /d/d : Done
+    entry /d 3 1 : [f] 1 file 0
+    entry /d 4 1 : [.] 77 Nothing
+    create /d/a : NameTaken
+    entry /d 0 1 : [a] 1 file 0
+    entry / 0 1 : [d] 1 directory 0
+    entry / 1 1 : [e] 1 directory 0
+    entry /d/a 0 1 : [.] 77 Nothing
+    entry /d 1 1 : [b] 1 file 0";
+
+#[test]
+fn names_are_told_in_any_turn(rt: HostRuntime) -> Result<(), TestFail> {
+    Session::erased(rt.alloc(), 8, 1024)?.played(&rt, IN_TURNS)
+}
+
 /// A path of so many bytes: names of 20 bytes, and one of the rest.
 fn path_of(alloc: Global, len: usize) -> Result<String, TestFail> {
     let mut path = String::new(alloc);

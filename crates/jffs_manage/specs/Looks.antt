@@ -8,10 +8,9 @@ use Rattle.jffs_tree.specs.Origin.{state_in}
 use Rattle.jffs_tree.specs.Look.{children, parent_name_in, size_of}
 use Rattle.jffs_text.specs.Dump.{by_name, line_end}
 use Rattle.jffs_log.specs.declared.log_index.RecordRef.{RecordRef}
-use Rattle.jffs_log.specs.LogIndex.{weight_in, log_in}
+use Rattle.jffs_log.specs.LogIndex.{live_bytes_in, weight_in, log_in}
 use Rattle.jffs_log.specs.Room.{heavy}
 use Rattle.jffs_core.specs.CoreState.{CoreState}
-use Rattle.jffs_manage.specs.Weights.{live_bytes_in}
 use Rattle.jffs_manage.specs.declared.looking.Stat.{Stat}
 use Rattle.jffs_manage.specs.declared.looking.SpaceUsage.{SpaceUsage}
 

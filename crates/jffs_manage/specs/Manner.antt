@@ -11,7 +11,7 @@ use Rattle.jffs_protocol.specs.declared.serving.Said.{Said}
 use Rattle.jffs_protocol.specs.declared.serving.Said.TheVariants as said
 use Rattle.jffs_core.specs.CoreState.{CoreState}
 use Rattle.jffs_session.specs.Session.{files}
-use Rattle.jffs_session.specs.Told.{Asks, Changes, IsDone, is_refused}
+use Rattle.jffs_session.specs.Told.{Asks, Changes, IsCarriedOut, IsDone, is_refused}
 use Rattle.jffs_manage.specs.declared.wanting.Wanted.{Wanted}
 use Rattle.jffs_manage.specs.declared.wanting.Wanted.TheVariants as wanted
 use Rattle.jffs_manage.specs.Answers.{query_answer, refused_text}
@@ -19,12 +19,16 @@ use Rattle.jffs_manage.specs.Answers.{query_answer, refused_text}
 -- The volume refused a change, and works afterwards: no file is changed.
 pub record IsRefused (wish : Wish) (old new : CoreState) (written : List ℕ) : Type 0 where
   pub cause : Cause
+  pub carried_out : IsCarriedOut wish (Refused cause) old new
   pub changes : old.failed ≡ false → Changes wish (Err cause) old new
   pub works : new.failed ≡ false
   pub is : written ≡ refused_text cause
 
 -- A change is done, and the volume works afterwards.
 pub record IsGranted (wish : Wish) (old new : CoreState) : Type 0 where
+  pub outcome : Outcome
+  pub carried_out : IsCarriedOut wish outcome old new
+  pub granted : is_refused outcome ≡ false
   pub worked : old.failed ≡ false
   pub done : IsDone wish old (files new)
   pub works : new.failed ≡ false
@@ -61,10 +65,15 @@ abbrev pub IsOver : Wanted → CoreState → CoreState → Type 0
 IsOver wanted.Unmount old new = IsUnmounted old new
 IsOver _ old new = ⊥
 
--- When it is that memory was lacking: no file is changed.
+-- Memory was lacking for a change, which wasn't asked for, or for saying why it was refused: no
+-- file is changed.
+pub record LacksForChange (wish : Wish) (old new : CoreState) : Type 0 where
+  pub asked : (new ≡ old) ⊎ ((cause : Cause) × IsCarriedOut wish (Refused cause) old new)
+  pub changes : old.failed ≡ false → Changes wish (Err Memory) old new
+
+-- When it is that memory was lacking.
 abbrev pub LacksMemory : Wanted → CoreState → CoreState → Type 0
-LacksMemory (wanted.Change wish) old new =
-    old.failed ≡ false → Changes wish (Err Memory) old new
+LacksMemory (wanted.Change wish) old new = LacksForChange wish old new
 LacksMemory _ old new = new ≡ old
 
 -- What may be said to what is wanted, of the volume before and after, with these bytes.

@@ -1,24 +1,21 @@
 //! What is written of a volume.
 
-ghost use Rattle.std.specs.Prelude.{◌≡◌, ◌≢◌, ◌↔◌, ◌-◌, ◌<◌, ◌^◌, ℕ, true, false, Some, None};
-ghost use Rattle.std.specs.Prelude.{IfOk, OnOk, length};
+ghost use Rattle.std.specs.Prelude.{◌≡◌, ◌≢◌, ◌↔◌, ◌-◌, ℕ, true, false, Some, None};
+ghost use Rattle.std.specs.Prelude.{IfOk, OnOk};
 ghost use Rattle.std.specs.Io.KnownBytes.{Appends};
 ghost use Rattle.jffs_tree.specs.State.{resolve, is_directory_in};
 ghost use Rattle.jffs_tree.specs.Origin.{state_in};
 ghost use Rattle.jffs_tree.specs.Look.{bytes_in};
 ghost use Rattle.jffs_log.specs.LogIndex.{weight_in, log_in};
 ghost use Rattle.jffs_log.specs.Room.{heavy};
-ghost use Rattle.jffs_manage.specs.Weights.{live_bytes_in};
 ghost use Rattle.jffs_manage.specs.Looks.{entry_text, stat_in, directory_lines, list_text};
 ghost use Rattle.jffs_manage.specs.Looks.{usage_text, usage_in};
 
 use crate::fault::VolumeFault;
 use jffs_core::Core;
 use jffs_flash::Flash;
-use jffs_log::RecordRef;
 use jffs_node::{Name, Path};
 use jffs_tree::Tree;
-use std::collections::VecDeque;
 use std::io;
 use std::io::Write;
 
@@ -92,23 +89,11 @@ pub(crate) fn stat_of<F: Flash>(core: &Core<F>, inode: u32, long: bool) -> Stat
         directory: tree.is_directory(inode),
         size: tree.size(inode).unwrap_or(0),
         live: if long {
-            live_bytes(core.log().records(), tree, inode)
+            core.log().live_bytes(inode, tree)
         } else {
             0
         },
     }
-}
-
-/// The lengths of the live records of an inode together, in bytes.
-fn live_bytes(records: &VecDeque<RecordRef>, tree: &Tree, inode: u32) -> u64
-    requires { length records.now.items < 2 ^ 32 }
-    ensures { result ≡ live_bytes_in tree.now inode records.now.items }
-{
-    records
-        .iter()
-        .filter(|record| record.inode == inode && tree.live(inode, record.version))
-        .map(|record| u64::from(record.length))
-        .sum()
 }
 
 fn write_entry<W: Write>(stat: Stat, long: bool, name: &Name, out: &mut W) -> io::Result<()>

@@ -134,15 +134,15 @@ fn part_of<F: Flash>(log: &Log<F>, sector: u32, tail: Option<MapTail>) -> Part {
 fn paint<F: Flash>(core: &Core<F>, sector: u32, cell_len: u32, cells: &mut [MapCell; CELLS]) {
     let cell_len = cell_len.max(1);
     for record in core.log().records().iter() {
-        if record.sector != sector {
+        if u32::from(record.sector) != sector {
             continue;
         }
         let live = core.tree().live(record.inode, record.version);
-        let end = record
-            .offset
-            .saturating_add(record.length)
+        let start = u32::from(record.offset);
+        let end = start
+            .saturating_add(u32::from(record.length))
             .div_ceil(cell_len);
-        for at in record.offset / cell_len..end {
+        for at in start / cell_len..end {
             match cells.get_mut(at as usize) {
                 Some(cell) if live => *cell = MapCell::Live,
                 Some(cell) if *cell != MapCell::Live => *cell = MapCell::Dead,

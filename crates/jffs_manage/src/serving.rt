@@ -8,26 +8,12 @@ ghost use Rattle.jffs_manage.specs.Manner.{IsManner, IsSynced, SaysRefused, Says
 use crate::answering::{answer_query, write_refusal};
 use crate::fault::VolumeFault;
 use crate::wanting::{Query, Wanted, wants};
-use jffs_file::{FileFlash, FileStore, StoreFault};
+use jffs_file::SyncFlash;
 use jffs_flash::Flash;
 use jffs_protocol::{Ask, Failure, Said, Server};
 use jffs_session::Session;
 use jffs_tree::{Cause, Outcome, Wish};
 use std::alloc::Global;
-use std::fs::OpenFile;
-use std::io::{Seek, Write};
-
-/// A device whose bytes can be brought to their medium.
-pub(crate) trait SyncFlash {
-    /// Brings all that was written to the medium, and waits for it.
-    fn sync_flash(&self) -> Result<(), StoreFault>;
-}
-
-impl<X: Write + Seek + OpenFile + Drop> SyncFlash for FileFlash<FileStore<X>> {
-    fn sync_flash(&self) -> Result<(), StoreFault> {
-        self.sync()
-    }
-}
 
 /// A mounted volume that is served.
 #[derive(Drop)]

@@ -4,3 +4,4 @@ mod Paths
 mod Stages
 mod Steps
 mod Endings
+mod Cleaned

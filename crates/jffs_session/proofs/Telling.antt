@@ -277,3 +277,7 @@ asks_failed wish o old new (inr unasked) m failed = record { refused = ap is_ref
 pub not_both : (o : Outcome) → is_refused o ≡ true → ((cause : Cause) → o ≡ Refused cause → ⊥) → ⊥
 not_both (Refused cause) is not_refused = not_refused cause refl
 not_both _ is not_refused = cc
+
+pub not_refused : (o : Outcome) → ((cause : Cause) → o ≡ Refused cause → ⊥) → is_refused o ≡ false
+not_refused (Refused cause) never = absurd (never cause refl)
+not_refused _ never = refl

@@ -14,6 +14,7 @@ use Rattle.jffs_core.specs.Past.{IsOpened}
 use Rattle.jffs_core.specs.Run.{is_failure}
 use Rattle.jffs_core.specs.Done.{done_by, IsFreeBy, ScanFinds}
 use Rattle.jffs_core.specs.Asking.{HasAsked}
+use Rattle.jffs_core.specs.Trees.{KeepsTree}
 use Rattle.jffs_session.specs.Session.{files}
 
 -- a scan of what a failed core has left finds such files
@@ -86,6 +87,21 @@ Moves Does (Err cause) old new =
 -- so is a change
 abbrev pub Changes : Wish → Result Unit Cause → CoreState → CoreState → Type 0
 Changes wish r old new = Moves (IsDone wish old) r old new
+
+-- A wish was answered so, and then no file was changed.
+pub record IsCarriedOut (wish : Wish) (o : Outcome) (old new : CoreState) : Type 0 where
+  pub between : CoreState
+  pub answered : Asks wish o old between
+  pub tree : KeepsTree between new
+
+-- A change was asked for once: it was granted where that is said; and where not, it was refused for
+-- that cause, or the device failed.
+abbrev pub CarriesOut : Wish → Result Unit Cause → CoreState → CoreState → Type 0
+CarriesOut wish (Ok given) old new =
+    (o : Outcome) × (is_refused o ≡ false) × IsCarriedOut wish o old new
+CarriesOut wish (Err cause) old new =
+    IsCarriedOut wish (Refused cause) old new
+    ⊎ ((new.failed ≡ true) × ((o : Outcome) × IsCarriedOut wish o old new))
 
 -- No file is changed; and where the device failed, a scan finds the same files.
 pub record LeavesFiles (old new : CoreState) : Type 0 where

@@ -4,8 +4,10 @@
 //! Its contracts speak of files and directories.
 #![tactic(auto)]
 
+mod looking;
 mod putting;
 mod session;
 
+pub use looking::{Entry, Sight};
 pub use putting::{PutFault, PutLeft, PutPaths, PutStep, are_beside};
 pub use session::{Opened, Session};

@@ -6,9 +6,11 @@ ghost use Rattle.jffs_log.specs.ScanFound.{IsRefused};
 ghost use Rattle.jffs_log.specs.Heal.{begun_on, healed_device, erase_of, IsUnhealed};
 ghost use Rattle.jffs_tree.specs.declared.wish.Wish.TheVariants as wishes;
 ghost use Rattle.jffs_core.specs.Past.{IsFresh, IsLeftBy};
+ghost use Rattle.jffs_core.specs.Trees.{KeepsTree};
 ghost use Rattle.jffs_session.specs.Session.{SessionState, IsMounted};
 ghost use Rattle.jffs_session.specs.Told.{Asks, IsTold, Changes, LeavesFiles, StaysFailed};
-ghost use Rattle.jffs_session.specs.Told.{is_stop};
+ghost use Rattle.jffs_session.specs.Told.{CarriesOut, is_stop};
+ghost use Rattle.jffs_session.specs.Cleaned.{Cleaning, Erasing};
 
 use jffs_core::{Cleaned, Core};
 use jffs_flash::Flash;
@@ -141,6 +143,7 @@ impl<F: Flash> Session<F> {
     pub fn change(&mut self, wish: Wish) -> Result<(), Cause>
         ensures changes { self.old.core.failed ≡ false
             → Changes wish result self.old.core self.new.core }
+        ensures asked { CarriesOut wish result self.old.core self.new.core }
         ensures failed { self.old.core.failed ≡ true
             → IsErr result × (self.new.core.failed ≡ true) }
         ensures mounted { IsMounted self.new.core }
@@ -188,6 +191,8 @@ impl<F: Flash> Session<F> {
         ensures kept { self.old.core.failed ≡ false → LeavesFiles self.old.core self.new.core }
         ensures fails { MatchResult result (λ count. self.new.core.failed ≡ false)
             (λ cause. (self.new.core.failed ≡ true) × (is_stop cause ≡ true)) }
+        ensures erased { Erasing result self.old.core self.new.core }
+        ensures tree { KeepsTree self.old.core self.new.core }
         ensures mounted { IsMounted self.new.core }
         ensures begun { self.new.begun ≡ self.old.begun }
     {
@@ -197,6 +202,7 @@ impl<F: Flash> Session<F> {
     /// Cleans the oldest sector, as [`Core::clean_oldest`] does.
     pub fn clean_oldest(&mut self) -> Result<Cleaned, Cause>
         ensures kept { self.old.core.failed ≡ false → LeavesFiles self.old.core self.new.core }
+        ensures cleaned { Cleaning result self.old.core self.new.core }
         ensures begun { self.new.begun ≡ self.old.begun }
     {
         self.core.clean_oldest()

@@ -2,6 +2,7 @@
 //! What is expected was worked out on paper from docs/SCRIPT.md and docs/TOOLS.md.
 
 mod asked;
+mod looks;
 mod puts;
 mod stopped;
 

@@ -1,14 +1,10 @@
--- The core was asked.
-use Rattle.std.proofs.Common.{inr, refl, sym, subst}
-use Rattle.jffs_core.specs.CoreState.{CoreState}
-use Rattle.jffs_core.specs.Asking.{HasAsked}
+-- The session was asked.
+use Rattle.std.proofs.Common.{ap}
+use Rattle.jffs_c.specs.Volume.{VolumeState}
+use Rattle.jffs_c.proofs.Asking.{asked}
 use Rattle.jffs_c.proofs.volume.Volume.ask.Goals as goal
 
 pub returns-clause-asked : goal.returns-clause-asked
-returns-clause-asked c = λ _. inr (record {
-  outcome = c.in-Ok.outcome;
-  told = c.answer_of.ensures;
-  answered =
-      subst (λ (core : CoreState). HasAsked c.args.wish c.in-Ok.outcome c.args.self.now.core core) (sym c.turn.ensures.core)
-      (record { writer = c.args.writer; seq = c.saturating_add-seq.result; wish = c.args.wish }, refl, c.in-Ok.ensures.asked);
-})
+returns-clause-asked c = λ _.
+    asked c.args.self.now c.turn.new.self c.self.inside.session.core c.ask-outcome.new.self.core (ap (λ (v : VolumeState). v.core) c.self.view_is) c.turn.ensures.core
+    c.args.wish c.ask-outcome.result c.answer_of.result c.answer_of.ensures c.ask-outcome.ensures.asked

@@ -92,6 +92,7 @@ impl ProgramWhy {
             ProgramWhy::Run(RunWhy::Line) => "the line of requests can't be made",
             ProgramWhy::Run(RunWhy::Index) => "the index that readers look into can't be made",
             ProgramWhy::Run(RunWhy::Spawn) => "a thread can't be started",
+            ProgramWhy::Run(RunWhy::Numbers) => "a writer's last number is used",
             ProgramWhy::Run(RunWhy::Settle) => "the ends of the line can't be taken back",
         }
     }

@@ -324,12 +324,16 @@ fn run_opened<Rt: AllocGlobal + Threads + Wait + Sync, F: Flash + Send + Drop>(
 /// The device of a run that was given up since it didn't mount, once an erase that was cut off on
 /// it is ended. `Mount` with the reason where it holds no volume, else why the run was given up.
 fn healed<F: Flash + Drop>(alloc: Global, fault: RunFault<F>) -> Result<F, ProgramWhy> {
-    let flash = match fault {
-        RunFault {
-            why: RunWhy::Mount,
-            flash: Some(flash),
-        } => flash,
-        RunFault { why, flash: _ } => return Err(ProgramWhy::Run(why)),
+    let RunFault {
+        why,
+        flash,
+        answers: _,
+    } = fault;
+    if why != RunWhy::Mount {
+        return Err(ProgramWhy::Run(why));
+    }
+    let Some(flash) = flash else {
+        return Err(ProgramWhy::Run(why));
     };
     match heal(alloc, flash) {
         Ok(Healed { mounted, sector: _ }) => Ok(mounted.log.into_flash()),

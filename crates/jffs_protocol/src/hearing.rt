@@ -1,9 +1,9 @@
 //! What stands on standard input, request by request.
 
-ghost use Rattle.std.specs.Io.KnownBytes.{Consumes};
-ghost use Rattle.std.specs.Prelude.{◌≡◌, ◌≢◌, ◌≤◌, ◌++◌, true, false, IfOk, All, length, take};
+ghost use Rattle.std.specs.Prelude.{◌≡◌, ◌≢◌, ◌≤◌, ◌++◌, false, IfOk, All, length, take};
 ghost use Rattle.std.specs.Io.Buffered.{reader_remaining as left_in};
-ghost use Rattle.jffs_protocol.specs.Hearing.{TakesNext, TakesMore, TakesCount, HearsLine};
+ghost use Rattle.jffs_protocol.specs.Hearing.{TakesNext, TakesMore, TakesBytes, DropsBytes};
+ghost use Rattle.jffs_protocol.specs.Hearing.{HearsLine};
 ghost use Rattle.jffs_protocol.specs.Hearing.{HearsBody, Hears};
 
 use crate::asking::{Ask, ask_of};
@@ -189,8 +189,8 @@ fn hear_body<R: Read>(input: &mut R, ask: Ask, room: &mut Room) -> io::Result<He
 
 /// Takes so many bytes, in place of what stands there; `false` where the input ends before.
 fn fill<R: Read>(input: &mut R, bytes: &mut Vec<u8>, count: usize) -> io::Result<bool>
-    ensures { IfOk result (λ all. all ≡ true → (length bytes.new.items ≡ count)
-        × Consumes (R.remaining input.old) (R.remaining input.new) bytes.new.items) }
+    ensures { IfOk result (λ all. TakesBytes all (R.remaining input.old) (R.remaining input.new)
+        count bytes.new.items) }
 {
     bytes.clear();
     bytes.resize(count, 0)?;
@@ -199,21 +199,29 @@ fn fill<R: Read>(input: &mut R, bytes: &mut Vec<u8>, count: usize) -> io::Result
 
 /// Takes as many bytes as the slice has; `false` where the input ends before.
 fn take_exact<R: Read>(input: &mut R, bytes: &mut [u8]) -> io::Result<bool>
-    ensures taken { IfOk result
-        (λ all. all ≡ true → Consumes (R.remaining input.old) (R.remaining input.new) bytes.new) }
+    ensures taken { IfOk result (λ all. TakesBytes all (R.remaining input.old)
+        (R.remaining input.new) (length bytes.old) bytes.new) }
     ensures same_length { length bytes.new ≡ length bytes.old }
 {
-    match input.read_exact(bytes) {
-        Ok(()) => Ok(true),
-        Err(error) if error.kind() == ErrorKind::UnexpectedEof => Ok(false),
-        Err(error) => Err(error),
+    let mut at = 0;
+    for _ in 0..u64::MAX {
+        if at >= bytes.len() {
+            return Ok(true);
+        }
+        match input.read(&mut bytes[at..]) {
+            Ok(0) => return Ok(false),
+            Ok(count) => at += count,
+            Err(error) if error.kind() == ErrorKind::Interrupted => {}
+            Err(error) => return Err(error),
+        }
     }
+    Err(endless())
 }
 
 /// Takes so many bytes and drops them; `false` where the input ends before.
 fn skip<R: Read>(input: &mut R, bytes: &mut Vec<u8>, count: usize) -> io::Result<bool>
     ensures { IfOk result
-        (λ all. all ≡ true → TakesCount (R.remaining input.old) (R.remaining input.new) count) }
+        (λ all. DropsBytes all (R.remaining input.old) (R.remaining input.new) count) }
 {
     let mut left = count;
     while left > 0 {

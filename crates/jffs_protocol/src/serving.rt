@@ -1,11 +1,11 @@
 //! Requests served one after another.
 
-ghost use Rattle.std.specs.Prelude.{◌≡◌, ◌≢◌, ◌≤◌, [], IfOk, OnOk, length, vec_len, take};
+ghost use Rattle.std.specs.Prelude.{◌≡◌, ◌≤◌, [], IfOk, OnOk, length, vec_len, take};
 ghost use Rattle.std.specs.Io.Buffered.{reader_remaining as left_in};
 ghost use Rattle.std.specs.Io.KnownBytes.{Appends};
 ghost use Rattle.jffs_protocol.specs.Asks.{body_len};
 ghost use Rattle.jffs_protocol.specs.Serving.{Manner, ServesNext, ServesAll, said_text, greeting};
-ghost use Rattle.jffs_protocol.specs.Serving.{Responds, malformed_text};
+ghost use Rattle.jffs_protocol.specs.Serving.{Responds, is_last, malformed_text, next_of};
 
 use crate::asking::Ask;
 use crate::hearing::{Heard, Room, hear};
@@ -118,10 +118,11 @@ fn serve_all<S: Server, R: Read, W: Write>(
     for _ in 0..u64::MAX {
         match serve_one(server, room, input, out)? {
             Next::More => {}
-            Next::Last | Next::End => return Ok(()),
+            Next::Last => return Ok(()),
+            Next::End => return Ok(()),
         }
     }
-    Ok(())
+    Err(StreamFault::Input)
 }
 
 /// Takes one request and answers it.
@@ -160,8 +161,8 @@ fn respond<S: Server, W: Write>(
     out: &mut W,
 ) -> Result<Next, StreamFault>
     requires fits { body_len ask ≤ vec_len room.old.body }
-    ensures { IfOk result (λ next. (next ≢ Next.End) × Responds S.manner ask
-        (take (body_len ask) room.old.body.items) server.old server.new (W.contents out.old)
+    ensures { IfOk result (λ next. Responds S.manner ask
+        (take (body_len ask) room.old.body.items) next server.old server.new (W.contents out.old)
         (W.contents out.new)) }
 {
     let count = ask.first_len() as usize + ask.second_len() as usize;
@@ -171,8 +172,9 @@ fn respond<S: Server, W: Write>(
     Ok(next_after(said))
 }
 
+/// Nothing comes after the last answer, nor after a failure.
 fn next_after(said: Said) -> Next
-    ensures { result ≢ Next.End }
+    ensures { result ≡ next_of (is_last said) }
 {
     match said {
         Said::Last | Said::Failed(_) => Next::Last,

@@ -1,6 +1,6 @@
 -- What calls that are carried out leave of an image.
 use Rattle.std.proofs.lemmas.Bool.{and_parts, leb-true}
-use Rattle.std.proofs.Common.{◌≡◌, inl, inr, leb, ltb, ◌^◌, ℕ, ◌+◌, ◌*◌, ◌<◌, ◌≤◌, List, [], ◌∷◌, length, replicate, Ok, Err, refl, sym, ap, subst, ◌∙◌, arith}
+use Rattle.std.proofs.Common.{◌≡◌, inl, inr, leb, ltb, ◌^◌, ℕ, ◌+◌, ◌*◌, ◌<◌, ◌≤◌, List, [], ◌∷◌, length, replicate, drop, Ok, Err, refl, sym, ap, subst, ◌∙◌, arith}
 use Rattle.std.specs.Prelude.{Result}
 use Rattle.std.specs.List.{AllByRecursion}
 use Rattle.std.proofs.lemmas.List.{length-replicate}
@@ -49,18 +49,15 @@ pub record IsUnderway (sectors size at n : ℕ) (buffer : List ℕ) (left : List
   pub goes : carried_out size left sofar ≡ image
   pub inside : AllByRecursion (IsInside sectors size) left
 
--- where a call waits, one less waits once it is carried out
-pub one_less : (old new : Queued) → 0 < length old.calls
+-- the first call that waits goes once it is carried out
+pub one_less : (old new : Queued)
     → ((call : Call) (later : List Call) → old.calls ≡ call ∷ later → new ≡ with_call (record old { calls = later }) call)
-    → length new.calls + 1 ≡ length old.calls
-one_less old new some first = from old.calls refl
+    → (old.calls ≡ [] → new ≡ old) → new.calls ≡ drop 1 old.calls
+one_less old new first none = from old.calls refl
   where
-    from : (calls : List Call) → old.calls ≡ calls → length new.calls + 1 ≡ length old.calls
-    from [] none = let few : length old.calls ≡ 0 = ap (λ (xs : List Call). length xs) none in absurd (omega arith)
-    from (call ∷ later) are =
-        let is : length new.calls ≡ length later = ap (λ (q : Queued). length q.calls) (first call later are) in
-        let many : length old.calls ≡ length (call ∷ later) = ap (λ (xs : List Call). length xs) are in
-        omega arith
+    from : (calls : List Call) → old.calls ≡ calls → new.calls ≡ drop 1 calls
+    from [] is = ap (λ (q : Queued). q.calls) (none is) ∙ is
+    from (call ∷ later) is = ap (λ (q : Queued). q.calls) (first call later is)
 
 -- callers see as many bytes as the sectors have
 pub length-seen : (held seen : Queued) → held ≡ seen → IsQueue held → length (seen_device seen).image ≡ seen.sectors * seen.sector_size

@@ -1,6 +1,6 @@
 //! Queued flash behind a `&`.
 
-ghost use Rattle.std.specs.Prelude.{◌≡◌};
+ghost use Rattle.std.specs.Prelude.{◌≡◌, length};
 ghost use Rattle.jffs_queue.specs.Queue.{seen_device};
 
 use crate::call::Call;
@@ -40,6 +40,14 @@ impl HandedFlash {
         self.queue.calls().len().saturating_sub(self.done.get())
     }
 
+    /// How many calls are kept: those that have not been carried out, and those that have since the
+    /// device was called last.
+    pub fn kept(&self) -> usize
+        ensures { result ≡ length self.now.queue.calls }
+    {
+        self.queue.calls().len()
+    }
+
     /// Takes note that the call that [`next`](HandedFlash::next) gives has been carried out.
     pub fn carried_out(&self) {
         if self.left() > 0 {
@@ -51,9 +59,7 @@ impl HandedFlash {
     fn let_go(&mut self)
         ensures { seen_device self.new.queue ≡ seen_device self.old.queue }
     {
-        for _ in 0..self.done.replace(0) {
-            self.queue.carried_out();
-        }
+        self.queue.first_carried_out(self.done.replace(0));
     }
 }
 

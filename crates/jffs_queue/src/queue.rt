@@ -1,6 +1,7 @@
 //! The device.
 
 ghost use Rattle.std.specs.Prelude.{◌≡◌, ◌+◌, ◌*◌, ◌<◌, ◌≤◌, false, List, [], ◌∷◌, ◌++◌, length};
+ghost use Rattle.std.specs.Prelude.{drop};
 ghost use Rattle.std.specs.Prelude.{OnOk, OnErr, IfOk, IsOk, MatchOption};
 ghost use Rattle.jffs_flash.specs.Image.{window, programmed, erased};
 ghost use Rattle.jffs_flash.specs.Device.{Reads, Programs, Erases};
@@ -119,14 +120,24 @@ impl QueuedFlash {
         let _never_fails = self.medium.erase(sector);
     }
 
+    /// Takes note that so many calls, the first that wait, or all, have been carried out. None of
+    /// them is kept.
+    pub(crate) fn first_carried_out(&mut self, count: usize)
+        ensures kept { self.new.calls ≡ drop count self.old.calls }
+        ensures seen { seen_device self.new ≡ seen_device self.old }
+    {
+        for _ in 0..count {
+            self.carried_out();
+        }
+    }
+
     /// Carries out all that waits.
     fn carry_out_all(&mut self)
         ensures none { self.new.calls ≡ [] }
         ensures seen { seen_device self.new ≡ seen_device self.old }
     {
-        for _ in 0..self.calls.len() {
-            self.carried_out();
-        }
+        let count = self.calls.len();
+        self.first_carried_out(count);
     }
 
     /// Has one more program wait.
@@ -215,7 +226,7 @@ impl Flash for QueuedFlash {
         ensures device { Reads result (seen_device self.old) (seen_device self.new) }
         ensures filled { OnOk result
             (buffer.new ≡ window at (length buffer.old) (seen_device self.old).image) }
-        ensures left { TakesReads at (length buffer.old) result (λ _. 0) (λ _. 0) }
+        ensures left { TakesReads at (length buffer.old) result [] [] }
         ensures unworn { uncounted ≡ uncounted }
     {
         self.medium.read(at, buffer)?;

@@ -152,6 +152,27 @@ fn what_was_carried_out_is_handed_over_no_more(rt: HostRuntime) -> Result<(), Te
     Ok(())
 }
 
+#[test]
+fn what_was_carried_out_is_kept_no_more(rt: HostRuntime) -> Result<(), TestFail> {
+    let alloc = rt.alloc();
+    let mut flash = HandedFlash::new(alloc, MemoryFlash::new(alloc, 6, 1024)?);
+    let mut medium = MemoryFlash::new(alloc, 6, 1024)?;
+    let mut state = 1u64;
+    for round in 0..100_000u32 {
+        program(&rt, &mut flash, small(&mut state, 6144), &[0x3c])?;
+        erase(&rt, &mut flash, round % 6)?;
+        assert_eq!(&rt; flash.kept(), 3);
+        for _ in 0..3 {
+            carry_out_next(&rt, &flash, &mut medium)?;
+        }
+        assert_eq!(&rt; flash.left(), 0);
+        let mut buffer = [0];
+        read(&rt, &mut flash, 0, &mut buffer)?;
+        assert_eq!(&rt; flash.kept(), 0);
+    }
+    Ok(())
+}
+
 /// The next of made numbers, below a limit.
 fn below(state: &mut u64, limit: u64) -> u64 {
     *state = state

@@ -1,19 +1,21 @@
 -- Sessions that follow one another on one device.
-use Rattle.std.specs.Prelude.{◌≡◌, ◌⊎◌, true, List, [], ◌∷◌, Ok}
+use Rattle.std.specs.Prelude.{◌≡◌, ◌⊎◌, ℕ, true, List, [], ◌∷◌, map, Ok, Option}
 use Rattle.jffs_tree.specs.State.{State}
 use Rattle.jffs_tree.specs.Origin.{state_in}
 use Rattle.jffs_flash.specs.Device.{Device}
+use Rattle.jffs_flash.specs.Wear.{Wear}
 use Rattle.jffs_log.specs.Scan.{Scanned}
 use Rattle.jffs_log.specs.ScanFound.{scan_of}
 use Rattle.jffs_core.specs.CoreState.{CoreState}
+use Rattle.jffs_core.specs.declared.answer.Answer.{Answer}
 use Rattle.jffs_core.specs.Past.{IsFresh}
 use Rattle.jffs_core.specs.Done.{ScanFinds}
-use Rattle.jffs_serve.specs.Replies.{Reply}
+use Rattle.jffs_serve.specs.Replies.{Reply, answer_in}
 use Rattle.jffs_text.specs.declared.script.Writer.{Writer}
 use Rattle.jffs_run.specs.Account.{Account}
 use Rattle.jffs_run.specs.Headline.{IsRun}
 use Rattle.jffs_run.specs.declared.fault.RunWhy.{RunWhy}
-use Rattle.jffs_run.specs.Faults.{AskedBy, IsGivenUp, LeftByTurns}
+use Rattle.jffs_run.specs.Faults.{AskedBy, IsGivenUp, LeftByTurns, Rest}
 use Rattle.jffs_run.specs.Done.{done_by_all, IsDoneToo}
 use Rattle.jffs_run.specs.Opened.{IsOpenedAs}
 
@@ -87,9 +89,16 @@ RunsAreSessions = (before : Device) (start : CoreState) (account : Account) → 
     → (session : HadSession before account.device)
     × IsThatOf start run.replies run.core session
 
--- So is a run that was given up, that of what its script asks for, unless the device didn't mount:
--- then it holds what it held.
+-- the session is that of these answers, which this script asks for
+pub record IsOfAnswers (script : List Writer) (rounds : Option ℕ) (answers : List Answer)
+    {given left : Device} (session : HadSession given left) : Type 0 where
+  pub asked : AskedBy script rounds session.turns.replies
+  pub answers_are : answers ≡ map answer_in session.turns.replies
+
+-- So is a run that was given up, that of its answers, unless the device didn't mount: then it holds
+-- what it held, and nothing was answered.
 abbrev pub FaultsEndSessions : Type 0
-FaultsEndSessions = (script : List Writer) (before : Device) (why : RunWhy) (after : Device)
-    → IsGivenUp script before why after → HoldSame before after
-    ⊎ ((session : HadSession before after) × AskedBy script session.turns.replies)
+FaultsEndSessions = (script : List Writer) (rounds : Option ℕ) (before : Device) (wear : Wear)
+    (why : RunWhy) (rest : Rest) → IsGivenUp script rounds before wear why rest
+    → (HoldSame before rest.device × (rest.answers ≡ []))
+    ⊎ ((session : HadSession before rest.device) × IsOfAnswers script rounds rest.answers session)

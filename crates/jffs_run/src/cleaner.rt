@@ -4,7 +4,7 @@ ghost use Rattle.std.specs.Prelude.{◌≡◌, ℕ, [], Option};
 ghost use Rattle.jffs_run.specs.Ends.{AreCopies, AskForCopies};
 ghost use Rattle.jffs_run.specs.Started.{IsCleaning};
 
-use crate::promise::{Cleaner, Cleaning, Cleans};
+use crate::promise::{Cleaner, Cleaning, PromisesCopies};
 use crate::signals::Signals;
 use jffs_line::Hand;
 use jffs_serve::clean_until;
@@ -61,7 +61,7 @@ pub(crate) fn start_cleaner<'s, E, R: Wait + Sync, H: Hand + Send + 's>(
     let Some(rounds) = rounds else {
         return Cleaning::Rest(cleaner.hand);
     };
-    let promise = Cleans {
+    let promise = PromisesCopies {
         hand: Snapshot::of(&cleaner.hand),
     };
     let started = scope.spawn_with(

@@ -1,5 +1,6 @@
 //! Why a run was given up.
 
+use jffs_core::Answer;
 use jffs_node::NoMemory;
 use thiserror::Error;
 
@@ -9,7 +10,7 @@ pub enum RunWhy {
     /// The device doesn't mount.
     #[error("Mount")]
     Mount,
-    /// The line could not be made, or a sender's last number is used.
+    /// The line could not be made.
     #[error("Line")]
     Line,
     /// The published index could not be made.
@@ -24,6 +25,9 @@ pub enum RunWhy {
     /// Allocation failed.
     #[error("Memory")]
     Memory,
+    /// A writer's last number is used.
+    #[error("Numbers")]
+    Numbers,
 }
 
 impl From<NoMemory> for RunWhy {
@@ -37,25 +41,28 @@ impl From<NoMemory> for RunWhy {
     }
 }
 
-/// A run that was given up, with the device.
+/// A run that was given up, with the device and the answers that it gave.
 #[derive(Drop)]
 pub struct RunFault<F> {
     /// The first reason that was met.
     pub why: RunWhy,
     /// The device. `run_threads` gives it back whatever the reason is.
     pub flash: Option<F>,
+    /// The answers that were given, in their order; none where the device didn't mount.
+    pub answers: Vec<Answer>,
 }
 
 impl<F> RunFault<F> {
     ghost use Rattle.std.specs.Prelude.{◌≡◌, Some};
 
-    /// A fault that hands the device back.
-    pub(crate) fn with_flash(why: RunWhy, flash: F) -> RunFault<F>
-        ensures { result ≡ record { why = why; flash = Some flash } }
+    /// A fault that hands the device back, after these answers.
+    pub(crate) fn with_flash(why: RunWhy, flash: F, answers: Vec<Answer>) -> RunFault<F>
+        ensures { result ≡ record { why = why; flash = Some flash; answers = answers } }
     {
         RunFault {
             why,
             flash: Some(flash),
+            answers,
         }
     }
 }

@@ -75,7 +75,7 @@ impl Stops {
             return Some(RunWhy::Memory);
         }
         if self.spent {
-            return Some(RunWhy::Line);
+            return Some(RunWhy::Numbers);
         }
         None
     }

@@ -66,11 +66,11 @@ pub(crate) struct Cleaner<H: Hand> {
 
 /// What the cleaner's thread promises: its hand asked for copies alone.
 #[derive(Drop)]
-pub(crate) struct Cleans<H: Hand> {
+pub(crate) struct PromisesCopies<H: Hand> {
     pub(crate) hand: Snapshot<H>,
 }
 
-impl<H: Hand> Promise<Cleaner<H>> for Cleans<H> {
+impl<H: Hand> Promise<Cleaner<H>> for PromisesCopies<H> {
     ghost use Rattle.jffs_run.specs.Ends.{AreCopies};
 
     ghost kept_by = { λ p r.
@@ -82,7 +82,7 @@ impl<H: Hand> Promise<Cleaner<H>> for Cleans<H> {
 /// thread could be made.
 #[derive(Drop)]
 pub(crate) enum Cleaning<H: Hand> {
-    Thread(PromisedHandle<Cleaner<H>, Cleans<H>>),
+    Thread(PromisedHandle<Cleaner<H>, PromisesCopies<H>>),
     Rest(H),
     Refused(H),
 }

@@ -11,7 +11,7 @@ ghost use Rattle.jffs_core.specs.Past.{IsFresh, IsLeftBy};
 ghost use Rattle.jffs_run.specs.Account.{account_of};
 ghost use Rattle.jffs_run.specs.Headline.{IsRun};
 ghost use Rattle.jffs_run.specs.declared.fault.RunWhy.TheVariants.{Index, Memory, Settle};
-ghost use Rattle.jffs_run.specs.Faults.{GivesBack, IsGivenUp, LeftByRun};
+ghost use Rattle.jffs_run.specs.Faults.{GivesBack, IsGivenUp, IsLeftWith, LeftByRun};
 ghost use Rattle.jffs_run.specs.Accepted.{accepted_of};
 ghost use Rattle.jffs_line.specs.Settling.{all_hands, IsSettled, WasSettled};
 
@@ -96,7 +96,8 @@ where
     requires line { IsNewLine T.Of.Hand (T.ends line.taker) (T.taken line.taker) line.hands
         (vec_len script.now.writers) }
     requires core { (core.answers ≡ []) × (core.closed ≡ false) }
-    ensures fault { IfErr result (GivesBack F.device (LeftByRun script.now.writers.items core)) }
+    ensures fault { IfErr result
+        (GivesBack F.Flash (LeftByRun script.now.writers.items script.now.cleaner core)) }
     ensures run { IfOk result
         (λ r. IsRun core (account_of F.Flash script.now
         (λ sender. accepted_by T.Of.Hand sender (all_hands r.0.value)) r.1)) }
@@ -109,7 +110,7 @@ where
         job_end,
     } = match open(rt, alloc, &core, script.readers.len()) {
         Ok(opened) => opened,
-        Err(why) => return Err(RunFault::with_flash(why, core.into_flash())),
+        Err(why) => return Err(given_up(why, core)),
     };
     let Ends { hands, taker } = line;
     let crew = Crew {
@@ -142,9 +143,9 @@ fn settle_all<R: Wait, F: Flash + Drop, T: Settle, W: Wait + Drop>(
 ) -> Result<Run<F, ()>, RunFault<F>>
     requires ends { T.ends finished.log.side.taker
         ≡ map (end_of T.Of.Hand) (all_hands finished.hands) }
-    ensures fault { IfErr result (GivesBack F.device
-        (λ why device. ((finished.fault ≡ Some why) ⊎ (why ≡ Settle))
-        × IsLeftBy finished.log.side.session.core device)) }
+    ensures fault { IfErr result (GivesBack F.Flash
+        (λ why rest. ((finished.fault ≡ Some why) ⊎ (why ≡ Settle))
+        × IsLeftWith finished.log.side.session.core rest)) }
     ensures rest { IfOk result
         (λ run. (run.answers.items ≡ finished.log.side.session.core.answers)
         × (run.readers ≡ finished.readers) × (run.served ≡ finished.log.served)
@@ -168,7 +169,7 @@ fn settle_all<R: Wait, F: Flash + Drop, T: Settle, W: Wait + Drop>(
     let (flash, answers) = side.session.into_core().into_parts();
     let settled = side.taker.settle(rt, alloc, hands);
     if let Some(why) = fault {
-        return Err(RunFault::with_flash(why, flash));
+        return Err(RunFault::with_flash(why, flash, answers));
     }
     match settled {
         Ok(settled) => Ok(Run {
@@ -179,7 +180,7 @@ fn settle_all<R: Wait, F: Flash + Drop, T: Settle, W: Wait + Drop>(
             served,
             flash,
         }),
-        Err(_) => Err(RunFault::with_flash(RunWhy::Settle, flash)),
+        Err(_) => Err(RunFault::with_flash(RunWhy::Settle, flash, answers)),
     }
 }
 
@@ -189,7 +190,8 @@ fn settle_all<R: Wait, F: Flash + Drop, T: Settle, W: Wait + Drop>(
 ///
 /// A fault has its reason, and hands the device back: one that doesn't mount, which is Mount and
 /// nothing else, as scanning left it, any other as the mounted core left it after its last turn. In
-/// these turns only what the script asks for was answered, and nothing where there is no index.
+/// these turns only what the script asks for was answered, and nothing where there is no line or no
+/// index. The fault has these answers too.
 pub fn run_threads<R: Threads + Wait + Sync, F: Flash + Send + Drop, G: Gate + Sync>(
     rt: &R,
     alloc: Global,
@@ -198,7 +200,8 @@ pub fn run_threads<R: Threads + Wait + Sync, F: Flash + Send + Drop, G: Gate + S
     gate: &G,
 ) -> Result<Run<F>, RunFault<F>>
     ensures fault { IfErr result
-        (GivesBack F.device (IsGivenUp script.now.writers.items (F.device flash))) }
+        (GivesBack F.Flash (IsGivenUp script.now.writers.items script.now.cleaner (F.device flash)
+        (F.wear flash))) }
     ensures run { IfOk result
         (λ run. (start : CoreState) × IsFresh (F.device flash) start
         × (start.wear ≡ F.wear flash)
@@ -207,10 +210,18 @@ pub fn run_threads<R: Threads + Wait + Sync, F: Flash + Send + Drop, G: Gate + S
     let core = match Core::mount(alloc, flash) {
         Ok(core) => core,
         Err(ScanFault { why: _, flash }) => {
-            return Err(RunFault::with_flash(RunWhy::Mount, flash));
+            return Err(RunFault::with_flash(RunWhy::Mount, flash, Vec::new(alloc)));
         }
     };
     run_mounted(rt, alloc, script, core, gate)
+}
+
+/// What a run hands back that was given up before its first turn.
+fn given_up<F: Flash>(why: RunWhy, core: Core<F>) -> RunFault<F>
+    ensures { GivesBack F.Flash (λ named rest. (named ≡ why) × IsLeftWith core rest) result }
+{
+    let (flash, answers) = core.into_parts();
+    RunFault::with_flash(why, flash, answers)
 }
 
 /// A run of a core that was mounted, over the line that the script chooses.
@@ -222,27 +233,28 @@ fn run_mounted<R: Threads + Wait + Sync, F: Flash + Send + Drop, G: Gate + Sync>
     gate: &G,
 ) -> Result<Run<F>, RunFault<F>>
     requires core { (core.answers ≡ []) × (core.closed ≡ false) }
-    ensures fault { IfErr result (GivesBack F.device (LeftByRun script.now.writers.items core)) }
+    ensures fault { IfErr result
+        (GivesBack F.Flash (LeftByRun script.now.writers.items script.now.cleaner core)) }
     ensures run { IfOk result
         (λ run. IsRun core (account_of F.Flash script.now (accepted_of run.accepted) run)) }
 {
     let writers = script.writers.len();
     if writers > WRITERS_MAX {
-        return Err(RunFault::with_flash(RunWhy::Line, core.into_flash()));
+        return Err(given_up(RunWhy::Line, core));
     }
     let writers = writers as u16;
     let capacity = script.line.capacity as usize;
     match script.line.form {
         LineForm::Shared => {
             let Ok(line) = shared_line(rt, alloc, capacity, writers) else {
-                return Err(RunFault::with_flash(RunWhy::Line, core.into_flash()));
+                return Err(given_up(RunWhy::Line, core));
             };
             let (accepted, run) = run_over(rt, alloc, script, line, core, gate)?;
             Ok(run.with_accepted(AcceptedBy::Shared(accepted)))
         }
         LineForm::Rings => {
             let Ok(line) = ring_line(alloc, capacity, writers) else {
-                return Err(RunFault::with_flash(RunWhy::Line, core.into_flash()));
+                return Err(given_up(RunWhy::Line, core));
             };
             let (accepted, run) = run_over(rt, alloc, script, line, core, gate)?;
             Ok(run.with_accepted(AcceptedBy::Rings(accepted)))

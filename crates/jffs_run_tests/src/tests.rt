@@ -2,6 +2,7 @@
 //! Lines and statuses are worked out from docs/SCRIPT.md, images from docs/FORMAT.md.
 
 mod calls;
+mod durable;
 mod ending;
 mod gates;
 mod growths;
@@ -15,12 +16,26 @@ use jffs_program::run_program;
 use jffs_run::{NoGate, run_threads};
 use jffs_text::Script;
 use std::alloc::Global;
-use std::io;
 use std::io::{Read, Write};
 use std::process::Abort;
 use std::sync::Wait;
+use std::sync::atomic::{AtomicU64, Ordering};
 use std::test::Fail;
 use std::thread::Threads;
+use std::{io, thread};
+
+/// How often a thread that waits for others looks for them.
+const TURNS_MAX: u32 = 1_000_000;
+
+/// Waits until a counter is that high, or for as long as a thread looks.
+fn wait_for(counter: &AtomicU64, wanted: u64) {
+    for _ in 0..TURNS_MAX {
+        if counter.load(Ordering::SeqCst) >= wanted {
+            break;
+        }
+        thread::yield_now();
+    }
+}
 
 /// What the program prints for a script, and its status.
 fn printed<Rt: Abort + AllocGlobal + Threads + Wait + Sync>(

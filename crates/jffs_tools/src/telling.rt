@@ -77,7 +77,11 @@ pub(crate) fn last_offset(core: &Core<FuseFlash>) -> u64
 {
     let log = core.log();
     match log.records().back() {
-        Some(entry) => offset_in_image(entry.sector, log.sector_size(), entry.offset),
+        Some(entry) => offset_in_image(
+            u32::from(entry.sector),
+            log.sector_size(),
+            u32::from(entry.offset),
+        ),
         None => 0,
     }
 }

@@ -121,9 +121,9 @@ pub fn sectors_text(
 pub fn record_text(alloc: Global, entry: &RecordRef, live: bool) -> Result<String, AllocError>
     ensures { IfOk result (λ s. string_bytes s ≡ text_of_record entry.now live) }
 {
-    let sector = entry.sector;
-    let offset = entry.offset;
-    let length = entry.length;
+    let sector = u32::from(entry.sector);
+    let offset = u32::from(entry.offset);
+    let length = u32::from(entry.length);
     let version = entry.version;
     let word = life_text(live);
     format!(in alloc; "record {sector} {offset} {length} {version} {word}")

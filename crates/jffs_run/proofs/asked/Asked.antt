@@ -16,13 +16,12 @@ use Rattle.jffs_line.specs.declared.hand.Hands.{Hands}
 use Rattle.jffs_line.specs.Settling.{all_hands, WasSettled}
 use Rattle.jffs_line.proofs.Lists.{All-left, All-right}
 use Rattle.jffs_core.specs.CoreState.{CoreState}
-use Rattle.jffs_core.specs.Past.{IsLeftBy}
-use Rattle.jffs_flash.specs.Device.{Device}
+use Rattle.jffs_core.specs.declared.answer.Answer.{Answer}
 use Rattle.jffs_index.specs.declared.step.Step.{Step}
 use Rattle.jffs_serve.specs.Copies.{IsCopy}
 use Rattle.jffs_serve.specs.declared.session.PendingStep.{PendingStep}
 use Rattle.jffs_serve.specs.declared.session.Unmounted.{Unmounted}
-use Rattle.jffs_serve.specs.Replies.{Reply}
+use Rattle.jffs_serve.specs.Replies.{Reply, answer_in}
 use Rattle.jffs_serve.specs.Stopping.{StopsAt}
 use Rattle.jffs_serve.specs.Answered.{Start, HasReplied}
 use Rattle.jffs_serve.proofs.Chains.{runs_from}
@@ -31,14 +30,17 @@ use Rattle.jffs_text.specs.declared.script.Writer.{Writer}
 use Rattle.jffs_text.specs.Wishes.{wishes_of}
 use Rattle.jffs_run.specs.declared.crew.Crew.{Crew}
 use Rattle.jffs_run.specs.declared.fault.RunWhy.{RunWhy}
-use Rattle.jffs_run.specs.declared.fault.RunWhy.TheVariants.{Mount, Index}
+use Rattle.jffs_run.specs.declared.fault.RunWhy.TheVariants.{Mount}
 use Rattle.jffs_run.specs.Numbered.{numbered}
 use Rattle.jffs_run.specs.Ends.{EachFrom, HandedIn, AreCopies, commands_at}
 use Rattle.jffs_run.specs.Crew.{HasHandedIn, crew_hands}
-use Rattle.jffs_run.specs.Faults.{AskedBy, LeftByRun}
+use Rattle.jffs_run.specs.Faults.{AskedBy, GivesBack, IsLeftWith, LeftByRun, Rest}
 use Rattle.jffs_run.specs.Headline.{requests_in}
 use Rattle.jffs_run.proofs.promises.Headlines.{split_senders, counted_first}
 use Rattle.jffs_run.proofs.ends.Runs.{same_senders, count_writers}
+use Rattle.jffs_run.proofs.ends.Faults.{IsLater, gives_back_so}
+use Rattle.jffs_run.specs.declared.fault.RunFault.{RunFault}
+use Rattle.jffs_flash.specs.declared.flash.Flash as Flash
 
 -- the first of numbered requests are numbered so
 numbered_front : (sender n : ℕ) (xs ys : List Request) (k : ℕ) (wishes : List Wish) → xs ++ ys ≡ numbered sender n (take k wishes) → xs ≡ numbered sender n (take (length xs) wishes)
@@ -83,10 +85,10 @@ no_sender writers sender other not_nine not_ten there =
     let last : All Other (9 ∷ 10 ∷ []) = All-cons Other 9 (10 ∷ []) (λ is. not_nine (sym is)) (All-cons Other 10 [] (λ is. not_ten (sym is)) (All-nil Other)) in
     All-append Other (range_with_len 1 writers) (9 ∷ 10 ∷ []) front last there.0 sender there.1 there.2
 
-pub nothing_asked : (script : List Writer) → AskedBy script []
-nothing_asked script = record {
+pub nothing_asked : (script : List Writer) (rounds : Option ℕ) → AskedBy script rounds []
+nothing_asked script rounds = record {
   writers = λ slot below. refl;
-  cleaner = tt;
+  cleaner = (tt, λ _. refl);
   counted = refl;
   control = inl refl;
   others = λ sender other not_nine not_ten. refl;
@@ -99,7 +101,7 @@ module _ {H : Type 0} (g : Hand.Ghosts H) where
       {rounds : Option ℕ} (script : List Writer) (crew : Crew H) (hands : Hands H) (replies : List Reply) (taken : ℕ → List Request) (now : Option Unmounted)
       → map g.sender (crew_hands g crew) ≡ senders (length script) → HasHandedIn g script rounds crew hands
       → ((w : ℕ) → taken w ≡ of w (requests_in replies)) → WasSettled g.sender g.accepted (all_hands hands) taken
-      → StopsAt None replies now → AskedBy script replies
+      → StopsAt None replies now → AskedBy script rounds replies
   asked_by script crew hands replies taken now given handed taken_is settled stops =
       let asked : List Request = requests_in replies in
       let left : List Request = settled.0 in
@@ -129,7 +131,10 @@ module _ {H : Type 0} (g : Hand.Ghosts H) where
             let first : HandedIn g script slot hand = each_there (HandedIn g script) 0 writers handed.first slot hands.cleaner within slot (omega arith) in
             let is : of (slot + 1) asked ++ of (slot + 1) left ≡ g.accepted hand = begins hand (slot + 1) own (All-left Is writers tail each slot hands.cleaner within) in
             numbered_front (slot + 1) 1 (of (slot + 1) asked) (of (slot + 1) left) many wishes (is ∙ (first ∙ ap (λ (w : ℕ). numbered w 1 (take many wishes)) own));
-        cleaner = (each_front (λ (r : Request). IsCopy r.wish) (of 9 asked) (of 9 left) (subst AreCopies (sym of_cleaner) handed.cleaner.0)).0;
+        cleaner = (
+          (each_front (λ (r : Request). IsCopy r.wish) (of 9 asked) (of 9 left) (subst AreCopies (sym of_cleaner) handed.cleaner.0)).0,
+          λ none. (append-eq-nil_iff.0 (of_cleaner ∙ handed.cleaner.1 none)).0,
+        );
         counted = counted_front (of 9 asked) (of 9 left) (g.accepted hands.cleaner) of_cleaner
             (All-head Counted hands.cleaner (hands.control.hand ∷ []) (All-right Counted writers tail settled.1.numbered));
         control = front_of_one (of 10 asked) (of 10 left) (request 10 1 Unmount)
@@ -146,32 +151,44 @@ module _ {H : Type 0} (g : Hand.Ghosts H) where
   -- a core that had answered nothing was served, and all ends were taken back
   pub left_by_run :
       {rounds : Option ℕ} (script : List Writer) (crew : Crew H) (hands : Hands H) (first core : CoreState) (unsent : Option PendingStep) (put : List Step)
-      (start : Start) (taken : ℕ → List Request) (replies : List Reply) (now : Option Unmounted) (why : RunWhy) (device : Device)
-      → start.core ≡ first → map g.sender (crew_hands g crew) ≡ senders (length script) → HasHandedIn g script rounds crew hands
+      (start : Start) (taken : ℕ → List Request) (replies : List Reply) (now : Option Unmounted) (why : RunWhy) (rest : Rest)
+      → start.core ≡ first → start.core.answers ≡ [] → map g.sender (crew_hands g crew) ≡ senders (length script) → HasHandedIn g script rounds crew hands
       → ((w : ℕ) → start.taken w ≡ []) → HasReplied start core unsent put taken replies
       → WasSettled g.sender g.accepted (all_hands hands) taken → StopsAt None replies now
-      → why ≢ Mount → why ≢ Index → IsLeftBy core device → LeftByRun script first why device
-  left_by_run script crew hands first core unsent put start taken replies now why device same given handed untaken has settled stops not_mount not_index left =
+      → IsLater why → IsLeftWith core rest → LeftByRun script rounds first why rest
+  left_by_run {rounds} script crew hands first core unsent put start taken replies now why rest same unanswered given handed untaken has settled stops later left =
       let taken_is : (w : ℕ) → taken w ≡ of w (requests_in replies) = λ w. has.all_taken w ∙ ap (λ (l : List Request). l ++ of w (requests_in replies)) (untaken w) in
-      subst (λ (c : CoreState). LeftByRun script c why device) same record {
-        named = not_mount;
-        turns = record { replies = replies; core = core; left = left; sizes = has.sizes; erases = has.erases; lawful = has.lawful };
+      subst (λ (c : CoreState). LeftByRun script rounds c why rest) same record {
+        named = later.mounted;
+        turns = record { replies = replies; core = core; left = left.left; sizes = has.sizes; erases = has.erases; lawful = has.lawful };
+        worn = left.worn;
+        answers_are = left.given ∙ (has.answered ∙ ap (λ (l : List Answer). l ++ map answer_in replies) unanswered);
         asked = asked_by script crew hands replies taken now given handed taken_is settled stops;
-        unserved = λ index. absurd (not_index index);
+        unserved = λ early. absurd (later.opened early);
       }
 
 -- a core that answered nothing
-pub left_at_once : (script : List Writer) (core : CoreState) (why : RunWhy) (device : Device) → why ≢ Mount → IsLeftBy core device → LeftByRun script core why device
-left_at_once script core why device not_mount left = record {
+pub left_at_once : (script : List Writer) (rounds : Option ℕ) (core : CoreState) (why : RunWhy) (rest : Rest) → why ≢ Mount → core.answers ≡ [] → IsLeftWith core rest
+    → LeftByRun script rounds core why rest
+left_at_once script rounds core why rest not_mount unanswered left = record {
   named = not_mount;
   turns = record {
     replies = [];
     core = core;
-    left = left;
+    left = left.left;
     sizes = (refl, refl);
     erases = since_start core;
     lawful = λ mounted past stands. runs_from core mounted past;
   };
-  asked = nothing_asked script;
+  worn = left.worn;
+  answers_are = left.given ∙ unanswered;
+  asked = nothing_asked script rounds;
   unserved = λ _. refl;
 }
+
+-- a run that was given up before its first turn
+pub given_up_at_once : {F : Type 0} (g : Flash.Ghosts F) (script : List Writer) (rounds : Option ℕ) (core : CoreState) (why : RunWhy) (fault : RunFault F)
+    → why ≢ Mount → core.answers ≡ [] → GivesBack g (λ named rest. (named ≡ why) × IsLeftWith core rest) fault → GivesBack g (LeftByRun script rounds core) fault
+given_up_at_once g script rounds core why fault not_mount unanswered given =
+    gives_back_so g _ (LeftByRun script rounds core) fault
+    (λ named rest left. subst (λ (w : RunWhy). LeftByRun script rounds core w rest) (sym left.0) (left_at_once script rounds core why rest not_mount unanswered left.1)) given

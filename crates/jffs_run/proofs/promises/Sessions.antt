@@ -56,11 +56,14 @@ runs_are_sessions before start account fresh run = (
 )
 
 pub faults_end_sessions : FaultsEndSessions
-faults_end_sessions script before why after given = ⊎_elim
-    (λ refused. let rest = refused.2.rest in inl (record {
-      sectors_are = ap (λ (d : Device). d.sectors) rest;
-      sizes_are = ap (λ (d : Device). d.sector_size) rest;
-      images_are = ap (λ (d : Device). d.image) rest;
-    }))
-    (λ had. inr (record { start = had.0; fresh = had.1; turns = had.2.turns }, had.2.asked))
+faults_end_sessions script rounds before wear why after given = ⊎_elim
+    (λ named. let rest = named.1.refused.rest in inl (
+      record {
+        sectors_are = ap (λ (d : Device). d.sectors) rest;
+        sizes_are = ap (λ (d : Device). d.sector_size) rest;
+        images_are = ap (λ (d : Device). d.image) rest;
+      },
+      named.1.none,
+    ))
+    (λ had. inr (record { start = had.start; fresh = had.fresh; turns = had.left.turns }, record { asked = had.left.asked; answers_are = had.left.answers_are }))
     given

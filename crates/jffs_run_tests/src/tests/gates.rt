@@ -1,6 +1,7 @@
 //! Which wishes a gate is called for, and what a cleaner does while a gate holds a writer up.
 //! How often a gate is called is counted from the script and from the line's capacity.
 
+use super::wait_for;
 use jffs_flash::{Flash, FlashFault, MemoryFlash};
 use jffs_line::CLEANER;
 use jffs_run::{Gate, Run, run_threads};
@@ -15,9 +16,6 @@ use std::time::{Clock, Duration};
 
 /// How long a writer is held up before each wish.
 const NAP_MILLIS: u64 = 10;
-
-/// How often a device that waits for a writer looks for it.
-const TURNS_MAX: u32 = 1_000_000;
 
 /// Counts its calls, and adds up what it is called with.
 #[derive(Drop)]
@@ -145,12 +143,7 @@ impl<'a> Flash for Held<'a> {
 
     fn program(&mut self, at: u32, bytes: &[u8]) -> Result<(), FlashFault> {
         if self.noted.load(Ordering::SeqCst) == 0 {
-            for _ in 0..TURNS_MAX {
-                if self.gate.calls.load(Ordering::SeqCst) >= self.wanted {
-                    break;
-                }
-                thread::yield_now();
-            }
+            wait_for(&self.gate.calls, self.wanted);
             self.noted
                 .store(self.gate.calls.load(Ordering::SeqCst), Ordering::SeqCst);
         }

@@ -3,6 +3,7 @@
 
 ghost use Rattle.std.specs.Prelude.{◌≡◌, length, IfOk};
 
+use super::TURNS_MAX;
 use jffs_flash::{Flash, MemoryFlash};
 use jffs_node::Path;
 use jffs_run::{AcceptedBy, Gate, NoGate, RunFault, RunWhy, Served, run_threads};
@@ -16,9 +17,6 @@ use std::sync::atomic::{AtomicU64, Ordering};
 use std::test::Fail;
 use std::thread;
 use std::thread::Threads;
-
-/// How often a writer that waits for others looks for them.
-const TURNS_MAX: u32 = 1_000_000;
 
 /// Waits before each writer's first wish until all writers came, and counts those who met all.
 #[derive(Drop)]
@@ -104,11 +102,17 @@ fn constructors_refuse(rt: HostRuntime) -> Result<(), Fail> {
     let script = Script::parse(alloc, b"volume 8 1024\nwriter\ncreate /f\n")?;
     let image = scattered(alloc)?;
     let flash = MemoryFlash::from_bytes(8, 1024, image.clone()?);
-    let RunFault { why, flash } = match run_threads(&rt, alloc, &script, flash, &NoGate) {
+    let fault = match run_threads(&rt, alloc, &script, flash, &NoGate) {
         Ok(_) => return Err("it was mounted".into()),
         Err(fault) => fault,
     };
+    let RunFault {
+        why,
+        flash,
+        answers,
+    } = fault;
     assert_eq!(rt; why, RunWhy::Mount);
+    assert!(rt; answers.is_empty());
     let flash = flash.ok_or("the device is gone")?;
     assert!(rt; flash.bytes() == image.as_slice());
     Ok(())
@@ -120,27 +124,21 @@ fn mended<Rt: AllocGlobal + Threads + Wait + Sync>(
     script: &Script<'_>,
 ) -> Result<MemoryFlash, Fail> {
     let flash = MemoryFlash::from_bytes(8, 1024, scattered(rt.alloc())?);
-    match run_threads(rt, rt.alloc(), script, flash, &NoGate) {
-        Ok(_) => Err("it was mounted".into()),
-        Err(
-            RunFault {
-                why: _,
-                flash: None,
-            },
-        ) => Err("the device is gone".into()),
-        Err(
-            RunFault {
-                why: _,
-                flash: Some(mut flash),
-            },
-        ) => {
-            if flash.faults() != 0 || flash.sectors() != 8 {
-                return Err("another device came back".into());
-            }
-            flash.erase(2).map_err(|_| "it is erased")?;
-            Ok(flash)
-        }
+    let fault = match run_threads(rt, rt.alloc(), script, flash, &NoGate) {
+        Ok(_) => return Err("it was mounted".into()),
+        Err(fault) => fault,
+    };
+    let RunFault {
+        why: _,
+        flash,
+        answers: _,
+    } = fault;
+    let mut flash = flash.ok_or("the device is gone")?;
+    if flash.faults() != 0 || flash.sectors() != 8 {
+        return Err("another device came back".into());
     }
+    flash.erase(2).map_err(|_| "it is erased")?;
+    Ok(flash)
 }
 
 /// Its record in sector 0 is still there, and the next run is granted what it asks for.
@@ -170,11 +168,17 @@ fn is_given_up<Rt: Abort + AllocGlobal + Threads + Wait + Sync>(
 ) -> Result<(), Fail> {
     let erased = vec![in rt.alloc(); 0xFFu8; 8 * 1024]?;
     let flash = MemoryFlash::from_bytes(8, 1024, erased.clone()?);
-    let RunFault { why, flash } = match run_threads(rt, rt.alloc(), script, flash, &NoGate) {
+    let fault = match run_threads(rt, rt.alloc(), script, flash, &NoGate) {
         Ok(_) => return Err("it wasn't given up".into()),
         Err(fault) => fault,
     };
+    let RunFault {
+        why,
+        flash,
+        answers,
+    } = fault;
     assert_eq!(rt; why, wanted);
+    assert!(rt; answers.is_empty());
     let flash = flash.ok_or("the device is gone")?;
     assert!(rt; flash.bytes() == erased.as_slice());
     Ok(())

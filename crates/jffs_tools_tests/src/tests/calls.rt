@@ -129,6 +129,8 @@ fn a_ring_and_its_records_have_their_texts(rt: HostRuntime) -> Result<(), Fail> 
     let entry = RecordRef {
         version: 7,
         inode: 2,
+        data_offset: 0,
+        data_len: 5,
         length: 72,
         sector: 5,
         offset: 128,

@@ -1,9 +1,9 @@
 -- What stands in the block, and one byte more.
-use Rattle.std.proofs.Common.{◌∙◌, ℕ, Bool, false, [], ◌∷◌, Option, Some, subst, ap}
+use Rattle.std.proofs.Common.{◌∙◌, ℕ, Bool, false, [], ◌∷◌, Option, None, Some, subst, ap}
 use Rattle.std.specs.Io.KnownBytes.{Consumes}
 use Rattle.std.specs.Io.Buffered.{reader_remaining}
 use Rattle.jffs_protocol.specs.Hearing.{line_feed, TakesNext, TakesPart}
-use Rattle.jffs_protocol.proofs.Taking.{part_more, byte_more, line_ended, line_kept}
+use Rattle.jffs_protocol.proofs.Taking.{part_more, byte_more, line_cut, line_ended, line_kept}
 use Rattle.jffs_protocol.proofs.hearing.hear_line.Goals as goal
 
 pub loop-preserved : goal.loop-preserved
@@ -44,3 +44,15 @@ returns-in-Some-eq10-2 g c =
     let short : TakesPart old mid false c.take_part.new.line.items =
     subst (λ (b : Bool). TakesPart old mid b c.take_part.new.line.items) c.if-long.false part in
     line_kept old mid new _ short takes
+
+pub returns-in-None : goal.returns-in-None
+returns-in-None g c =
+    let old = reader_remaining g.R.Read.remaining c.args.input.now in
+    let before = reader_remaining g.R.Read.remaining c.loop.input in
+    let mid = reader_remaining g.R.Read.remaining c.take_part.new.input in
+    let new = reader_remaining g.R.Read.remaining c.next_byte.new.input in
+    let none : TakesNext mid new None =
+    subst (λ (o : Option ℕ). TakesNext mid new o) c.in-None.is c.in_ok-next_byte.ensures in
+    let part : TakesPart old mid c.in_ok-long.long c.take_part.new.line.items =
+    part_more old before mid _ _ _ _ c.loop.invariant c.in_ok-long.ensures in
+    line_cut old mid new _ _ part none

@@ -1,5 +1,5 @@
 -- What was heard is answered.
-use Rattle.std.proofs.Common.{◌≡◌, ◌≢◌, take, subst}
+use Rattle.std.proofs.Common.{◌≡◌, take, subst}
 use Rattle.std.specs.Io.KnownBytes.{Appends}
 use Rattle.std.specs.Io.Buffered.{reader_remaining}
 use Rattle.jffs_protocol.specs.Asks.{body_len}
@@ -8,7 +8,7 @@ use Rattle.jffs_protocol.specs.Serving.{Responds, ServesNext, malformed_text}
 use Rattle.jffs_protocol.specs.declared.hearing.Heard.{Heard}
 use Rattle.jffs_protocol.specs.declared.serving.Next.{Next}
 use Rattle.jffs_protocol.specs.declared.serving.Next.TheVariants as next
-use Rattle.jffs_protocol.proofs.Exchanges.{responded, dropped, one_served, more_served}
+use Rattle.jffs_protocol.proofs.Exchanges.{none_served, one_served}
 use Rattle.jffs_protocol.proofs.Heard.{if_ok_as}
 use Rattle.jffs_protocol.proofs.serving.serve_one.Goals as goal
 
@@ -23,7 +23,7 @@ returns-in-Ok-Malformed g c =
     let drops : Drops i j = subst (λ (h : Heard). Hears i j h c.hear.new.room.body.items) c.in-Ok-Malformed.field-0-is c.in-Ok-Malformed.ensures in
     record {
       served = if_ok_as (λ (n : Next). (n ≡ next.More) × Appends o p malformed_text) (λ (n : Next). ServesNext m n s s i j o p) c.deny.result
-          (λ n h. more_served m n s s i j o p h.0 (dropped m s i j o p drops h.1)) c.deny.ensures;
+          (λ n h. none_served m n s i j o p h.0 drops h.1) c.deny.ensures;
     }
 
 pub returns-in-Ok-Asked : goal.returns-in-Ok-Asked
@@ -39,6 +39,6 @@ returns-in-Ok-Asked g c =
     let room = c.hear.new.room.body.items in
     let takes : Takes i j ask room = subst (λ (h : Heard). Hears i j h room) c.in-Ok-Asked.field-0-is c.in-Ok-Asked.ensures in
     record {
-      served = if_ok_as (λ (n : Next). (n ≢ next.End) × Responds m ask (take (body_len ask) room) s t o p) (λ (n : Next). ServesNext m n s t i j o p) c.respond.result
-          (λ n h. one_served m n s t i j o p h.0 (responded m s t ask room i j o p takes h.1)) c.respond.ensures;
+      served = if_ok_as (λ (n : Next). Responds m ask (take (body_len ask) room) n s t o p) (λ (n : Next). ServesNext m n s t i j o p) c.respond.result
+          (λ n h. one_served m n s t ask room i j o p takes h) c.respond.ensures;
     }

@@ -17,8 +17,8 @@ use Rattle.jffs_run.proofs.ends.Runs.{whole_run, new_hands, count_writers}
 use Rattle.jffs_run.specs.Faults.{GivesBack, LeftByRun}
 use Rattle.jffs_run.specs.Why.{IsOfThreads}
 use Rattle.jffs_run.specs.declared.fault.RunWhy.{RunWhy}
-use Rattle.jffs_run.proofs.asked.Asked.{left_at_once, left_by_run}
-use Rattle.jffs_run.proofs.ends.Faults.{gives_back, gives_back_so, threads_later, index_mounted}
+use Rattle.jffs_run.proofs.asked.Asked.{given_up_at_once, left_by_run}
+use Rattle.jffs_run.proofs.ends.Faults.{gives_back_so, threads_later, index_mounted}
 use Rattle.jffs_run.proofs.run.run_over.Goals as goal
 use Rattle.jffs_run.proofs.run.run_over.Goals.{After-run_all-finished}
 
@@ -86,8 +86,7 @@ returns-clause-run g c =
 
 pub returns-in-Err-clause-fault : goal.returns-in-Err-clause-fault
 returns-in-Err-clause-fault g c =
-    gives_back g.F.Flash.device _ _ _ _ c.with_flash.ensures
-    (left_at_once c.args.script.now.writers.items c.args.core _ _ (index_mounted _ c.in-Err.ensures.refused) c.into_flash.ensures.device)
+    given_up_at_once g.F.Flash c.args.script.now.writers.items c.args.script.now.cleaner c.args.core _ _ (index_mounted _ c.in-Err.ensures.refused) c.requires.core.0 c.given_up.ensures
 
 pub returns-in_err-run-clause-fault : goal.returns-in_err-run-clause-fault
 returns-in_err-run-clause-fault g c =
@@ -98,10 +97,10 @@ returns-in_err-run-clause-fault g c =
     let settled = c.in_err-run.ensures in
     let start : Start = start_of c.new.result (all_put c.in-Ok.opened.publisher).steps (g.T.Taker.taken c.args.line.taker) in
     let more = ran.served.replies in
-    let turned = gives_back_so g.F.Flash.device _ (LeftByRun script.writers.items c.args.core) _
-    (λ why d given.
+    let turned = gives_back_so g.F.Flash _ (LeftByRun script.writers.items script.cleaner c.args.core) _
+    (λ why rest given.
     let later = threads_later why (elim given.0 [ inl threads ↦ inl (subst (λ (o : Option RunWhy). IfSome o IsOfThreads) threads ran.named) | inr settle ↦ inr settle ]) in
-    left_by_run g.T.Of.Hand script.writers.items _ finished.hands c.args.core finished.log.side.session.core _ _ start _ more.0 _ why d c.new.ensures.core
-    (line.numbers ∙ ap senders script.writers.ok.0) ran.hands line.untaken more.1 settled.taken (stops g (goal.at.returns-in_err-run-clause-fault g c).After-run_all-finished) later.mounted later.opened given.1)
+    left_by_run g.T.Of.Hand script.writers.items _ finished.hands c.args.core finished.log.side.session.core _ _ start _ more.0 _ why rest c.new.ensures.core
+    (ap (λ (s : CoreState). s.answers) c.new.ensures.core ∙ c.requires.core.0) (line.numbers ∙ ap senders script.writers.ok.0) ran.hands line.untaken more.1 settled.taken (stops g (goal.at.returns-in_err-run-clause-fault g c).After-run_all-finished) later given.1)
     settled.fault in
-    err_from c.from_residual.result _ (GivesBack g.F.Flash.device (LeftByRun script.writers.items c.args.core)) c.from_residual.ensures.1 turned
+    err_from c.from_residual.result _ (GivesBack g.F.Flash (LeftByRun script.writers.items script.cleaner c.args.core)) c.from_residual.ensures.1 turned

@@ -1,5 +1,5 @@
 // pumpgrape-mount IMAGE DIR: the volume in IMAGE as the file system at DIR. Each call of the kernel becomes requests
-// to `jffs_volume serve`; what they do, and which of them are refused, is decided there and nowhere here.
+// to the volume; what they do, and which of them are refused, is decided there and nowhere here.
 #define FUSE_USE_VERSION 31
 #include <errno.h>
 #include <fcntl.h>
@@ -16,23 +16,31 @@
 #include <time.h>
 #include <unistd.h>
 
-#include "served.h"
+#include "volume.h"
 
 #define VERSION "0.1.0"
 
 // The weight of a record without data, in bytes, and what `df` counts in.
 enum { RECORD = 64 };
 
+// A name with its null byte, by how many names a list grows, and how many stand for directories.
+enum { NAME_SIZE = 21, NAMES_STEP = 64, DOTS = 2 };
+
+// Seconds for which the kernel may keep what it was told.
+static const double FOREVER = 1e9;
+
 static const char HELP[] =
     "pumpgrape-mount IMAGE DIR [-f] [-o OPTION[,OPTION..]]\n"
     "\n"
-    "Mounts the volume in the file IMAGE at the directory DIR, by jffs_volume serve. fusermount3 -u DIR unmounts it.\n"
+    "Mounts the volume in the file IMAGE at the directory DIR, by jffs_volume serve; or the one on the chip IMAGE, as\n"
+    "/dev/mtd0, by the library for C. fusermount3 -u DIR unmounts it.\n"
     "\n"
     "  -f                   stays in the foreground, and tells there what fails\n"
     "  -d                   the same, and libfuse tells of each call\n"
     "  -o ro                nothing can be changed\n"
     "  -o serve=PROGRAM     starts PROGRAM in place of the jffs_volume beside this program\n"
     "  -o sector_size=BYTES the size of a sector, where IMAGE may have several\n"
+    "  -o sectors=COUNT     how many sectors the volume has, where the chip is longer\n"
     "  -o OPTION            any other option of libfuse, as allow_other\n"
     "  -h, -V               this text, the version\n"
     "\n"
@@ -43,17 +51,19 @@ static const char HELP[] =
     "Status: 0 once it is mounted; 1 where the mount fails; 2 after a wrong call; else that of jffs_volume serve.\n";
 
 static struct {
-    char *image, *directory, *program, *sector_size;
-    int foreground, help, version;
+    char *image, *directory, *program, *sector_size, *sectors;
+    int foreground, read_only, help, version;
+    // Whether the kernel can do without opening files.
+    int asks_no_open;
     // Where nobody reads standard error any more.
     int in_background;
     // What is shown of each file and directory.
     struct stat shown;
 } mounted;
 
-static const struct counted NOTHING = {NULL, 0};
-
-static struct counted text(const char *bytes) { return (struct counted){bytes, strlen(bytes)}; }
+static const struct volume *volume;
+struct limits limits;
+void (*volume_lost)(const char *why);
 
 // Tells people what is wrong: on standard error, or in the background in the system's log.
 __attribute__((format(printf, 1, 2)))
@@ -69,11 +79,7 @@ static void tell(const char *form, ...) {
         fprintf(stderr, "pumpgrape-mount: %s\n", line);
 }
 
-static void tell_lost(void) {
-    char said[1024];
-    served_said(said, sizeof said);
-    tell("%s: jffs_volume serve has ended; every call fails from now on%s%s", mounted.image, *said ? ": " : "", said);
-}
+static void tell_lost(const char *why) { tell("%s: %s", mounted.image, why); }
 
 // Why no path of the volume is like this one.
 static int error_of_path(const char *path) {
@@ -87,23 +93,43 @@ static int error_of_path(const char *path) {
     return -EINVAL;
 }
 
-// Asks for something at one path: a verb, and the rest of the line after the path's count. There is no path where a file
-// is open that was removed.
-static int ask(struct answer *answer, const char *verb, const char *path, const char *rest) {
+// What an answer is for a call at one path.
+static int answered(int error, const char *path) { return error == -EINVAL ? error_of_path(path) : error; }
+
+static const struct seen A_FILE = {0, 0}, A_DIRECTORY = {1, 0};
+
+// What is known without a look, since nobody else changes the volume: what was made or cut last, of which the kernel
+// asks for the attributes at once, and the directory that was looked at last, of which it does after each change in it.
+static struct known {
+    char path[PATH_MAX];
+    struct seen seen;
+} made, directory;
+
+static void remember(struct known *known, const char *path, struct seen seen) {
+    snprintf(known->path, sizeof known->path, "%s", path);
+    known->seen = seen;
+}
+
+static void forget(struct known *known) { known->path[0] = '\0'; }
+
+// The same where something else may stand at this path, or below it.
+static void forget_below(const char *path) {
+    forget(&made);
+    if (strncmp(directory.path, path, strlen(path)) == 0)
+        forget(&directory);
+}
+
+// There is no path where a file is open that was removed. At a path that is none nothing stands.
+static int look(const char *path, struct seen *seen) {
     if (path == NULL)
         return -ESTALE;
-    int error = served_ask(answer, text(path), NOTHING, "%s %zu%s\n", verb, strlen(path), rest);
-    return error == -EINVAL ? error_of_path(path) : error;
-}
-
-static int change(const char *verb, const char *path) {
-    struct answer answer;
-    return ask(&answer, verb, path, "");
-}
-
-// The same for a look: nothing stands at a path that no path may be.
-static int look(struct answer *answer, const char *verb, const char *path, const char *rest) {
-    int error = ask(answer, verb, path, rest);
+    if (strcmp(path, made.path) == 0)
+        return *seen = made.seen, 0;
+    if (strcmp(path, directory.path) == 0)
+        return *seen = directory.seen, 0;
+    int error = answered(volume->look(path, seen), path);
+    if (error == 0 && seen->directory)
+        remember(&directory, path, *seen);
     return error == -EINVAL ? -ENOENT : error;
 }
 
@@ -113,13 +139,13 @@ static int has_room(size_t data) {
     // At least what the live records weigh, and the weight.
     static uint64_t live, sure;
     uint64_t record = RECORD + (data + 3) / 4 * 4;
-    struct answer answer;
+    struct room room;
     if (live + record >= sure) {
-        int error = served_ask(&answer, NOTHING, NOTHING, "room\n");
+        int error = volume->room(&room);
         if (error != 0)
             return error;
-        live = answer.numbers[3];
-        sure = answer.numbers[4];
+        live = room.live;
+        sure = room.sure;
     }
     if (live + record >= sure)
         return -ENOSPC;
@@ -127,103 +153,144 @@ static int has_room(size_t data) {
     return 0;
 }
 
-// Makes a file or directory.
-static int make(const char *verb, const char *path) {
+// Makes a file or directory, by the call of the volume that does.
+static int make(int (*call)(const char *), struct seen what, const char *path) {
     int error = has_room(0);
-    return error != 0 ? error : change(verb, path);
+    error = error != 0 ? error : answered(call(path), path);
+    if (error == 0)
+        remember(&made, path, what);
+    return error;
 }
 
 static void *on_init(struct fuse_conn_info *connection, struct fuse_config *config) {
     // A file that is removed is gone, also where it is open: the name that libfuse would hide it under is too long.
     config->hard_remove = 1;
-    // The kernel then cuts a file by a call of its own before it opens it.
-    connection->want &= ~(unsigned)FUSE_CAP_ATOMIC_O_TRUNC;
+    // Nobody else changes the volume, so the kernel may keep what it was told, and what it has written and read.
+    config->kernel_cache = 1;
+    config->entry_timeout = config->attr_timeout = config->negative_timeout = FOREVER;
+    // It then cuts a file by a call of its own before it opens it, doesn't ask whether a file's bytes are others now,
+    // and gets a directory's names with what stands there. Moving pages by pipes costs more than a copy.
+    connection->want &= ~(unsigned)(FUSE_CAP_ATOMIC_O_TRUNC | FUSE_CAP_AUTO_INVAL_DATA | FUSE_CAP_READDIRPLUS_AUTO |
+                                    FUSE_CAP_SPLICE_READ | FUSE_CAP_SPLICE_WRITE | FUSE_CAP_SPLICE_MOVE);
+    mounted.asks_no_open = (connection->capable & FUSE_CAP_NO_OPEN_SUPPORT) != 0;
     return NULL;
+}
+
+// An open file is no more than its path: where the kernel takes ENOSYS for that, it asks no more.
+static int on_open(const char *path, struct fuse_file_info *file) {
+    (void)path, (void)file;
+    return mounted.asks_no_open ? -ENOSYS : 0;
+}
+
+static struct stat status_of(const struct seen *seen) {
+    struct stat status = mounted.shown;
+    status.st_mode = seen->directory ? S_IFDIR | 0755 : S_IFREG | 0644;
+    status.st_nlink = 1;
+    status.st_size = (off_t)seen->size;
+    status.st_blocks = (blkcnt_t)((seen->size + 511) / 512);
+    return status;
 }
 
 static int on_getattr(const char *path, struct stat *status, struct fuse_file_info *file) {
     (void)file;
-    struct answer answer;
-    int error = look(&answer, "stat", path, "");
-    if (error != 0)
-        return error;
-    *status = mounted.shown;
-    status->st_mode = answer.letter == 'd' ? S_IFDIR | 0755 : S_IFREG | 0644;
-    status->st_nlink = 1;
-    status->st_size = (off_t)answer.numbers[0];
-    status->st_blocks = (blkcnt_t)((answer.numbers[1] + 511) / 512);
+    struct seen seen;
+    int error = look(path, &seen);
+    if (error == 0)
+        *status = status_of(&seen);
+    return error;
+}
+
+// The names of an open directory, as they were when its first ones were read: so the kernel can go on at any of them,
+// whatever is changed between.
+struct names {
+    size_t count;
+    struct name {
+        struct seen seen;
+        char text[NAME_SIZE];
+    } *all;
+};
+
+static struct names *names_of(const struct fuse_file_info *file) { return (struct names *)(uintptr_t)file->fh; }
+
+static int on_opendir(const char *path, struct fuse_file_info *file) {
+    (void)path;
+    struct names *names = calloc(1, sizeof *names);
+    file->fh = (uintptr_t)names;
+    return names == NULL ? -ENOMEM : 0;
+}
+
+static int on_releasedir(const char *path, struct fuse_file_info *file) {
+    (void)path;
+    free(names_of(file)->all);
+    free(names_of(file));
     return 0;
 }
 
-// Hands on the names of lines `d NAME` and `f SIZE NAME`, whose last byte is a line feed. A name `.` or `..`, which a
-// volume may have, means something else to the kernel.
-static int fill_names(char *lines, void *names, fuse_fill_dir_t fill) {
-    for (char *end; (end = strchr(lines, '\n')) != NULL; lines = end + 1) {
-        *end = '\0';
-        const char *name = strrchr(lines, ' ');
-        struct stat kind = {.st_mode = lines[0] == 'd' ? S_IFDIR : S_IFREG};
-        if (name == NULL || strcmp(name, " .") == 0 || strcmp(name, " ..") == 0)
-            continue;
-        if (fill(names, name + 1, &kind, 0, 0) != 0)
+static int add_name(void *context, const char *text, const struct seen *seen) {
+    struct names *names = context;
+    if (names->count % NAMES_STEP == 0) {
+        struct name *more = realloc(names->all, (names->count + NAMES_STEP) * sizeof *more);
+        if (more == NULL)
             return -ENOMEM;
+        names->all = more;
     }
+    struct name *name = &names->all[names->count++];
+    *name = (struct name){*seen, ""};
+    strncat(name->text, text, NAME_SIZE - 1);
     return 0;
 }
 
-static int on_readdir(const char *path, void *names, fuse_fill_dir_t fill, off_t offset, struct fuse_file_info *file,
+// The first two names are there always. A name like them, which a volume may have, means something else to the kernel.
+static int read_names(const char *path, struct names *names) {
+    names->count = 0;
+    int error = add_name(names, ".", &A_DIRECTORY);
+    error = error != 0 ? error : add_name(names, "..", &A_DIRECTORY);
+    error = error != 0 ? error : answered(volume->list(path, add_name, names), path);
+    size_t kept = error != 0 ? 0 : DOTS;
+    for (size_t at = kept; at < names->count; at++)
+        if (strcmp(names->all[at].text, ".") != 0 && strcmp(names->all[at].text, "..") != 0)
+            names->all[kept++] = names->all[at];
+    names->count = kept;
+    return error;
+}
+
+static int on_readdir(const char *path, void *to, fuse_fill_dir_t fill, off_t offset, struct fuse_file_info *file,
                       enum fuse_readdir_flags flags) {
-    (void)offset, (void)file, (void)flags;
-    struct answer answer;
-    int error = look(&answer, "list", path, "");
-    if (error != 0)
-        return error;
-    size_t size = answer.numbers[1];
-    char *lines = malloc(size + 1);
-    error = served_take(lines, size);
-    if (lines == NULL || error != 0) {
-        free(lines);
-        return error != 0 ? error : -ENOMEM;
+    struct names *names = names_of(file);
+    int plus = (flags & FUSE_READDIR_PLUS) != 0;
+    if (path == NULL)
+        return -ESTALE;
+    int error = offset == 0 ? read_names(path, names) : 0;
+    for (size_t at = (size_t)offset; error == 0 && at < names->count; at++) {
+        struct stat status = status_of(&names->all[at].seen);
+        if (fill(to, names->all[at].text, &status, (off_t)at + 1, plus && at >= DOTS ? FUSE_FILL_DIR_PLUS : 0) != 0)
+            break;
     }
-    lines[size] = '\0';
-    error = fill(names, ".", NULL, 0, 0) || fill(names, "..", NULL, 0, 0) ? -ENOMEM : fill_names(lines, names, fill);
-    free(lines);
     return error;
 }
 
 static int on_read(const char *path, char *bytes, size_t size, off_t offset, struct fuse_file_info *file) {
     (void)file;
-    struct answer answer;
-    char rest[64];
-    if (offset > UINT32_MAX)
-        return 0;
-    snprintf(rest, sizeof rest, " %jd %zu", (intmax_t)offset, size);
-    int error = look(&answer, "read", path, rest);
-    if (error != 0)
-        return error;
-    size_t count = answer.numbers[0];
-    if (count > size)
-        return served_take(NULL, count), -EIO;
-    error = served_take(bytes, count);
-    return error != 0 ? error : (int)count;
+    if (path == NULL)
+        return -ESTALE;
+    return offset > UINT32_MAX ? 0 : answered(volume->read(path, bytes, size, (uint32_t)offset), path);
 }
 
 // Writes one piece, of the longest write at most.
-static int write_piece(const char *path, const char *bytes, size_t size, intmax_t offset) {
-    struct answer answer;
+static int write_piece(const char *path, const char *bytes, size_t size, uint64_t offset) {
     if (path == NULL || offset > UINT32_MAX)
         return path == NULL ? -ESTALE : -EFBIG;
     int error = has_room(size);
-    return error != 0 ? error
-                      : served_ask(&answer, text(path), (struct counted){bytes, size}, "write %zu %jd %zu\n",
-                                   strlen(path), offset, size);
+    return error != 0 ? error : answered(volume->write(path, bytes, size, (uint32_t)offset), path);
 }
 
 // Writes piece by piece. Where one is refused after others, what was written is what those have.
 static int on_write(const char *path, const char *bytes, size_t size, off_t offset, struct fuse_file_info *file) {
     (void)file;
+    forget(&made);
     for (size_t done = 0; done < size;) {
         size_t piece = size - done < limits.write ? size - done : limits.write;
-        int error = write_piece(path, bytes + done, piece, (intmax_t)offset + (intmax_t)done);
+        int error = write_piece(path, bytes + done, piece, (uint64_t)offset + done);
         if (error != 0)
             return done > 0 ? (int)done : error;
         done += piece;
@@ -233,51 +300,49 @@ static int on_write(const char *path, const char *bytes, size_t size, off_t offs
 
 static int on_truncate(const char *path, off_t size, struct fuse_file_info *file) {
     (void)file;
-    struct answer answer;
-    char rest[32];
-    if (size > UINT32_MAX)
-        return -EFBIG;
-    snprintf(rest, sizeof rest, " %jd", (intmax_t)size);
+    if (path == NULL || size > UINT32_MAX)
+        return path == NULL ? -ESTALE : -EFBIG;
+    forget(&made);
     int error = has_room(0);
-    return error != 0 ? error : ask(&answer, "truncate", path, rest);
+    error = error != 0 ? error : answered(volume->truncate(path, (uint32_t)size), path);
+    if (error == 0)
+        remember(&made, path, (struct seen){0, (uint64_t)size});
+    return error;
 }
 
 static int on_create(const char *path, mode_t mode, struct fuse_file_info *file) {
     (void)mode, (void)file;
-    return make("create", path);
+    return make(volume->create, A_FILE, path);
 }
 
 static int on_mknod(const char *path, mode_t mode, dev_t device) {
     (void)device;
-    return S_ISREG(mode) ? make("create", path) : -EPERM;
+    return S_ISREG(mode) ? make(volume->create, A_FILE, path) : -EPERM;
 }
 
 static int on_mkdir(const char *path, mode_t mode) {
     (void)mode;
-    return make("mkdir", path);
+    return make(volume->make_directory, A_DIRECTORY, path);
 }
 
-static int on_remove(const char *path) { return change("remove", path); }
-
-static int rename_free(const char *from, const char *to) {
-    struct answer answer;
-    int error = served_ask(&answer, text(from), text(to), "rename %zu %zu\n", strlen(from), strlen(to));
-    // A directory stays in its directory; `mv` copies what is refused as another device's.
-    if (error == -EISDIR)
-        return -EXDEV;
-    return error == -EINVAL ? error_of_path(to) : error;
+static int on_remove(const char *path) {
+    forget_below(path);
+    return answered(volume->remove(path), path);
 }
+
+// `mv` copies what is refused as another device's.
+static int rename_free(const char *from, const char *to) { return answered(volume->rename(from, to), to); }
 
 // Whether the file at `from` may take the place of the file at `to`; else why not. A directory replaces nothing.
 static int may_replace(const char *from, const char *to) {
-    struct answer old, new;
-    int error = look(&new, "stat", from, "");
-    error = error != 0 ? error : look(&old, "stat", to, "");
+    struct seen old, new;
+    int error = look(from, &new);
+    error = error != 0 ? error : look(to, &old);
     if (error != 0)
         return error;
-    if (new.letter == 'd')
-        return old.letter == 'd' ? -ENOTEMPTY : -ENOTDIR;
-    return old.letter == 'd' ? -EISDIR : 0;
+    if (new.directory)
+        return old.directory ? -ENOTEMPTY : -ENOTDIR;
+    return old.directory ? -EISDIR : 0;
 }
 
 // No request replaces, so what stands at `to` is removed first, by a record of its own. After a loss of power between
@@ -285,35 +350,29 @@ static int may_replace(const char *from, const char *to) {
 static int on_rename(const char *from, const char *to, unsigned flags) {
     if ((flags & ~(unsigned)RENAME_NOREPLACE) != 0)
         return -EINVAL;
+    forget_below(from);
     int error = has_room(0);
     error = error != 0 ? error : rename_free(from, to);
     if (error != -EEXIST || (flags & RENAME_NOREPLACE) != 0)
         return error;
     error = may_replace(from, to);
-    error = error != 0 ? error : change("remove", to);
+    error = error != 0 ? error : answered(volume->remove(to), to);
     return error != 0 ? error : rename_free(from, to);
 }
 
 static int on_statfs(const char *path, struct statvfs *status) {
     (void)path;
-    struct answer answer;
-    int error = served_ask(&answer, NOTHING, NOTHING, "room\n");
+    struct room room;
+    int error = volume->room(&room);
     if (error != 0)
         return error;
-    uint64_t all = answer.numbers[0] * answer.numbers[1], live = answer.numbers[3], sure = answer.numbers[4];
     memset(status, 0, sizeof *status);
     status->f_bsize = status->f_frsize = RECORD;
-    status->f_blocks = all / RECORD;
-    status->f_bfree = (all - live) / RECORD;
-    status->f_bavail = live < sure ? (sure - live) / RECORD : 0;
+    status->f_blocks = room.all / RECORD;
+    status->f_bfree = (room.all - room.live) / RECORD;
+    status->f_bavail = room.live < room.sure ? (room.sure - room.live) / RECORD : 0;
     status->f_namemax = limits.name;
     return 0;
-}
-
-static int on_sync(const char *path, int data_only, struct fuse_file_info *file) {
-    (void)path, (void)data_only, (void)file;
-    struct answer answer;
-    return served_ask(&answer, NOTHING, NOTHING, "sync\n");
 }
 
 // Modes, owners and times aren't kept. These calls are granted all the same: else each copy would end with a fault.
@@ -338,21 +397,27 @@ static int on_link(const char *from, const char *to) {
     return -EPERM;
 }
 
+// A change is answered once it is on the medium, so there is no fsync: the kernel then has nothing to ask for.
 static const struct fuse_operations CALLS = {
-    .init = on_init,         .getattr = on_getattr, .readdir = on_readdir, .read = on_read,     .write = on_write,
-    .truncate = on_truncate, .create = on_create,   .mknod = on_mknod,     .mkdir = on_mkdir,   .unlink = on_remove,
-    .rmdir = on_remove,      .rename = on_rename,   .statfs = on_statfs,   .fsync = on_sync,    .fsyncdir = on_sync,
-    .chmod = on_chmod,       .chown = on_chown,     .utimens = on_utimens, .symlink = on_link,  .link = on_link,
+    .init = on_init,         .getattr = on_getattr, .opendir = on_opendir, .readdir = on_readdir,
+    .open = on_open,         .read = on_read,       .write = on_write,     .releasedir = on_releasedir,
+    .truncate = on_truncate, .create = on_create,   .mknod = on_mknod,     .mkdir = on_mkdir,
+    .unlink = on_remove,     .rmdir = on_remove,    .rename = on_rename,   .statfs = on_statfs,
+    .chmod = on_chmod,       .chown = on_chown,     .utimens = on_utimens, .symlink = on_link,
+    .link = on_link,
 };
 
-enum { KEY_HELP, KEY_VERSION, KEY_FOREGROUND, KEY_DEBUG, KEY_ALONE, KEY_SERVE, KEY_SECTOR_SIZE };
+enum {
+    KEY_HELP, KEY_VERSION, KEY_FOREGROUND, KEY_DEBUG, KEY_ALONE, KEY_READ_ONLY, KEY_SERVE, KEY_SECTOR_SIZE, KEY_SECTORS
+};
 
 static const struct fuse_opt OPTIONS[] = {
     FUSE_OPT_KEY("-h", KEY_HELP),           FUSE_OPT_KEY("--help", KEY_HELP),
     FUSE_OPT_KEY("-V", KEY_VERSION),        FUSE_OPT_KEY("--version", KEY_VERSION),
     FUSE_OPT_KEY("-f", KEY_FOREGROUND),     FUSE_OPT_KEY("-d", KEY_DEBUG),
     FUSE_OPT_KEY("-s", KEY_ALONE),          FUSE_OPT_KEY("serve=", KEY_SERVE),
-    FUSE_OPT_KEY("sector_size=", KEY_SECTOR_SIZE), FUSE_OPT_END,
+    FUSE_OPT_KEY("sector_size=", KEY_SECTOR_SIZE), FUSE_OPT_KEY("sectors=", KEY_SECTORS),
+    FUSE_OPT_KEY("ro", KEY_READ_ONLY),      FUSE_OPT_END,
 };
 
 // Takes a word of the call. Answers 0 where it is used up, 1 where libfuse has to see it, and -1 where it is wrong.
@@ -366,6 +431,8 @@ static int take_word(void *data, const char *word, int key, struct fuse_args *re
     case KEY_ALONE: return 0;
     case KEY_SERVE: mounted.program = strdup(strchr(word, '=') + 1); return 0;
     case KEY_SECTOR_SIZE: mounted.sector_size = strdup(strchr(word, '=') + 1); return 0;
+    case KEY_SECTORS: mounted.sectors = strdup(strchr(word, '=') + 1); return 0;
+    case KEY_READ_ONLY: mounted.read_only = 1; return 1;
     case FUSE_OPT_KEY_NONOPT: break;
     default:
         if (word[0] != '-')
@@ -399,6 +466,12 @@ static char *program_beside(void) {
     return NULL;
 }
 
+// A chip's device file, as /dev/mtd0.
+static int is_chip(void) {
+    struct stat found;
+    return stat(mounted.image, &found) == 0 && S_ISCHR(found.st_mode);
+}
+
 // Looks at the words of the call; 0, or the status to end with.
 static int check_words(void) {
     if (mounted.directory == NULL)
@@ -411,7 +484,7 @@ static int check_words(void) {
         return tell("%s: %s", whole, strerror(ENOTDIR)), 2;
     free(mounted.directory);
     mounted.directory = whole;
-    if (mounted.program == NULL && (mounted.program = program_beside()) == NULL)
+    if (!is_chip() && mounted.program == NULL && (mounted.program = program_beside()) == NULL)
         return tell("there is no built jffs_volume beside this program: -o serve=PROGRAM says where one is"), 2;
     mounted.shown = (struct stat){.st_uid = getuid(), .st_gid = getgid()};
     clock_gettime(CLOCK_REALTIME, &mounted.shown.st_mtim);
@@ -481,13 +554,15 @@ static int run(struct fuse_args *args) {
     int ready = mounted.foreground ? -1 : fork_child();
     if (ready < 0 && !mounted.foreground)
         return tell("no process can be made: %s", strerror(errno)), 1;
-    int status = served_start(mounted.program, mounted.image, mounted.sector_size);
+    int status = is_chip() ? start_by_chip(&volume, mounted.image, mounted.read_only, mounted.sector_size,
+                                           mounted.sectors)
+                           : start_by_serve(&volume, mounted.program, mounted.image, mounted.sector_size);
     if (status != 0)
         return status;
-    served_lost = tell_lost;
+    volume_lost = tell_lost;
     status = serve_kernel(args, ready);
-    served_lost = NULL;
-    if (served_end() != 0) {
+    volume_lost = NULL;
+    if (volume->end() != 0) {
         tell("%s: the volume wasn't unmounted in order", mounted.image);
         return 1;
     }

@@ -17,7 +17,6 @@
 // More than any line of a request or an answer has.
 enum { LINE_MAX_BYTES = 128 };
 
-struct limits limits;
 void (*served_lost)(void);
 
 static struct {
@@ -219,7 +218,7 @@ static void become(const char *program, const char *image, const char *sector_si
     _exit(2);
 }
 
-int served_start(const char *program, const char *image, const char *sector_size) {
+int served_start(const char *program, const char *image, const char *sector_size, struct answer *limits) {
     int pipes[3][2];
     for (int at = 0; at < 3; at++)
         if (pipe2(pipes[at], O_CLOEXEC) != 0)
@@ -239,13 +238,10 @@ int served_start(const char *program, const char *image, const char *sector_size
     // What is said there is read only once the program has ended, or where it has come already.
     fcntl(served.errors, F_SETFL, O_NONBLOCK);
     char line[LINE_MAX_BYTES];
-    struct answer answer;
     struct counted none = {NULL, 0};
-    if (take_line(line) != 0 || strcmp(line, GREETING) != 0 || served_ask(&answer, none, none, "limits\n") != 0)
+    if (take_line(line) != 0 || strcmp(line, GREETING) != 0 || served_ask(limits, none, none, "limits\n") != 0)
         return refuse(program);
-    uint64_t *numbers = answer.numbers;
-    limits = (struct limits){numbers[0], numbers[1], numbers[2], numbers[3], numbers[4]};
-    return limits.write > 0 ? 0 : refuse(program);
+    return limits->numbers[0] > 0 ? 0 : refuse(program);
 }
 
 int served_end(void) {

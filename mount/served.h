@@ -20,19 +20,12 @@ struct counted {
     size_t count;
 };
 
-// What the volume takes at most, all in bytes but for `names`, how many a path may have.
-struct limits {
-    uint64_t write, path, name, names, file;
-};
-
-extern struct limits limits;
-
 // Is called once the program can't be asked any more, though no unmount was asked for; NULL where nobody asks.
 extern void (*served_lost)(void);
 
 // Starts PROGRAM over the volume in IMAGE, whose sector size may be NULL, and asks for the limits. Answers 0; or
 // the status to end with, once it has told on standard error why it can't be.
-int served_start(const char *program, const char *image, const char *sector_size);
+int served_start(const char *program, const char *image, const char *sector_size, struct answer *limits);
 
 // Sends a line, as printf makes it, with the bytes that it counts, and takes the line of the answer. Answers 0, or
 // an errno below 0: -EINVAL where the request was malformed, and -EIO always once the program can't be asked.

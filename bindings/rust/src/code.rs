@@ -37,7 +37,7 @@ pub enum Code {
     BadTree = 30,
 }
 
-/// Each code, in the order of their numbers, from 1.
+/// Each code.
 const CODES: [Code; 30] = [
     Code::RootFixed,
     Code::NoParent,
@@ -78,10 +78,11 @@ impl Code {
     ///
     /// Where no code has the number: the library and this crate are then of different versions.
     pub(crate) fn of(number: u32) -> Option<Code> {
-        match number {
-            0 => None,
-            _ => Some(CODES[number as usize - 1]),
+        if number == 0 {
+            return None;
         }
+        let known = CODES.iter().copied().find(|code| *code as u32 == number);
+        Some(known.expect("the library and this crate are of one version"))
     }
 }
 

@@ -23,6 +23,7 @@ OF_ERASES = ("zeros", "noise")
 STRICT = ["-std=c11", "-O1", "-g", "-Wall", "-Wextra", "-Werror", "-I", str(BINDINGS)]
 SANITIZED = ["-fsanitize=address,undefined", "-fno-sanitize-recover=all", "-fno-omit-frame-pointer"]
 WRAPPED = ["-Wl,--wrap=malloc,--wrap=realloc"]
+MEMORY = {"memcpy", "memmove", "memset", "memcmp"}
 VALGRIND = ["valgrind", "-q", "--error-exitcode=9", "--leak-check=full", "--show-leak-kinds=all"]
 
 
@@ -54,6 +55,7 @@ def for_c(runner):
         return
     called, driver, cost = (program(runner, built, name) for name in ("called", "c_driver", "c_cost"))
     symbols(runner, built)
+    layer(runner, built)
     if None in (called, driver, cost):
         return
     call_each(runner, built, called)
@@ -71,14 +73,80 @@ def program(runner, built, name):
 
 
 def symbols(runner, built):
-    """Nothing but memory is asked of the C library."""
+    """Nothing but memory is asked of the C library; nor by the layer and the pool beside it."""
     if shutil.which("nm") is None:
         print("  left out: nm is missing")
         return
-    seen = subprocess.run(["nm", "-u", str(built.library)], capture_output=True, text=True, check=False).stdout
-    asked = {words[1] for words in map(str.split, seen.splitlines()) if len(words) == 2 and words[0] == "U"}
-    more = asked - {"memcpy", "memmove", "memset", "memcmp", "rattle_alloc", "rattle_realloc", "rattle_dealloc"}
-    runner.tally.add("what the library asks for", f"also {sorted(more)}" if more else None)
+    asks_for_memory(runner, "what the library asks for", built.library)
+    for name in ("pumpgrape_fs", "pool"):
+        made = built.folder / f"{name}.o"
+        ran = subprocess.run(["cc", *STRICT, "-O2", "-ffreestanding", "-c", str(BINDINGS / f"{name}.c"), "-o", str(made)],
+                             capture_output=True, text=True, check=False)
+        more = {word for word in asked(made) - MEMORY if not word.startswith("pg_")} if ran.returncode == 0 else ran.stderr
+        runner.tally.add(f"what {name}.c asks for", f"also {more}" if more else None)
+
+
+def asks_for_memory(runner, what, library, names="nm"):
+    """The library asks for nothing but memory."""
+    more = asked(library, names) - MEMORY - {"rattle_alloc", "rattle_realloc", "rattle_dealloc"}
+    runner.tally.add(what, f"also {sorted(more)}" if more else None)
+
+
+def asked(path, names="nm"):
+    """The symbols that others have to bring, as this `nm` tells them."""
+    seen = subprocess.run([names, "-u", str(path)], capture_output=True, text=True, check=False).stdout
+    return {words[1] for words in map(str.split, seen.splitlines()) if len(words) == 2 and words[0] == "U"}
+
+
+def layer(runner, built):
+    """The layer by paths, over malloc and over the pool, with each call of its driver failing in turn; and the pool."""
+    over, heap = [BINDINGS / "pumpgrape_fs.c", built.library], BINDINGS / "heap.c"
+    pool, small = BINDINGS / "pool.c", ["-DPOOL_BYTES=65536"]
+    plain = linked(runner, "fs_try", [HERE / "fs_try.c", heap, *over])
+    safe = linked(runner, "fs_try_safe", [HERE / "fs_try.c", heap, *over], SANITIZED)
+    pooled = linked(runner, "fs_try_pool", [HERE / "fs_try.c", pool, *over], small)
+    alone = linked(runner, "pool_try", [HERE / "pool_try.c", pool], [*small, *SANITIZED])
+    on_file = linked(runner, "on_file", [BINDINGS / "on_file.c", heap, *over], ["-std=gnu11", *SANITIZED])
+    if None in (plain, safe, pooled, alone, on_file):
+        return
+    runner.tally.add("the pool", why_wrong(runner.run([alone], limit=120)))
+    first = runner.run([plain], limit=60)
+    runner.tally.add("the layer", why_wrong(first))
+    calls = int(first.out.split()[-1]) if first.status == 0 else 0
+    runs = [(path, at) for path in (plain, safe, pooled) for at in range(1, calls + 1, runner.options.thin)]
+    runner.each(runs, lambda run: fail(runner, *run))
+    runner.tally.tell("calls of the driver failed, one", "runs")
+    if shutil.which("valgrind"):
+        runner.tally.add("the layer under valgrind", why_wrong(runner.run([*VALGRIND, plain], limit=300)))
+    use_file(runner, on_file)
+
+
+def linked(runner, name, sources, options=(), compiler="cc"):
+    """A program of these sources, or None."""
+    path = runner.folder / name
+    words = [compiler, *STRICT, *options, *map(str, sources), "-o", str(path)]
+    made = subprocess.run(words, capture_output=True, text=True, check=False)
+    runner.tally.add(f"{compiler} {name}", made.stderr if made.returncode else None)
+    return None if made.returncode else path
+
+
+def use_file(runner, on_file):
+    """The driver for a file, by its command line."""
+    image = runner.empty_folder() / "image"
+    image.write_bytes(b"\xff" * 6144)
+    for words, out in ((["mkdir", "/d"], ""), (["create", "/d/f"], ""), (["write", "/d/f", "hello"], ""),
+                       (["read", "/d/f"], "hello"), (["ls", "/d"], "f 5 f\n"), (["create", "/x"], ""), (["remove", "/x"], "")):
+        ran = runner.run([on_file, image, 1024, *words])
+        runner.tally.add(f"on_file {words}", None if (ran.status, ran.out) == (0, out) else ran.out + ran.errors)
+    ran = runner.run([on_file, image, 1024, "remove", "/x"])
+    runner.tally.add("on_file refuses", None if ran.status == 1 and "nothing stands" in ran.errors else ran.errors)
+    found = left(image, 6, 1024)
+    runner.tally.add("on_file leaves", None if found and found[1] == ["d /", "d /d", "f /d/f 5 68656c6c6f"] else str(found))
+
+
+def fail(runner, program, at):
+    runner.tally.count(program.name, 1)
+    runner.tally.add(f"{program.name}: call {at} of the driver fails", why_wrong(runner.run([program, at], limit=60)))
 
 
 def call_each(runner, built, called):
@@ -117,6 +185,21 @@ def why_wrong(ran):
     return ran.crash() or ran.out + ran.errors
 
 
+def trees_of(lines, answers, size):
+    """The tree after each line, as the answers and the model have it; or None, and why an answer is wrong."""
+    trees = [Tree(size)]
+    for line, answer in zip(lines, answers):
+        tree, words = copy.deepcopy(trees[-1]), line.split(" ")
+        if words[0] not in ("clean_oldest", "erase_dead", "unmount"):
+            cause = tree.cause(words)
+            if answer != (cause or "Done") and not (cause is None and answer == "NoSpace"):
+                return None, f"{line}: {answer}, wanted {cause or 'Done'}"
+            if answer == "Done":
+                tree.grant(words)
+        trees.append(tree)
+    return trees, None
+
+
 class Listed:
     """A list of requests, and what the library makes of it."""
 
@@ -153,23 +236,9 @@ class Listed:
         self.runner.tally.count("carrying out", calls)
         self.runner.tally.count("erasing", len(erases))
 
-    def trees(self, answers):
-        """The tree after each line, as the answers and the model have it; or why an answer is wrong."""
-        trees = [Tree(self.size)]
-        for line, answer in zip(self.lines, answers):
-            tree, words = copy.deepcopy(trees[-1]), line.split(" ")
-            if words[0] not in ("clean_oldest", "erase_dead", "unmount"):
-                cause = tree.cause(words)
-                if answer != (cause or "Done") and not (cause is None and answer == "NoSpace"):
-                    return None, f"{line}: {answer}, wanted {cause or 'Done'}"
-                if answer == "Done":
-                    tree.grant(words)
-            trees.append(tree)
-        return trees, None
-
     def judge(self, answers, image, last, healed=False):
         """Why an answer is wrong, or the tree that is left, which has to be one of so many last ones; or None."""
-        trees, why = self.trees(answers)
+        trees, why = trees_of(self.lines, answers, self.size)
         found = left(image, self.sectors, self.size, healed)
         if why or found is None:
             return why or "no volume is left"
@@ -194,13 +263,14 @@ class Listed:
 
     def same_image(self, answers, image):
         """The same requests leave the same bytes by another program."""
-        lines, number = [f"flash {self.sectors} {self.size}", "mount"], 0
+        lines, numbers = [f"flash {self.sectors} {self.size}", "mount"], {1: 0, CONTROL: 0}
         for line in self.lines:
             if line in ("clean_oldest", "erase_dead"):
                 lines.append(line)
                 continue
-            number += 1
-            lines.append(f"request {CONTROL if line == 'unmount' else 1} {number} {line}")
+            sender = CONTROL if line == "unmount" else 1
+            numbers[sender] += 1
+            lines.append(f"request {sender} {numbers[sender]} {line}")
         replay = self.runner.options.built / "crates/jffs_replay/out/jffs_replay"
         if os.access(replay, os.X_OK):
             ran = self.runner.run([replay], "\n".join(lines + ["image"]) + "\n", limit=60)

@@ -81,7 +81,7 @@ static uint32_t measure(int file, pgfs_driver *driver, uint32_t sector_size) {
         return PG_DEVICE;
     if (seen.st_size > (off_t)sizeof medium || sector_size == 0 || seen.st_size % sector_size != 0)
         return PG_GEOMETRY;
-    driver->sector_size = sector_size;
+    driver->sector_size = driver->block = sector_size;
     driver->sectors = (uint32_t)seen.st_size / sector_size;
     return PG_DONE;
 }
@@ -92,7 +92,7 @@ int main(int argc, char **argv) {
         return 2;
     }
     int file = open(argv[1], O_RDWR);
-    pgfs_driver driver = {&file, file_read, file_program, file_erase, file_sync, 0, 0, medium, sizeof medium};
+    pgfs_driver driver = {&file, file_read, file_program, file_erase, file_sync, 0, 0, 0, medium, sizeof medium};
     pgfs fs;
     uint32_t code = measure(file, &driver, (uint32_t)strtoul(argv[2], NULL, 10));
     if (told(code == PG_DONE ? pgfs_mount(&fs, &driver) : code))

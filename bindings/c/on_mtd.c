@@ -69,20 +69,10 @@ static int mtd_program(void *context, uint32_t at, const uint8_t *bytes, uint32_
     return 0;
 }
 
-static int erase_block(on_mtd *chip, uint32_t at) {
-    struct erase_info_user range = {.start = at, .length = chip->block};
-    return ioctl(chip->file, MEMERASE, &range) == 0 ? 0 : failed(chip, "an erase", at);
-}
-
-// Of a sector of several blocks the last one is erased first. Its first block begins with the magic that was cleared
-// before the erase, so while the other blocks go the sector is known as doomed, whatever they hold; and once the first
-// one goes, nothing else of the sector is left.
 static int mtd_erase(void *context, uint32_t at, uint32_t len) {
     on_mtd *chip = context;
-    for (uint32_t left = len; left > 0; left -= chip->block)
-        if (erase_block(chip, at + left - chip->block) != 0)
-            return 1;
-    return 0;
+    struct erase_info_user range = {.start = at, .length = len};
+    return ioctl(chip->file, MEMERASE, &range) == 0 ? 0 : failed(chip, "an erase", at);
 }
 
 // Whether single bytes of the chip can be programmed, and bits of a programmed byte cleared.
@@ -104,7 +94,6 @@ static int measure(on_mtd *chip, const struct mtd_info_user *info, uint32_t sect
     if (size == 0)
         for (size = LEAST_SIZE; size < MOST_SIZE && (size < info->erasesize || info->size / size > MOST_SECTORS);)
             size *= 2;
-    chip->block = info->erasesize;
     if (size < LEAST_SIZE || size > MOST_SIZE || (size & (size - 1)) != 0)
         return refused(chip, "a sector has 1024, 2048, 4096, 8192 or 16384 bytes, not %u", size);
     if (info->erasesize == 0 || size % info->erasesize != 0)
@@ -120,6 +109,7 @@ static int measure(on_mtd *chip, const struct mtd_info_user *info, uint32_t sect
         return refused(chip, "it has only %u sectors of %u bytes", there, size);
     chip->driver.sector_size = size;
     chip->driver.sectors = sectors;
+    chip->driver.block = info->erasesize;
     return 0;
 }
 
@@ -145,7 +135,7 @@ static int open_file(on_mtd *chip, const char *path, bool read_only, struct mtd_
 
 int on_mtd_open(on_mtd *chip, const char *path, bool read_only, uint32_t sector_size, uint32_t sectors) {
     struct mtd_info_user info;
-    *chip = (on_mtd){.driver = {chip, mtd_read, mtd_program, mtd_erase, NULL, 0, 0, NULL, 0}, .file = -1};
+    *chip = (on_mtd){.driver = {chip, mtd_read, mtd_program, mtd_erase, NULL, 0, 0, 0, NULL, 0}, .file = -1};
     if (open_file(chip, path, read_only, &info) != 0 || look_at_kind(chip, &info) != 0 ||
         measure(chip, &info, sector_size, sectors) != 0 || (!read_only && unlock(chip) != 0)) {
         on_mtd_close(chip);

@@ -7,7 +7,6 @@
 typedef struct on_mtd {
     pgfs_driver driver; // its context is this struct: it isn't moved while it is in use
     int file;
-    uint32_t block; // bytes that the chip erases at once
     // Where something was answered that isn't 0: why, in words.
     char why[160];
 } on_mtd;

@@ -12,10 +12,24 @@ static size_t length_of(const char *text) {
 
 static bool synced(const pgfs_driver *driver) { return driver->sync == NULL || driver->sync(driver->context) == 0; }
 
+static bool blocks_fit(const pgfs_driver *driver) {
+    return driver->block > 0 && driver->sector_size % driver->block == 0;
+}
+
+// Of a sector of several blocks the last one is erased first. Its first block begins with the magic that was cleared
+// before the erase, so while the other blocks go the sector is known as doomed, whatever they hold; and once the first
+// one goes, nothing else of the sector is left.
+static bool erased(const pgfs_driver *driver, uint32_t at) {
+    for (uint32_t left = driver->sector_size; left > 0; left -= driver->block)
+        if (driver->erase(driver->context, at + left - driver->block, driver->block) != 0 || !synced(driver))
+            return false;
+    return true;
+}
+
 static bool carried_out(const pgfs_driver *driver, const pg_call *call) {
-    int failed = call->erase ? driver->erase(driver->context, call->at, call->len)
-                             : driver->program(driver->context, call->at, driver->buffer, call->len);
-    return failed == 0 && synced(driver);
+    if (call->erase)
+        return erased(driver, call->at);
+    return driver->program(driver->context, call->at, driver->buffer, call->len) == 0 && synced(driver);
 }
 
 // Carries out all that is left; then the answer is the change's, unless the driver failed.
@@ -33,8 +47,11 @@ static uint32_t settle(pgfs *fs, uint32_t answer) {
 }
 
 uint32_t pgfs_format(const pgfs_driver *driver) {
-    for (uint32_t sector = 0; sector < driver->sectors; sector++)
-        if (driver->erase(driver->context, sector * driver->sector_size, driver->sector_size) != 0)
+    uint32_t end = driver->sectors * driver->sector_size;
+    if (!blocks_fit(driver))
+        return PG_GEOMETRY;
+    for (uint32_t at = 0; at < end; at += driver->block)
+        if (driver->erase(driver->context, at, driver->block) != 0)
             return PG_DEVICE;
     return synced(driver) ? PG_DONE : PG_DEVICE;
 }
@@ -42,6 +59,8 @@ uint32_t pgfs_format(const pgfs_driver *driver) {
 uint32_t pgfs_open(pgfs *fs, const pgfs_driver *driver) {
     uint32_t len = driver->sectors * driver->sector_size;
     *fs = (pgfs){.driver = driver};
+    if (!blocks_fit(driver))
+        return PG_GEOMETRY;
     if (driver->buffer_len < len)
         return PG_BUFFER_SHORT;
     if (driver->read(driver->context, 0, driver->buffer, len) != 0)

@@ -23,13 +23,14 @@ typedef struct pgfs_driver {
     int (*read)(void *context, uint32_t at, uint8_t *buffer, uint32_t len);
     // Each byte `old` of the range becomes `old & new`. The range lies in one sector.
     int (*program)(void *context, uint32_t at, const uint8_t *bytes, uint32_t len);
-    // Each byte of the sector that begins at `at` becomes 0xff; `len` is its size.
+    // Each byte of the block that begins at `at` becomes 0xff; `len` is its size.
     int (*erase)(void *context, uint32_t at, uint32_t len);
     // Brings to the medium what was programmed and erased so far: asked for after each of these calls, before it counts
     // as carried out. NULL where they do that by themselves.
     int (*sync)(void *context);
     uint32_t sector_size; // 1024, 2048, 4096, 8192 or 16384
     uint32_t sectors;     // 6 to 64
+    uint32_t block;       // how much the device erases at once: a sector is one block of it or several
     // Memory of the caller, which holds the whole medium while it is mounted; after that only its first quarter of a
     // sector is used, until the unmount.
     uint8_t *buffer;
@@ -43,7 +44,8 @@ typedef struct pgfs {
     pg_refusal refusal; // where pgfs_mount answered PG_BAD_RECORD
 } pgfs;
 
-// Erases each sector, which leaves an empty volume. Whatever stood there is lost.
+// Erases each sector, which leaves an empty volume. Whatever stood there is lost. PG_DEVICE, or PG_GEOMETRY where a
+// sector isn't whole blocks.
 uint32_t pgfs_format(const pgfs_driver *driver);
 
 // Reads the medium, opens it, and ends an erase that was cut off. The driver stays in use until the unmount. By the

@@ -70,37 +70,31 @@ static int chip_program(void *context, uint32_t at, const uint8_t *bytes, uint32
     return ended(to) || !reads(to, bytes, len);
 }
 
-static int erase_block(volatile uint8_t *at) {
-    *at = ERASE;
-    *at = CONFIRM;
-    wait(at);
-    return ended(at);
-}
-
-// The first block of a sector goes last: it says that the sector is doomed until nothing else of it is left.
 static int chip_erase(void *context, uint32_t at, uint32_t len) {
     cfi *chip = context;
-    for (uint32_t left = len; left > 0; left -= chip->block)
-        if (erase_block(&chip->bytes[at + left - chip->block]) != 0)
-            return 1;
-    return 0;
+    volatile uint8_t *block = &chip->bytes[at];
+    (void)len;
+    *block = ERASE;
+    *block = CONFIRM;
+    wait(block);
+    return ended(block);
 }
 
-// Whether a chip of so many bytes begins there; then the bytes of its blocks are known.
+// Whether a chip of so many bytes begins there; then the size of its blocks is known.
 static bool is_chip(cfi *chip, uintptr_t at, uint32_t size) {
     volatile uint8_t *bytes = (volatile uint8_t *)at;
     bytes[QUERY_AT] = QUERY;
     bool found = bytes[MARK] == 'Q' && bytes[MARK + 1] == 'R' && bytes[MARK + 2] == 'Y' &&
                  size == (uint32_t)1 << (bytes[SIZE_POWER] & 31) && bytes[REGIONS] == 1;
     chip->bytes = bytes;
-    chip->block = 256u * (bytes[BLOCK_SIZE] + 256u * bytes[BLOCK_SIZE + 1]);
+    chip->driver.block = 256u * (bytes[BLOCK_SIZE] + 256u * bytes[BLOCK_SIZE + 1]);
     bytes[0] = READ;
     return found;
 }
 
 // Chips wake up with locked blocks.
 static void unlock(cfi *chip, uint32_t size) {
-    for (uint32_t at = 0; at < size; at += chip->block) {
+    for (uint32_t at = 0; at < size; at += chip->driver.block) {
         chip->bytes[at] = LOCKS;
         chip->bytes[at] = CONFIRM;
         chip->bytes[at] = READ;
@@ -115,10 +109,8 @@ int cfi_open(cfi *chip, uintptr_t end, uint32_t sector_size, uint8_t *buffer, si
             return 1;
     }
     uint32_t sectors = size / sector_size < MOST_SECTORS ? size / sector_size : MOST_SECTORS;
-    chip->driver = (pgfs_driver){chip,    chip_read, chip_program, chip_erase, NULL, sector_size,
-                                 sectors, buffer,    buffer_len};
-    if (chip->block == 0 || sector_size % chip->block != 0)
-        return 1;
+    chip->driver = (pgfs_driver){chip,    chip_read, chip_program,       chip_erase, NULL, sector_size,
+                                 sectors, chip->driver.block, buffer, buffer_len};
     unlock(chip, sectors * sector_size);
     return 0;
 }

@@ -7,7 +7,6 @@
 typedef struct cfi {
     pgfs_driver driver; // its context is this struct: it isn't moved while it is in use
     volatile uint8_t *bytes;
-    uint32_t block; // bytes that the chip erases at once
 } cfi;
 
 // Finds the chip whose last byte is the one before `end`, of 32 KiB to 8 MiB, and has the volume stand in its first

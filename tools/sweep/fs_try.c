@@ -6,7 +6,7 @@
 
 #include "pumpgrape_fs.h"
 
-enum { SECTORS = 16, SECTOR_SIZE = 1024, SIZE = SECTORS * SECTOR_SIZE, LONG = 1500, TURNS = 12 };
+enum { SECTORS = 16, SECTOR_SIZE = 1024, BLOCK = 256, SIZE = SECTORS * SECTOR_SIZE, LONG = 1500, TURNS = 12 };
 
 static uint8_t medium[SIZE], buffer[SIZE];
 static unsigned long calls, fails_at;
@@ -43,10 +43,20 @@ static int ram_program(void *context, uint32_t at, const uint8_t *bytes, uint32_
     return fail;
 }
 
+static bool is_erased(uint32_t at, uint32_t end) {
+    while (at < end && medium[at] == 0xff)
+        at++;
+    return at == end;
+}
+
+// Once it was formatted a block is erased only after those behind it in its sector.
 static int ram_erase(void *context, uint32_t at, uint32_t len) {
-    need(!kept_back || calls < SECTORS, "a call before the sync of the last one");
+    bool formatted = calls >= SIZE / BLOCK;
+    need(!kept_back || !formatted, "a call before the sync of the last one");
     int fail = fails(context);
-    need(at % SECTOR_SIZE == 0 && len == SECTOR_SIZE, "an erase of other bytes than a sector's");
+    need(at % BLOCK == 0 && len == BLOCK, "an erase of other bytes than a block's");
+    uint32_t sector_end = (at / SECTOR_SIZE + 1) * SECTOR_SIZE;
+    need(!formatted || is_erased(at + BLOCK, sector_end), "an erase of the blocks before the one at the end");
     memset(medium + at, fail ? 0x5a : 0xff, len);
     kept_back = !fail;
     return fail;
@@ -58,7 +68,8 @@ static int ram_sync(void *context) {
     return fails(context);
 }
 
-static pgfs_driver driver = {medium, ram_read, ram_program, ram_erase, ram_sync, SECTOR_SIZE, SECTORS, buffer, SIZE};
+static pgfs_driver driver = {medium, ram_read, ram_program, ram_erase, ram_sync, SECTOR_SIZE, SECTORS,
+                             BLOCK, buffer, SIZE};
 
 static bool count_one(void *context, const char *name, const pg_sight *sight) {
     int *names = context;
@@ -127,7 +138,7 @@ int main(int count, char **words) {
     fails_at = count > 1 ? strtoul(words[1], NULL, 10) : 0;
     play();
     unsigned long all = calls;
-    bool formatted = all > SECTORS + 1;
+    bool formatted = all > SIZE / BLOCK + 1;
     fails_at = 0;
     failed = kept_back = false;
     pgfs fs;
@@ -135,6 +146,9 @@ int main(int count, char **words) {
     driver.buffer_len = SIZE - 1;
     need(pgfs_mount(&fs, &driver) == PG_BUFFER_SHORT, "a short buffer");
     driver.buffer_len = SIZE;
+    driver.block = 0;
+    need(pgfs_mount(&fs, &driver) == PG_GEOMETRY && pgfs_format(&driver) == PG_GEOMETRY, "blocks of no bytes");
+    driver.block = BLOCK;
     if (formatted) {
         need(pgfs_open(&fs, &driver) == PG_DONE, "an opening");
         pgfs_close(&fs);

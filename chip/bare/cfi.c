@@ -108,6 +108,8 @@ int cfi_open(cfi *chip, uintptr_t end, uint32_t sector_size, uint8_t *buffer, si
         if (size > MOST_SIZE)
             return 1;
     }
+    if (chip->driver.block == 0 || sector_size % chip->driver.block != 0)
+        return 1;
     uint32_t sectors = size / sector_size < MOST_SECTORS ? size / sector_size : MOST_SECTORS;
     chip->driver = (pgfs_driver){chip,    chip_read, chip_program,       chip_erase, NULL, sector_size,
                                  sectors, chip->driver.block, buffer, buffer_len};

@@ -203,7 +203,7 @@ static int run(const struct command *command, char **words) {
         pgfs_close(&fs);
     else
         status |= told_code(words[0], pgfs_unmount(&fs));
-    return fflush(stdout) == 0 ? status : told("standard output", "it can't be written");
+    return fflush(stdout) == 0 && !ferror(stdout) ? status : told("standard output", "it can't be written");
 }
 
 int main(int count, char **words) {

@@ -45,6 +45,7 @@ COMMANDS = (
     (f"{TOOL} clean", 0, "it isn't worth it\n"),
     (f"{TOOL} rm /d/y && {TOOL} rm /d && {TOOL} ls", 0, "f 6 greeting\n"),
     (f"md5sum < /dev/mtd0 > /t/a; {TOOL} ls; {TOOL} cat /greeting; {TOOL} df; {TOOL} check; md5sum < /dev/mtd0 | cmp - /t/a", 0, None),
+    (f"md5sum < /dev/mtd0 > /t/a; {TOOL} rm /none; {TOOL} clean; md5sum < /dev/mtd0 | cmp - /t/a", 0, None),
     (f"{TOOL}", 2, None), (f"{TOOL} nonsense", 2, None), (f"{TOOL} cat", 2, None), (f"{TOOL} -x ls", 2, None),
     ("pumpgrape-mtd -h > /t/h && grep -c 'format  ' /t/h", 0, "1\n"),
     (f"dd if=/dev/zero of=/dev/mtd0 bs=1 seek=4 count=1 conv=notrunc 2> /dev/null; {TOOL} check", 1,

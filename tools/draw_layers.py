@@ -12,7 +12,7 @@ TOP = pathlib.Path(__file__).resolve().parent.parent
 WIDE, HIGH, GAP, RISE, LEFT, BELOW = 104, 26, 18, 74, 20, 24
 WRITE, LOOK = "#c62828", "#0b6e99"
 # From left to right; a crate that isn't named here comes after these.
-ORDER = """jffs_jobs jffs jffs_bench jffs_program jffs_volume jffs_image jffs_replay jffs_run jffs_c_cost jffs_c jffs_example
+ORDER = """jffs_jobs jffs jffs_bench jffs_program jffs_volume jffs_image jffs_replay jffs_run jffs_c jffs_example
 jffs_manage jffs_tools jffs_serve jffs_session jffs_core jffs_log jffs_text jffs_index jffs_line jffs_tree jffs_file jffs_queue jffs_inodes
 jffs_flash jffs_node jffs_marks jffs_protocol""".split()
 # The crates that a write and a look go through, each with what it does there.

@@ -1,4 +1,4 @@
-// Makes one call of the library for C on a volume again and again, as the program jffs_c_cost makes it in Rattle:
+// Makes one call of the library for C on a volume again and again, as the program jffs_bench makes it in Rattle:
 //     c_cost CALL COUNT
 #include <stdio.h>
 #include <stdlib.h>

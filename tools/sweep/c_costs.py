@@ -13,9 +13,9 @@ COUNTS = {"create": 100, "write": 100, "truncate": 100, "rename": 100, "remove":
 
 def compare(runner, in_c):
     """Counts a failure for each call that costs more than MOST times the same call in Rattle."""
-    in_rattle = runner.options.built / "crates/jffs_c_cost/out/jffs_c_cost"
+    in_rattle = runner.options.built / "crates/jffs_bench/out/jffs_bench"
     if not os.access(in_rattle, os.X_OK):
-        print("  left out: what calls cost, since jffs_c_cost isn't built")
+        print("  left out: what calls cost, since jffs_bench isn't built")
         return
     runner.each(COUNTS, lambda call: runner.tally.add(f"what {call} costs", why_dear(call, in_c, in_rattle)))
 

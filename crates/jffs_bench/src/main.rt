@@ -1,17 +1,21 @@
 //! The program `jffs_bench`: how long the parts of a script's run, lines and looks take.
 //!
 //! With a number it reads a script from standard input, and runs it so often. Without a word it
-//! measures lines and looks. With the word `check` it does all of it in small, the script once, and
-//! prints no times.
+//! measures lines and looks. With the name of a call of the library for C and a number it makes that
+//! call so often, and prints nothing. With the word `check` it does all of it in small, the script
+//! and each call once, and prints no times.
 #![tactic(auto)]
 
+mod calls;
 mod fault;
+mod handed;
 mod lines;
 mod looks;
 mod measure;
 mod parts;
 mod volume;
 
+use crate::calls::{Call, make_each, make_often};
 use crate::fault::Fault;
 use crate::measure::{Measure, Scale};
 use crate::parts::measure_parts;
@@ -37,6 +41,8 @@ enum Work {
     LinesAndLooks,
     /// A script, so often.
     Script(u32),
+    /// A call, so often.
+    Calls(Call, usize),
     /// All in small.
     Check,
 }
@@ -51,9 +57,11 @@ fn measure_all<R: Runtime<A = Global> + Threads + Wait + Sync, I: Read>(
     match work {
         Work::LinesAndLooks => measure_lines_and_looks(rt, &mut measure)?,
         Work::Script(times) => measure_script(rt, input, times, &mut measure)?,
+        Work::Calls(call, count) => make_often(rt.alloc(), call, count)?,
         Work::Check => {
             measure_lines_and_looks(rt, &mut measure)?;
             measure_script(rt, input, 1, &mut measure)?;
+            make_each(rt.alloc())?;
         }
     }
     measure.finish()
@@ -89,15 +97,22 @@ fn measure_script<R: Runtime<A = Global> + Threads + Wait + Sync, I: Read, W: Wr
     Ok(())
 }
 
-/// What the program's word asks for.
+/// What the program's words ask for.
 fn work_of(rt: &impl Runtime<A = Global>) -> Result<Work, Fault> {
-    match env::args(rt)?.nth(1) {
-        None => Ok(Work::LinesAndLooks),
-        Some(word) => match word.parse::<u32>() {
-            Ok(times) => Ok(Work::Script(times)),
-            Err(_) => Ok(Work::Check),
-        },
+    let words: Vec<String> = env::args(rt)?.collect(rt.alloc())?;
+    match (words.get(1), words.get(2)) {
+        (None, _) => Ok(Work::LinesAndLooks),
+        (Some(word), None) if word.as_str() == "check" => Ok(Work::Check),
+        (Some(word), None) => Ok(Work::Script(number_in(word)?)),
+        (Some(name), Some(count)) => {
+            let call = Call::of_name(name.as_str()).ok_or(Fault::Words)?;
+            Ok(Work::Calls(call, number_in(count)? as usize))
+        }
     }
+}
+
+fn number_in(word: &String) -> Result<u32, Fault> {
+    word.as_str().parse().map_err(|_| Fault::Words)
 }
 
 /// All bytes of standard input.

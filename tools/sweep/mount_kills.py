@@ -86,7 +86,7 @@ def kill_one(runner, seed, victim):
         if not gone(serving):
             return "what served goes on"
     runner.tally.count(f"the {victim}", 1)
-    found = mount.left()
+    found = mount.left(healed=True)
     if found is None:
         return "no volume is left"
     return writing.wrong({path[1:]: data for path, data in contents(found[1]).items()})

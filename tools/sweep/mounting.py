@@ -98,8 +98,8 @@ class Mounted:
         """Takes away what a killed mount has left."""
         subprocess.run(["fusermount3", "-u", "-z", str(self.top)], capture_output=True, check=False)
 
-    def left(self):
-        return left(self.image, *self.sizes)
+    def left(self, healed=False):
+        return left(self.image, *self.sizes, healed)
 
     def wrong_end(self):
         """Unmounts; why the end is wrong, or None: the log has to be clean, and nothing is told."""

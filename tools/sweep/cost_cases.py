@@ -185,7 +185,7 @@ CALLS = [
     Call("read", read, (300, 1200), 200, .2, "a read of 500 bytes of a file of so many pieces"),
     Call("stat", stat, (300, 1200), 50, 1.1, "a look at one of so many files, which weighs its records"),
     Call("list", listing, (300, 1200), 10, 1.1, "the names and sizes of so many files"),
-    Call("clean", clean, (300, 1200), 2, .4, "a cleaning of a sector of 28 live records, of so many, and the weight of what lives"),
+    Call("clean", clean, (300, 1200), 2, .5, "a cleaning of a sector of 28 live records, of so many, and the weight of what lives"),
     Call("mount", mount, (300, 1200), 4, 1.1, "a mount of so many records of one file"),
     Call("mount_files", mount_files, (300, 1200), 4, 1.2, "a mount of so many files, and their list"),
     Call("parse", parse, (500, 2000), 500, .1, "a command of a script, after so many"),

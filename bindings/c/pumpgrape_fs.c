@@ -81,10 +81,7 @@ uint32_t pgfs_mount(pgfs *fs, const pgfs_driver *driver) {
 void pgfs_close(pgfs *fs) { pg_close(fs->volume); }
 
 uint32_t pgfs_unmount(pgfs *fs) {
-    bool ended = false;
-    uint32_t code = pg_is_clean(&fs->volume, &ended);
-    if (code == PG_DONE && !ended)
-        code = settle(fs, pg_unmount(&fs->volume));
+    uint32_t code = settle(fs, pg_unmount(&fs->volume));
     pgfs_close(fs);
     return code;
 }

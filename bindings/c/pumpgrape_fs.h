@@ -55,7 +55,7 @@ uint32_t pgfs_mount(pgfs *fs, const pgfs_driver *driver);
 // The same to look only: nothing is programmed or erased, and no change may be asked for. It ends by pgfs_close.
 uint32_t pgfs_open(pgfs *fs, const pgfs_driver *driver);
 
-// Ends the log in order, where it isn't ended so already, and gives the memory back whatever the answer is.
+// Ends the log in order, and gives the memory back whatever the answer is.
 uint32_t pgfs_unmount(pgfs *fs);
 
 // Gives the memory back, and leaves the medium as it is.

@@ -19,6 +19,8 @@ import re
 import sys
 from xml.sax.saxutils import escape
 
+from marked import with_part
+
 WIDTH, HEIGHT, LEFT, RIGHT, TOP, BOTTOM = 640, 360, 64, 168, 40, 52
 COLOURS = {"ours": "#0b6e99", "plain Rust": "#c4622d"}
 DASHES = ["", "6 3", "2 3"]
@@ -192,8 +194,7 @@ def table(source):
 
 def page_of(page, source):
     """The page with the table of this source between its marks."""
-    before, rest = page.split(MARKS[0])
-    return before + MARKS[0] + "\n" + table(source) + "\n" + MARKS[1] + rest.split(MARKS[1])[1]
+    return with_part(page, MARKS, table(source))
 
 
 def main():

@@ -19,7 +19,6 @@ struct tried {
 
 static uint8_t medium[MEDIUM_MAX], buffer[16384 / 4], data[16384];
 static size_t held, most;
-static char none;
 static pg_volume volume;
 static uint32_t sector_size, changes;
 
@@ -32,8 +31,7 @@ static void need(bool so, const char *what) {
 
 // Each block begins with its size, which stands before what the library is given.
 static struct tried sized(uint8_t *block, size_t size) {
-    if (block == NULL)
-        return (struct tried){false, &none};
+    need(block != NULL, "no memory");
     memcpy(block, &size, sizeof size);
     held += size;
     most = held > most ? held : most;
